@@ -1,0 +1,33 @@
+-- Laws of two tests taken together, and of a test that decides between values.
+-- Assumes nothing.
+use mathlib.Core.Path.{_≡_, refl, sym, _∙_}
+use mathlib.Core.Bool.{Bool, true, false, cond, _&&_, _||_, false≢true}
+use mathlib.Core.Logic.{_⊎_, inl, inr}
+use Prim.Native.Nat.{ℕ, _≤_}
+use native.Mathlib.Omega.{arith}
+
+-- a test passes or fails, and says so
+pub decided : (b : Bool) → (b ≡ true) ⊎ (b ≡ false)
+decided true = inl refl
+decided false = inr refl
+
+pub both : (a b : Bool) → (a && b) ≡ true → (a ≡ true) × (b ≡ true)
+both true b e = (refl, e)
+both false b e = absurd (false≢true e)
+
+pub either : (a b : Bool) → (a || b) ≡ true → (a ≡ true) ⊎ (b ≡ true)
+either true b e = inl refl
+either false b e = inr e
+
+pub neither : (a b : Bool) → (a || b) ≡ false → (a ≡ false) × (b ≡ false)
+neither true b e = absurd (false≢true (sym e))
+neither false b e = (refl, e)
+
+-- one test does not both pass and fail
+pub clash : {b : Bool} → b ≡ true → b ≡ false → ⊥
+clash p q = false≢true (sym q ∙ p)
+
+-- a test counts as one or as nothing
+pub bit-le : (b : Bool) → cond b 1 0 ≤ 1
+bit-le true = omega arith
+bit-le false = omega arith

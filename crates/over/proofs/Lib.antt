@@ -1,0 +1,7 @@
+pub mod Bools
+pub mod Joined
+pub mod Sums
+pub mod Largest
+pub mod Tests
+pub mod First
+pub mod Tables
