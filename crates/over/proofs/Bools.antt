@@ -2,8 +2,8 @@
 -- Assumes nothing.
 use mathlib.Core.Path.{_≡_, refl, sym, _∙_}
 use mathlib.Core.Bool.{Bool, true, false, cond, _&&_, _||_, false≢true}
-use mathlib.Core.Logic.{_⊎_, inl, inr}
-use Prim.Native.Nat.{ℕ, _≤_}
+use mathlib.Core.Logic.{_⊎_, inl, inr, _↔_}
+use Prim.Native.Nat.{_≤_}
 use native.Mathlib.Omega.{arith}
 
 -- a test passes or fails, and says so
@@ -31,3 +31,8 @@ clash p q = false≢true (sym q ∙ p)
 pub bit-le : (b : Bool) → cond b 1 0 ≤ 1
 bit-le true = omega arith
 bit-le false = omega arith
+
+-- a test that fails exactly when A holds passes exactly when A does not
+pub refutes : {A : Type 0} (t : Bool) → (t ≡ false) ↔ A → (t ≡ true) ↔ (A → ⊥)
+refutes true h = (λ e a. clash refl (h .1 a), λ n. refl)
+refutes false h = (λ e. absurd (clash e refl), λ n. absurd (n (h .0 refl)))

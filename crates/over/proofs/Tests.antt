@@ -1,15 +1,15 @@
 -- Laws of `countOver`, `anyOver` and `allOver`. The test is the first explicit argument.
 -- Assumes nothing.
-use mathlib.Core.Path.{_≡_, refl, sym, ap, _∙_}
+use mathlib.Core.Path.{_≡_, refl, ap}
 use mathlib.Core.Bool.{Bool, true, false, cond, _&&_, _||_, or-assoc, or-false, or-true, and-false}
 use mathlib.Core.Logic.{⊎-elim}
-use Prim.Native.Nat.{ℕ, zero, suc, _+_, _*_, _≤_, _<_}
+use Prim.Native.Nat.{ℕ, zero, suc, _+_, _≤_, _<_}
 use native.Mathlib.Nat.{not-suc-le-zero}
 use native.Mathlib.Omega.{arith}
 use borrow.Author.Count.{below-more}
 use Rattle.over.specs.Over.{countOver, anyOver, allOver}
-use Rattle.over.proofs.Bools.{decided, both, clash, bit-le}
-use Rattle.over.proofs.Joined.{joined-none, joined-suc, joined-more, joined-related, joined-cong, joined-at, joined-add}
+use Rattle.over.proofs.Bools.{decided, clash, bit-le}
+use Rattle.over.proofs.Joined.{joined-none, joined-more, joined-related, joined-cong, joined-at, joined-add}
 use Rattle.over.proofs.Sums.{sum-none, sum-suc, sum-more, sum-add, sum-le, sum-cong, sum-mono}
 
 -- countOver

@@ -1,0 +1,17 @@
+-- Document 01, Numbered answers: what every public call answers is a number with the figures that the table lists for it, in
+-- the table's order. A call's own enum is given its number and figures by one definition beside it.
+use mathlib.Core.Bool.{Bool, cond}
+use mathlib.Core.List.{List, [], _∷_}
+use Prim.Native.Nat.{ℕ}
+
+pub record Said : Type 0 where
+  pub number : ℕ
+  pub carries : List ℕ
+
+-- a number that carries nothing
+abbrev pub only : ℕ → Said
+only n = record { number = n; carries = [] }
+
+-- 0 with yes (1) or no (0)
+abbrev pub yesNo : Bool → Said
+yesNo b = record { number = 0; carries = cond b 1 0 ∷ [] }

@@ -1,0 +1,10 @@
+pub mod Leaps
+pub mod Months
+pub mod Seasons
+pub mod Weekdays
+pub mod Counted
+pub mod Lists
+pub mod Marked
+pub mod Rules
+pub mod Answers
+pub mod Weeks

@@ -1,0 +1,41 @@
+-- `calendar::bad_holidays` meets its contract. The loop's invariant: no entry so far breaks its rule, and `last` is the entry before.
+-- Assumes nothing.
+use mathlib.Core.Path.{_≡_, refl}
+use Prim.Native.Nat.{_≤_, _-_}
+use native.Mathlib.Omega.{arith}
+use borrow.Author.Needs.{needs}
+use lib.ListN.{length}
+use Rattle.calendar.specs.Holidays.{before, badEntry}
+use Rattle.over.proofs.Tests.{Passed, passed-none, passed-more}
+use Rattle.calendar.proofs.Lists.{before-next, entry, bad-long, bad-at, bad-none}
+use Rattle.calendar.proofs.bad_holidays.Statement.{statement}
+use Rattle.calendar.proofs.bad_holidays.Tie as tie
+
+abbrev Inv-loop : tie.InvT-loop
+Inv-loop year holidays days last₀ k₀ k-end last k = (k ≤ length holidays) × (last ≡ before holidays k) × Passed (badEntry year holidays) k
+
+abbrev μ-loop : tie.MeasureT-loop
+μ-loop year holidays days last₀ k₀ k-end last k = length holidays - k
+
+returns-2 : tie.Need-returns-2 Inv-loop μ-loop
+returns-2 c = let at = c .before .before .before .loop in bad-at _ _ (at .k) (entry _ _ (at .k) (at .last) _ (at .inv .1) (c .before .before .before .before .year-days .ensures) (c .if2 .taken)) (omega arith)
+
+loop-again : tie.Need-loop-again Inv-loop μ-loop
+loop-again c = let at = c .before .before .before .loop in (omega arith, before-next _ (at .k), passed-more (at .inv .2) (entry _ _ (at .k) (at .last) _ (at .inv .1) (c .before .before .before .before .year-days .ensures) (c .if2 .left)))
+
+pub bad-holidays-spec : {M : Type 1} → statement M
+bad-holidays-spec =
+    tie.close
+    (tie.spec
+    Inv-loop
+    μ-loop
+    (λ c. bad-long _ _ (omega arith))  -- returns
+    (λ c κs. search needs)  -- year-days-requires
+    (λ c. (omega arith, refl, passed-none))  -- loop-holds
+    (λ c. search needs)  -- mul-day
+    (λ c. search needs)  -- shared-slice-read-day
+    returns-2
+    (λ c. search needs)  -- add-k
+    (λ c. search needs)  -- loop-less
+    loop-again
+    (λ c. bad-none _ _ (c .before .loop .inv .2) (omega arith) (omega arith)))

@@ -1,0 +1,50 @@
+-- `calendar::carries_windows` meets its contract, a law for each return; each test that failed on the way is read once.
+-- Assumes nothing.
+use mathlib.Core.Path.{_≡_, sym, ap, _∙_}
+use mathlib.Core.Bool.{false}
+use borrow.Author.Needs.{needs}
+use Rattle.answers.specs.Ruling.{yearOut}
+use Rattle.calendar.specs.Holidays.{badHolidays}
+use Rattle.calendar.specs.Free.{isWindows}
+use Rattle.calendar.specs.Answer.{dayOut}
+use Rattle.calendar.proofs.Marked.{by-marks}
+use Rattle.calendar.proofs.Answers.{day-small, said-year, said-list, said-day, said-carries}
+use Rattle.calendar.proofs.carries_windows.Statement.{statement}
+use Rattle.calendar.proofs.carries_windows.Tie as tie
+
+year-at : (e : tie.Else1) → yearOut (e .before .before .before .args .year) ≡ false
+year-at e = sym (e .before .year-out .ensures) ∙ e .if1 .left
+
+list-at : (e : tie.Else2) → let a = e .before .before .before .before .before .args in badHolidays (a .year) (a .holidays .now) ≡ false
+list-at e = sym (e .before .bad-holidays .ensures) ∙ e .if2 .left
+
+day-at : (e : tie.Else3) → let a = e .before .before .before .before .before .before .before .args in dayOut (a .year) (a .day) ≡ false
+day-at e = sym (e .before .day-out .ensures) ∙ e .if3 .left
+
+returns-2 : tie.Need-returns-2
+returns-2 c = said-list _ _ _ (year-at (c .before .before)) (sym (c .before .bad-holidays .ensures) ∙ c .if2 .taken)
+
+returns-3 : tie.Need-returns-3
+returns-3 c = let e = c .before .before in said-day _ _ _ (year-at (e .before .before)) (list-at e) (sym (c .before .day-out .ensures) ∙ c .if3 .taken)
+
+returns-4 : tie.Need-returns-4
+returns-4 c =
+    let e = c .before .before .before .before in
+    said-carries _ _ _ (year-at (e .before .before .before .before)) (list-at (e .before .before)) (day-at e)
+    (c .is-windows .ensures
+    ∙ ap isWindows (c .before .kind .ensures ∙ by-marks _ _ _ _ (c .before .before .before .marks .ensures) (day-small _ _ (day-at e))))
+
+pub carries-windows-spec : {M : Type 1} → statement M
+carries-windows-spec =
+    tie.close
+    (tie.spec
+    (λ c κs. search needs)  -- year-out-requires
+    (λ c. said-year _ _ _ (sym (c .before .year-out .ensures) ∙ c .if1 .taken))  -- returns
+    (λ c κs. search needs)  -- bad-holidays-requires
+    returns-2
+    (λ c κs. search needs)  -- day-out-requires
+    returns-3
+    (λ c κs. search needs)  -- marks-requires
+    (λ c κs. day-small _ _ (day-at (c .before .before)))  -- kind-requires
+    (λ c κs. search needs)  -- is-windows-requires
+    returns-4)

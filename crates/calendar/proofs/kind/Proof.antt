@@ -1,0 +1,35 @@
+-- `calendar::kind` meets its contract, a law for each return, in the order of the grounds.
+-- Assumes nothing.
+use mathlib.Core.Path.{sym, _∙_}
+use native.Mathlib.Omega.{arith}
+use borrow.Author.Needs.{needs}
+use Rattle.calendar.proofs.Rules.{kind-weekend, kind-listed, kind-christmas, kind-bridge, kind-windows}
+use Rattle.calendar.proofs.kind.Statement.{statement}
+use Rattle.calendar.proofs.kind.Tie as tie
+
+returns-3 : tie.Need-returns-3
+returns-3 c = kind-christmas _ _ _ (omega arith) (c .before .before .if2 .left) (sym (c .before .in-christmas .ensures) ∙ c .if3 .taken)
+
+returns-4 : tie.Need-returns-4
+returns-4 c =
+    let e = c .before .before in
+    kind-bridge _ _ _ (omega arith) (e .before .before .if2 .left) (sym (e .before .in-christmas .ensures) ∙ e .if3 .left) (sym (c .before .is-bridge .ensures) ∙ c .if4 .taken)
+
+returns-5 : tie.Need-returns-5
+returns-5 c =
+    let e = c .before .before in
+    kind-windows _ _ _ (omega arith) (e .before .before .if2 .left) (sym (e .before .in-christmas .ensures) ∙ e .if3 .left) (sym (c .before .is-bridge .ensures) ∙ c .if4 .left)
+
+pub kind-spec : {M : Type 1} → statement M
+kind-spec =
+    tie.close
+    (tie.spec
+    (λ c κs. search needs)  -- weekday-requires
+    (λ c. kind-weekend _ _ _ (omega arith))  -- returns
+    (λ c. search needs)  -- element-copy-out-if2
+    (λ c. kind-listed _ _ _ (omega arith) (c .if2 .taken))  -- returns-2
+    (λ c κs. search needs)  -- in-christmas-requires
+    returns-3
+    (λ c κs. search needs)  -- is-bridge-requires
+    returns-4
+    returns-5)

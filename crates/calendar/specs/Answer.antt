@@ -1,0 +1,45 @@
+-- Document 01, Numbered answers: "For a calendar day: 1, 3, 13."
+use mathlib.Core.Path.{_≡_}
+use mathlib.Core.Bool.{Bool, cond, _||_}
+use mathlib.Core.Logic.{_↔_}
+use mathlib.Core.List.{List}
+use Prim.Native.Nat.{ℕ, _≤_}
+use lib.Dec.{ltb}
+use Rattle.answers.specs.Ruling.{yearOut, ChargeYear}
+use Rattle.answers.specs.Said.{Said, only, yesNo}
+use Rattle.calendar.specs.declared.DayAnswer.{DayAnswer}
+use Rattle.calendar.specs.declared.DayAnswer.the-variants.{Carries, YearOut, BadList, DayOut}
+use Rattle.calendar.specs.Dates.{yearDays}
+use Rattle.calendar.specs.Holidays.{badHolidays, LegalHolidays}
+use Rattle.calendar.specs.Free.{carries}
+
+-- the number and the figures of each case of the code's answer
+abbrev pub saidOfDay : DayAnswer → Said
+saidOfDay (Carries b) = yesNo b
+saidOfDay YearOut = only 1
+saidOfDay BadList = only 3
+saidOfDay DayOut = only 13
+
+-- answer 13: a day outside the year
+unfoldable pub dayOut : ℕ → ℕ → Bool
+dayOut y d = ltb d 1 || ltb (yearDays y) d
+
+-- what is answered: the first number whose row holds, else 0 with yes or no
+unfoldable pub dayAnswer : ℕ → List ℕ → ℕ → Said
+dayAnswer y hs d =
+    cond (yearOut y) (only 1)
+    (cond (badHolidays y hs) (only 3)
+    (cond (dayOut y d) (only 13)
+    (yesNo (carries y hs d))))
+
+-- a day of the year, in plain orders
+pub record DayOfYear (y d : ℕ) : Type 0 where
+  pub from : 1 ≤ d
+  pub to : d ≤ yearDays y
+
+-- each number is given exactly when its row holds and no number before it in the order is given
+pub record DayRows (y : ℕ) (hs : List ℕ) (d : ℕ) : Type 0 where
+  pub one : (dayAnswer y hs d .number ≡ 1) ↔ (ChargeYear y → ⊥)
+  pub three : (dayAnswer y hs d .number ≡ 3) ↔ (ChargeYear y × (LegalHolidays y hs → ⊥))
+  pub thirteen : (dayAnswer y hs d .number ≡ 13) ↔ (ChargeYear y × (LegalHolidays y hs × (DayOfYear y d → ⊥)))
+  pub zero : (dayAnswer y hs d .number ≡ 0) ↔ (ChargeYear y × (LegalHolidays y hs × DayOfYear y d))
