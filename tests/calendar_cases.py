@@ -1,0 +1,217 @@
+#!/usr/bin/env python3
+"""Makes the records that crates/calendar_cases reads, and what it must print, from Python's datetime and document 01.
+
+Run at the project's root:  tests/calendar_cases.py          writes crates/calendar_cases/stdin and stdout
+                            tests/calendar_cases.py --check  says whether the two files are what it would write
+
+It knows nothing of the code under test: weekdays and dates are datetime's, a week is the seven dates from a Monday on, and
+the days that carry windows are worked out week by week, as the paper tells them.
+"""
+import datetime
+import functools
+import pathlib
+import random
+import struct
+import sys
+
+DAYS = range(368)  # day 0 and the days past the year's end too
+SEASON = {12: 1, 1: 1, 2: 1, 3: 2, 4: 2, 5: 2, 6: 3, 7: 3, 8: 3, 9: 4, 10: 4, 11: 4}
+
+
+def date(year, day):
+    return datetime.date(year, 1, 1) + datetime.timedelta(days=day - 1)
+
+
+def day_of(when):
+    return when.timetuple().tm_yday
+
+
+def year_days(year):
+    return day_of(datetime.date(year, 12, 31))
+
+
+def period(year):
+    """The reference period's dates, the first at place 1."""
+    first, last = datetime.date(year - 2, 9, 1), datetime.date(year - 1, 8, 31)
+    return [first + datetime.timedelta(days=k) for k in range((last - first).days + 1)]
+
+
+def season(year, day):
+    """Of a day of the year; day 0 counts to January and a day past the year to December."""
+    return SEASON[date(year, min(max(day, 1), year_days(year))).month]
+
+
+def free_by_others(when, year, listed):
+    """Weekend, listed, or 24 December to 1 January."""
+    inside = when.year == year and day_of(when) in listed
+    christmas = (when.month, when.day) >= (12, 24) or (when.month, when.day) == (1, 1)
+    return when.weekday() >= 5 or inside or christmas
+
+
+@functools.lru_cache(maxsize=None)
+def bridge_days(year, listed):
+    """The first candidate of each Monday-to-Sunday week that touches the year."""
+    found = set()
+    monday = datetime.date(year, 1, 1) - datetime.timedelta(days=datetime.date(year, 1, 1).weekday())
+    while monday.year <= year:
+        week = [monday + datetime.timedelta(days=k) for k in range(7)]
+        is_listed = [d.year == year and day_of(d) in listed for d in week]
+        candidates = [day for day, beside in ((0, 1), (4, 3)) if is_listed[beside] and not free_by_others(week[day], year, listed)]
+        found.update(week[k] for k in candidates[:1])
+        monday += datetime.timedelta(days=7)
+    return found
+
+
+def legal_list(year, holidays):
+    rising = all(a < b for a, b in zip(holidays, holidays[1:]))
+    return len(holidays) <= 40 and rising and all(1 <= h <= year_days(year) for h in holidays)
+
+
+def answer(year, holidays, day):
+    """The paper's number and, for 0, yes or no: order 1, 3, 13."""
+    if not 2014 <= year <= 2028:
+        return (1,)
+    if not legal_list(year, holidays):
+        return (3,)
+    if not 1 <= day <= year_days(year):
+        return (13,)
+    when = date(year, day)
+    listed = frozenset(holidays)
+    return (0, int(not free_by_others(when, year, listed) and when not in bridge_days(year, listed)))
+
+
+LETTER = {(0, 1): "+", (0, 0): "-", (1,): "1", (3,): "3", (13,): "d"}
+
+
+def record(kind, year, day, holidays):
+    return kind.encode() + struct.pack(">HHB", year, day, len(holidays)) + b"".join(struct.pack(">H", h) for h in holidays)
+
+
+def whole_year(year, holidays):
+    dates = period(year)
+    # day 0 of the period is 31 August, and past 31 August the days go on
+    around = [dates[0] + datetime.timedelta(days=d - 1) for d in DAYS]
+    return [
+        f"Y {year} {year_days(year)} {len(dates)}",
+        "".join(str(date(year, d).weekday()) for d in DAYS),
+        "".join(str(season(year, d)) for d in DAYS),
+        "".join(str(SEASON[d.month]) for d in around),
+        "".join(LETTER[answer(year, holidays, d)] for d in DAYS),
+    ]
+
+
+def whole_list(year, holidays):
+    """For a list that is taken: the Monday-to-Friday days that are free, and window_days' count and sum.
+
+    window_days answers for any list, so for one that is refused its rule is applied to the days that are listed all the same.
+    """
+    listed = frozenset(holidays)
+    bridges = bridge_days(year, listed)
+    carry = [d for d in range(1, year_days(year) + 1) if not free_by_others(date(year, d), year, listed) and date(year, d) not in bridges]
+    freed = [d for d in DAYS if date(year, d).weekday() < 5 and answer(year, holidays, d) == (0, 0)]
+    word = "taken" if legal_list(year, holidays) else "bad"
+    return [f"L {year} {word}" + "".join(f" {d}" for d in freed) + f" / {len(carry)} {sum(carry)}"]
+
+
+def one_day(year, holidays, day):
+    return ["D " + " ".join(map(str, answer(year, holidays, day)))]
+
+
+def easter(year):
+    """Anonymous Gregorian algorithm; only to make lists that look like real ones."""
+    a, b, c = year % 19, year // 100, year % 100
+    h = (19 * a + b - b // 4 - (b - (b + 8) // 25 + 1) // 3 + 15) % 30
+    l = (32 + 2 * (b % 4) + 2 * (c // 4) - h - c % 4) % 7
+    m = (a + 11 * h + 22 * l) // 451
+    return datetime.date(year, (h + l - 7 * m + 114) // 31, (h + l - 7 * m + 114) % 31 + 1)
+
+
+def nationwide(year):
+    fixed = [(1, 1), (5, 1), (10, 3), (12, 25), (12, 26)]
+    moved = [easter(year) + datetime.timedelta(days=k) for k in (-2, 1, 39, 50)]
+    return sorted({day_of(datetime.date(year, m, d)) for m, d in fixed} | {day_of(d) for d in moved})
+
+
+def yday(year, month, day):
+    return day_of(datetime.date(year, month, day))
+
+
+def cases():
+    """(kind, year, day, holidays), in the order of the lines."""
+    rng = random.Random(20140101)
+    years = range(2014, 2029)
+    for year in years:
+        yield "Y", year, 0, []
+    for year in (2010, 2011, 2012, 2013, 2029, 2030, 1900, 2000, 2100, 2400, 9998):
+        yield "Y", year, 0, []
+    # lists that are taken: the nationwide ones, then random ones of every length
+    for year in years:
+        yield "L", year, 0, nationwide(year)
+    for n in range(150):
+        year = rng.choice(years)
+        yield "L", year, 0, sorted(rng.sample(range(1, year_days(year) + 1), n % 41))
+    # many Tuesdays and Thursdays, so that bridge days are frequent
+    for year in years:
+        pool = [d for d in range(1, year_days(year) + 1) if date(year, d).weekday() in (0, 1, 3, 4)]
+        yield "L", year, 0, sorted(rng.sample(pool, 40))
+    # the turns of the years: the first and the last days listed in every way
+    for year in years:
+        for listed in ([1], [1, 2], [1, 3], [2, 4], [1, 2, 3, 4, 5, 6]):
+            yield "L", year, 0, listed
+        eve = yday(year, 12, 24)
+        for listed in ([eve], [eve - 1, eve], [eve - 3, eve - 1], list(range(eve - 4, eve + 8))):
+            yield "L", year, 0, listed
+    # lists that break their row
+    for year in (2014, 2016, 2023, 2024, 2028):
+        last = year_days(year)
+        full = list(range(1, 41))
+        for bad in (
+            full + [41], list(range(1, 256)), [5, 5], [1, 2, 3, 3, 4], [2, 1], [1, 10, 9, 20], [0], [0, 1], [last + 1], [1, last + 1],
+            [last, last], [367], [65535], [1, 65535], full[:-1] + [39], [366] if last == 365 else [366, 367], [368], [40, 50, 0],
+        ):
+            yield "L", year, 0, bad
+        yield "L", year, 0, full
+        yield "L", year, 0, [last]
+    # single days: the starred case 11, case 14 and its variants, Christmas, and bad input
+    may = [yday(2025, 5, 13), yday(2025, 5, 15)]
+    singles = [
+        (2024, yday(2024, 3, 2), []), (2024, yday(2024, 3, 1), []), (2025, yday(2025, 5, 2), [yday(2025, 5, 1)]), (2025, yday(2025, 5, 2), []),
+        (2025, yday(2025, 5, 12), may), (2025, yday(2025, 5, 16), may),
+        (2025, yday(2025, 5, 12), [yday(2025, 5, 12)] + may), (2025, yday(2025, 5, 16), [yday(2025, 5, 12)] + may),
+        (2019, 4, [1, 3]), (2019, 4, [3]), (2015, 2, [1]), (2015, 2, []), (2026, 2, [1]), (2026, 2, []),
+        (2024, yday(2024, 12, 23), []), (2024, yday(2024, 12, 23), [yday(2024, 12, 24)]),
+        (2016, 366, []), (2016, 367, []), (2015, 365, []), (2015, 366, []),
+    ]
+    for year, day, listed in singles:
+        yield "D", year, day, listed
+    for year in (0, 1, 2013, 2029, 65535):
+        for day in (0, 1, 2, 366, 65535):
+            for listed in ([], [5, 5]):
+                yield "D", year, day, listed
+    for year in (2014, 2016, 2028):
+        for day in (0, 1, 365, 366, 367, 368, 32768, 65535):
+            for listed in ([], [1], [5, 5], [0], list(range(1, 42))):
+                yield "D", year, day, listed
+
+
+def made():
+    records, lines = b"", []
+    for kind, year, day, holidays in cases():
+        records += record(kind, year, day, holidays)
+        lines += whole_year(year, holidays) if kind == "Y" else whole_list(year, holidays) if kind == "L" else one_day(year, holidays, day)
+    return records, ("\n".join(lines) + "\n").encode()
+
+
+def main():
+    folder = pathlib.Path("crates/calendar_cases")
+    files = dict(zip(("stdin", "stdout"), made()))
+    if sys.argv[1:] == ["--check"]:
+        same = all((folder / name).read_bytes() == data for name, data in files.items())
+        print("as it should be" if same else "stdin or stdout is not what this script makes")
+        sys.exit(0 if same else 1)
+    for name, data in files.items():
+        (folder / name).write_bytes(data)
+    print({name: len(data) for name, data in files.items()})
+
+
+main()
