@@ -2,23 +2,24 @@
 -- Assumes nothing.
 use mathlib.Core.Path.{_≡_, refl, sym, ap, _∙_}
 use mathlib.Core.Bool.{Bool, true, false, cond}
-use mathlib.Core.Logic.{_↔_, Iff·trans, Iff·and}
+use mathlib.Core.Logic.{_↔_, ⊎-elim}
 use mathlib.Core.List.{List}
 use Prim.Native.Nat.{ℕ, _<_}
 use native.Mathlib.Omega.{arith}
 use borrow.Author.Tests.{le-ltb, ltb-false}
 use lib.Dec.{ltb, eqb}
 use lib.ListN.{getD}
-use Rattle.over.proofs.Bools.{neither, refutes}
+use Rattle.over.proofs.Bools.{decided, neither, refutes}
 use Rattle.answers.specs.Ruling.{yearOut}
 use Rattle.answers.specs.Said.{Said, only, yesNo}
-use Rattle.answers.proofs.Laws.{one-answer, given-here, given-later, charge-year}
+use Rattle.answers.proofs.Laws.{one-answer, charge-year}
 use Rattle.calendar.specs.declared.DayAnswer.{DayAnswer}
 use Rattle.calendar.specs.declared.DayAnswer.the-variants.{Carries, YearOut, BadList, DayOut}
 use Rattle.calendar.specs.Dates.{yearDays}
 use Rattle.calendar.specs.Holidays.{badHolidays}
 use Rattle.calendar.specs.Free.{carries}
-use Rattle.calendar.specs.Answer.{saidOfDay, dayOut, dayAnswer, DayOfYear, DayRows}
+use Rattle.calendar.specs.Answer.DayRow.{one, three, thirteen, zero}
+use Rattle.calendar.specs.Answer.{saidOfDay, dayOut, dayAnswer, DayOfYear, DayRow}
 use Rattle.calendar.proofs.Leaps.{leap-small}
 use Rattle.calendar.proofs.Lists.{legal-holidays}
 
@@ -53,58 +54,33 @@ module _ (y : ℕ) (hs : List ℕ) (d : ℕ) where
       unfolding dayAnswer
       said-carries e {r} f = rw (a, b, e, f)
 
--- each number exactly when its row holds and no number before it is given
+-- each number is given exactly when its row holds and no number before it is given
 module _ (y : ℕ) (hs : List ℕ) (d : ℕ) where
-  -- what follows each test
-  afterDay : Said
-  afterDay = yesNo (carries y hs d)
+  holds : DayRow y hs d (dayAnswer y hs d .number)
+  holds =
+      ⊎-elim (λ p. rw (← said-year y hs d p) (one (refutes _ (charge-year y) .0 p))) (λ a.
+      ⊎-elim (λ p. rw (← said-list y hs d a p) (three (charge-year y .0 a) (refutes _ (legal-holidays y hs) .0 p))) (λ b.
+      ⊎-elim (λ p. rw (← said-day y hs d a b p) (thirteen (charge-year y .0 a) (legal-holidays y hs .0 b) (refutes _ (day-of-year y d) .0 p))) (λ c.
+      rw (← said-carries y hs d a b c refl) (zero (charge-year y .0 a) (legal-holidays y hs .0 b) (day-of-year y d .0 c)))
+      (decided (dayOut y d))) (decided (badHolidays y hs))) (decided (yearOut y))
 
-  afterList : Said
-  afterList = cond (dayOut y d) (only 13) afterDay
+  given : {n : ℕ} → DayRow y hs d n → dayAnswer y hs d .number ≡ n
+  given (one a) = rw (← said-year y hs d (refutes _ (charge-year y) .1 a))
+  given (three a b) = rw (← said-list y hs d (charge-year y .1 a) (refutes _ (legal-holidays y hs) .1 b))
+  given (thirteen a b c) =
+      rw (← said-day y hs d (charge-year y .1 a) (legal-holidays y hs .1 b) (refutes _ (day-of-year y d) .1 c))
+  given (zero a b c) =
+      rw (← said-carries y hs d (charge-year y .1 a) (legal-holidays y hs .1 b) (day-of-year y d .1 c) refl)
 
-  afterYear : Said
-  afterYear = cond (badHolidays y hs) (only 3) afterList
+  pub exactly : (n : ℕ) → (dayAnswer y hs d .number ≡ n) ↔ DayRow y hs d n
+  exactly n = (λ e. rw e at holds, given)
 
-  -- the answer for each test that fails: another number comes from what follows
-  passYear : (m : ℕ) → (1 ≡ m → ⊥) → (dayAnswer y hs d .number ≡ m) ↔ ((yearOut y ≡ false) × (afterYear .number ≡ m))
-  unfolding dayAnswer afterYear afterList afterDay
-  passYear m h = given-later 1 afterYear (yearOut y) m h
-
-  passList : (m : ℕ) → (3 ≡ m → ⊥) → (afterYear .number ≡ m) ↔ ((badHolidays y hs ≡ false) × (afterList .number ≡ m))
-  unfolding afterYear
-  passList m h = given-later 3 afterList (badHolidays y hs) m h
-
-  passDay : (m : ℕ) → (13 ≡ m → ⊥) → (afterList .number ≡ m) ↔ ((dayOut y d ≡ false) × (_≡_ {A = ℕ} 0 m))
-  unfolding afterList afterDay
-  passDay m h = given-later 13 afterDay (dayOut y d) m h
-
-  pub day-rows : DayRows y hs d
-  unfolding dayAnswer afterYear afterList afterDay
-  day-rows =
-      record {
-        one =
-            Iff·trans (given-here 1 afterYear (yearOut y) (λ e. omega (arith, passDay 1 (λ q. omega arith) .0 (passList 1 (λ q. omega arith) .0 e .1) .1)))
-            (refutes (yearOut y) (charge-year y));
-        three =
-            Iff·trans (passYear 3 (λ q. omega arith))
-            (Iff·and (charge-year y)
-            (Iff·trans (given-here 3 afterList (badHolidays y hs) (λ e. omega (arith, passDay 3 (λ q. omega arith) .0 e .1)))
-            (refutes (badHolidays y hs) (legal-holidays y hs))));
-        thirteen =
-            Iff·trans (passYear 13 (λ q. omega arith))
-            (Iff·and (charge-year y)
-            (Iff·trans (passList 13 (λ q. omega arith))
-            (Iff·and (legal-holidays y hs)
-            (Iff·trans (given-here 13 afterDay (dayOut y d) (λ e. omega arith))
-            (refutes (dayOut y d) (day-of-year y d))))));
-        zero =
-            Iff·trans (passYear 0 (λ q. omega arith))
-            (Iff·and (charge-year y)
-            (Iff·trans (passList 0 (λ q. omega arith))
-            (Iff·and (legal-holidays y hs)
-            (Iff·trans (passDay 0 (λ q. omega arith))
-            (λ e. day-of-year y d .0 (e .0), λ h. (day-of-year y d .1 h, refl))))));
-      }
+  -- and 0 tells whether the day carries windows
+  pub told : dayAnswer y hs d .number ≡ 0 → dayAnswer y hs d ≡ yesNo (carries y hs d)
+  told e = go (exactly 0 .0 e)
+    where
+      go : DayRow y hs d 0 → dayAnswer y hs d ≡ yesNo (carries y hs d)
+      go (zero a b c) = sym (said-carries y hs d (charge-year y .1 a) (legal-holidays y hs .1 b) (day-of-year y d .1 c) refl)
 
 -- an answer, back from what it says: linear in the cases
 abbrev dayBack : Said → DayAnswer

@@ -23,7 +23,12 @@ before-next hs k = rw add-one
 
 module _ (y : ℕ) (hs : List ℕ) where
   -- the code's test of an entry
-  pub entry : {b : Bool} (k last days : ℕ) → last ≡ before hs k → days ≡ yearDays y → (leb (getD hs k 0) last || ltb days (getD hs k 0)) ≡ b → badEntry y hs k ≡ b
+  pub entry :
+      {b : Bool} (k last days : ℕ)
+      → last ≡ before hs k
+      → days ≡ yearDays y
+      → (leb (getD hs k 0) last || ltb days (getD hs k 0)) ≡ b
+      → badEntry y hs k ≡ b
   entry k last days e f t = rw (e, f) at t
 
   pub bad-long : holidaysMost < length hs → true ≡ badHolidays y hs

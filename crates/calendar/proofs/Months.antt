@@ -55,16 +55,20 @@ days-table y m h =
     days-with y m
     ∙ by-leap (λ l. daysWith l m ≡ tableWith l m) (right-at 0 refl m h) (right-at 1 refl m h) y
 
-pub days-small : (y m : ℕ) → m < 12 → daysTo y m < 336
+days-small : (y m : ℕ) → m < 12 → daysTo y m < 336
 unfolding joined small allOver
 days-small y m h = rw (days-table y m h) (by-leap (λ l. tableWith l m < 336) (small-at 0 refl m h) (small-at 1 refl m h) y)
 
--- what the code reads off the table
-pub days-first : (y m : ℕ) → m < 2 → getD daysBefore m 0 ≡ daysTo y m
-days-first y m h = omega (arith, simp (lt-ltb m 2 h) at (days-table y m (omega arith)))
+-- what the code reads off the table: the days before the month, which are few
+pub days-first : (y m : ℕ) → m < 2 → (getD daysBefore m 0 ≡ daysTo y m) × (getD daysBefore m 0 < 336)
+days-first y m h =
+    let e = simp (lt-ltb m 2 h) at (days-table y m (omega arith)) in
+    (omega arith, omega (arith, days-small y m (omega arith)))
 
-pub days-later : (y m l : ℕ) → 2 ≤ m → m < 12 → l ≡ leapDay y → getD daysBefore m 0 + l ≡ daysTo y m
-days-later y m l g h f = omega (arith, simp (le-ltb m 2 g) at (days-table y m h))
+pub days-later : (y m l : ℕ) → 2 ≤ m → m < 12 → l ≡ leapDay y → (getD daysBefore m 0 + l ≡ daysTo y m) × (getD daysBefore m 0 + l < 336)
+days-later y m l g h f =
+    let e = simp (le-ltb m 2 g) at (days-table y m h) in
+    (omega arith, omega (arith, days-small y m h))
 
 -- a day's month, from 0, is its part of the year, or the next
 abbrev countWith : ℕ → ℕ → ℕ

@@ -59,7 +59,13 @@ module _ (y : ℕ) (isListed : ℕ → Bool) (d : ℕ) where
   unfolding bridge
   bridge-monday e = simp e
 
-  pub bridge-friday : {n m : ℕ} → n ≡ d - 1 → m ≡ d - 4 → mondayCandidate y isListed d ≡ false → candidate y isListed friday n d ≡ true → not (mondayCandidate y isListed m) ≡ bridge y isListed d
+  pub bridge-friday :
+      {n m : ℕ}
+      → n ≡ d - 1
+      → m ≡ d - 4
+      → mondayCandidate y isListed d ≡ false
+      → candidate y isListed friday n d ≡ true
+      → not (mondayCandidate y isListed m) ≡ bridge y isListed d
   unfolding bridge
   bridge-friday p q e f = simp (q, e, rw p at f)
 

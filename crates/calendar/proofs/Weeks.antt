@@ -89,7 +89,9 @@ module _ (y : ℕ) (isListed : ℕ → Bool) where
   year-before w n = ⊎-elim (λ e. absurd (clash refl (bound-christmas 0 (candidate-is w n 0 e .2)))) (λ e. e) (decided (candidate y isListed w n 0))
 
 -- a day carries windows when it is Monday to Friday, not a listed holiday, not 24 December to 1 January, and not a bridge day
-pub carries-when : (y : ℕ) (hs : List ℕ) (d : ℕ) → carries y hs d ≡ (not (weekend y d) && (not (listed hs d) && (not (christmas y d) && not (bridge y (listed hs) d))))
+pub carries-when :
+    (y : ℕ) (hs : List ℕ) (d : ℕ)
+    → carries y hs d ≡ (not (weekend y d) && (not (listed hs d) && (not (christmas y d) && not (bridge y (listed hs) d))))
 unfolding kindBy
 carries-when y hs d = go (weekend y d) (listed hs d) (christmas y d) (bridge y (listed hs) d)
   where

@@ -1,7 +1,5 @@
 -- Document 01, Numbered answers: "For a calendar day: 1, 3, 13."
-use mathlib.Core.Path.{_≡_}
 use mathlib.Core.Bool.{Bool, cond, _||_}
-use mathlib.Core.Logic.{_↔_}
 use mathlib.Core.List.{List}
 use Prim.Native.Nat.{ℕ, _≤_}
 use lib.Dec.{ltb}
@@ -37,9 +35,9 @@ pub record DayOfYear (y d : ℕ) : Type 0 where
   pub from : 1 ≤ d
   pub to : d ≤ yearDays y
 
--- each number is given exactly when its row holds and no number before it in the order is given
-pub record DayRows (y : ℕ) (hs : List ℕ) (d : ℕ) : Type 0 where
-  pub one : (dayAnswer y hs d .number ≡ 1) ↔ (ChargeYear y → ⊥)
-  pub three : (dayAnswer y hs d .number ≡ 3) ↔ (ChargeYear y × (LegalHolidays y hs → ⊥))
-  pub thirteen : (dayAnswer y hs d .number ≡ 13) ↔ (ChargeYear y × (LegalHolidays y hs × (DayOfYear y d → ⊥)))
-  pub zero : (dayAnswer y hs d .number ≡ 0) ↔ (ChargeYear y × (LegalHolidays y hs × DayOfYear y d))
+-- The table's rows for a calendar day: what each number is given for, where no number before it in the order is given.
+pub data DayRow (y : ℕ) (hs : List ℕ) (d : ℕ) : ℕ → Type 0 where
+  one : (ChargeYear y → ⊥) → DayRow y hs d 1
+  three : ChargeYear y → (LegalHolidays y hs → ⊥) → DayRow y hs d 3
+  thirteen : ChargeYear y → LegalHolidays y hs → (DayOfYear y d → ⊥) → DayRow y hs d 13
+  zero : ChargeYear y → LegalHolidays y hs → DayOfYear y d → DayRow y hs d 0

@@ -25,13 +25,13 @@ const SATURDAY: u8 = 5;
 const LATE_DAYS: u16 = 122;
 
 // A day of a year, from 1.
-pub struct Date {
-    pub year: u16,
-    pub day: u16,
+struct Date {
+    year: u16,
+    day: u16,
 }
 
 // A day carries windows, or why it is free.
-pub enum DayKind {
+enum DayKind {
     Windows,
     Weekend,
     Listed,
@@ -92,7 +92,7 @@ fn part_of(day: u16) -> usize
     if day < 352 { (day / 32) as usize } else { 10 }
 }
 
-// The month of a day, by one look at the table: no month is longer than 32 days or than two parts.
+// The month of a day by one look at the table: a day's 32nd part of the year, from 0, is its month, from 0, or the one before.
 fn month(year: u16, day: u16) -> usize
     ensures { λ r. ⌜ r ≡ monthOf year day ⌝ }
 {

@@ -93,7 +93,13 @@ module _ (p : ℕ → Bool) where
   first-more n = rw add-one
 
 -- the test fails over a range and over the range after it
-through : (p : ℕ → Bool) (a n : ℕ) → ((j : ℕ) → j < a → p j ≡ false) → ((j : ℕ) → j < n → p (a + j) ≡ false) → (j : ℕ) → j < a + n → p j ≡ false
+through :
+    (p : ℕ → Bool) (a n : ℕ)
+    → ((j : ℕ) → j < a → p j ≡ false)
+    → ((j : ℕ) → j < n → p (a + j) ≡ false)
+    → (j : ℕ)
+    → j < a + n
+    → p j ≡ false
 through p a n h g j l = go (decLt j a)
   where
     go : Dec (j < a) → p j ≡ false

@@ -18,10 +18,17 @@ abbrev μ-loop : tie.MeasureT-loop
 μ-loop year holidays days last₀ k₀ k-end last k = length holidays - k
 
 returns-2 : tie.Need-returns-2 Inv-loop μ-loop
-returns-2 c = let at = c .before .before .before .loop in bad-at _ _ (at .k) (entry _ _ (at .k) (at .last) _ (at .inv .1) (c .before .before .before .before .year-days .ensures) (c .if2 .taken)) (omega arith)
+returns-2 c =
+    let at = c .before .before .before in
+    bad-at _ _ (at .loop .k)
+    (entry _ _ (at .loop .k) (at .loop .last) _ (at .loop .inv .1) (at .before .year-days .ensures) (c .if2 .taken))
+    (omega arith)
 
 loop-again : tie.Need-loop-again Inv-loop μ-loop
-loop-again c = let at = c .before .before .before .loop in (omega arith, before-next _ (at .k), passed-more (at .inv .2) (entry _ _ (at .k) (at .last) _ (at .inv .1) (c .before .before .before .before .year-days .ensures) (c .if2 .left)))
+loop-again c =
+    let at = c .before .before .before in
+    let kept = entry _ _ (at .loop .k) (at .loop .last) _ (at .loop .inv .1) (at .before .year-days .ensures) (c .if2 .left) in
+    (omega arith, before-next _ (at .loop .k), passed-more (at .loop .inv .2) kept)
 
 pub bad-holidays-spec : {M : Type 1} → statement M
 bad-holidays-spec =

@@ -2,18 +2,14 @@
 -- Assumes nothing.
 use native.Mathlib.Omega.{arith}
 use borrow.Author.Needs.{needs}
-use Rattle.calendar.proofs.Months.{days-first, days-later, days-small}
+use Rattle.calendar.proofs.Months.{days-first, days-later}
 use Rattle.calendar.proofs.days_to.Statement.{statement}
 use Rattle.calendar.proofs.days_to.Tie as tie
 
 add-result : tie.Need-add-result
-add-result c = let a = c .before .before .args in omega (arith, days-later (a .year) (a .month) _ (omega arith) (omega arith) (c .leap-day .ensures .0), days-small (a .year) (a .month) (omega arith))
-
-returns : tie.Need-returns
-returns c = let a = c .before .args in let e = days-first (a .year) (a .month) (omega arith) in (e, omega (arith, days-small (a .year) (a .month) (omega arith)))
-
-returns-2 : tie.Need-returns-2
-returns-2 c = let a = c .before .before .args in let e = days-later (a .year) (a .month) _ (omega arith) (omega arith) (c .leap-day .ensures .0) in (e, omega (arith, days-small (a .year) (a .month) (omega arith)))
+add-result c =
+    let a = c .before .before .args in
+    omega (arith, days-later (a .year) (a .month) _ (omega arith) (omega arith) (c .leap-day .ensures .0))
 
 pub days-to-spec : {M : Type 1} → statement M
 days-to-spec =
@@ -25,5 +21,5 @@ days-to-spec =
     (λ c. search needs)  -- array-read-result-2
     (λ c κs. search needs)  -- leap-day-requires
     add-result
-    returns
-    returns-2)
+    (λ c. days-first _ _ (omega arith))  -- returns
+    (λ c. days-later _ _ _ (omega arith) (omega arith) (c .leap-day .ensures .0)))

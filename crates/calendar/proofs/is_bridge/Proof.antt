@@ -1,23 +1,28 @@
 -- `calendar::is_bridge` meets its contract, a law for each return.
 -- Assumes nothing.
-use mathlib.Core.Path.{sym, ap, _∙_}
-use mathlib.Core.Bool.{not}
+use mathlib.Core.Path.{_≡_, sym, ap, _∙_}
+use mathlib.Core.Bool.{false, not}
 use borrow.Author.Needs.{needs}
+use Rattle.calendar.specs.Free.{mondayCandidate}
+use Rattle.calendar.specs.Within.{marked}
 use Rattle.calendar.proofs.Rules.{bridge-monday, bridge-friday, bridge-none}
 use Rattle.calendar.proofs.is_bridge.Statement.{statement}
 use Rattle.calendar.proofs.is_bridge.Tie as tie
 
+no-monday : (e : tie.Else1) → let a = e .before .before .args in mondayCandidate (a .year) (marked (a .marks .now)) (a .day) ≡ false
+no-monday e = sym (e .before .is-candidate .ensures) ∙ e .if1 .left
+
 returns-2 : tie.Need-returns-2
 returns-2 c =
-    let first = c .before .before .before .before .before in
-    let second = c .before .before .before in
     ap not (c .is-candidate3 .ensures)
-    ∙ bridge-friday _ _ _ (second .before .less .ensures) (c .before .less2 .ensures) (sym (first .before .is-candidate .ensures) ∙ first .if1 .left) (sym (second .is-candidate2 .ensures) ∙ c .before .before .if2 .taken)
+    ∙ bridge-friday _ _ _ (c .before .before .before .before .less .ensures) (c .before .less2 .ensures)
+    (no-monday (c .before .before .before .before .before))
+    (sym (c .before .before .before .is-candidate2 .ensures) ∙ c .before .before .if2 .taken)
 
 returns-3 : tie.Need-returns-3
 returns-3 c =
-    let first = c .before .before .before in
-    bridge-none _ _ _ (c .before .before .less .ensures) (sym (first .before .is-candidate .ensures) ∙ first .if1 .left) (sym (c .before .is-candidate2 .ensures) ∙ c .if2 .left)
+    bridge-none _ _ _ (c .before .before .less .ensures) (no-monday (c .before .before .before))
+    (sym (c .before .is-candidate2 .ensures) ∙ c .if2 .left)
 
 pub is-bridge-spec : {M : Type 1} → statement M
 is-bridge-spec =

@@ -1,24 +1,29 @@
 -- `calendar::kind` meets its contract, a law for each return, in the order of the grounds.
 -- Assumes nothing.
-use mathlib.Core.Path.{sym, _∙_}
+use mathlib.Core.Path.{_≡_, sym, _∙_}
+use mathlib.Core.Bool.{false}
 use native.Mathlib.Omega.{arith}
 use borrow.Author.Needs.{needs}
+use Rattle.calendar.specs.Free.{christmas}
 use Rattle.calendar.proofs.Rules.{kind-weekend, kind-listed, kind-christmas, kind-bridge, kind-windows}
 use Rattle.calendar.proofs.kind.Statement.{statement}
 use Rattle.calendar.proofs.kind.Tie as tie
+
+no-christmas : (e : tie.Else3) → let a = e .before .before .before .before .before .before .args in christmas (a .year) (a .day) ≡ false
+no-christmas e = sym (e .before .in-christmas .ensures) ∙ e .if3 .left
 
 returns-3 : tie.Need-returns-3
 returns-3 c = kind-christmas _ _ _ (omega arith) (c .before .before .if2 .left) (sym (c .before .in-christmas .ensures) ∙ c .if3 .taken)
 
 returns-4 : tie.Need-returns-4
 returns-4 c =
-    let e = c .before .before in
-    kind-bridge _ _ _ (omega arith) (e .before .before .if2 .left) (sym (e .before .in-christmas .ensures) ∙ e .if3 .left) (sym (c .before .is-bridge .ensures) ∙ c .if4 .taken)
+    kind-bridge _ _ _ (omega arith) (c .before .before .before .before .if2 .left) (no-christmas (c .before .before))
+    (sym (c .before .is-bridge .ensures) ∙ c .if4 .taken)
 
 returns-5 : tie.Need-returns-5
 returns-5 c =
-    let e = c .before .before in
-    kind-windows _ _ _ (omega arith) (e .before .before .if2 .left) (sym (e .before .in-christmas .ensures) ∙ e .if3 .left) (sym (c .before .is-bridge .ensures) ∙ c .if4 .left)
+    kind-windows _ _ _ (omega arith) (c .before .before .before .before .if2 .left) (no-christmas (c .before .before))
+    (sym (c .before .is-bridge .ensures) ∙ c .if4 .left)
 
 pub kind-spec : {M : Type 1} → statement M
 kind-spec =
