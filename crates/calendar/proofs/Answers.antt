@@ -4,7 +4,7 @@ use mathlib.Core.Path.{_≡_, refl, sym, ap, _∙_}
 use mathlib.Core.Bool.{Bool, true, false, cond}
 use mathlib.Core.Logic.{_↔_, ⊎-elim}
 use mathlib.Core.List.{List}
-use Prim.Native.Nat.{ℕ, _<_}
+use Prim.Native.Nat.{ℕ, _≤_, _<_}
 use native.Mathlib.Omega.{arith}
 use borrow.Author.Tests.{le-ltb, ltb-false}
 use lib.Dec.{ltb, eqb}
@@ -15,12 +15,12 @@ use Rattle.answers.specs.Said.{Said, only, yesNo}
 use Rattle.answers.proofs.Laws.{one-answer, charge-year}
 use Rattle.calendar.specs.declared.DayAnswer.{DayAnswer}
 use Rattle.calendar.specs.declared.DayAnswer.the-variants.{Carries, YearOut, BadList, DayOut}
-use Rattle.calendar.specs.Dates.{yearDays}
+use Rattle.dates.specs.Dates.{yearDays}
 use Rattle.calendar.specs.Holidays.{badHolidays}
 use Rattle.calendar.specs.Free.{carries}
 use Rattle.calendar.specs.Answer.DayRow.{one, three, thirteen, zero}
 use Rattle.calendar.specs.Answer.{saidOfDay, dayOut, dayAnswer, DayOfYear, DayRow}
-use Rattle.calendar.proofs.Leaps.{leap-small}
+use Rattle.dates.proofs.Leaps.{leap-small}
 use Rattle.calendar.proofs.Lists.{legal-holidays}
 
 -- a day is refused exactly when it is no day of the year
@@ -31,8 +31,11 @@ day-of-year y d = (
   λ h. simp (le-ltb d 1 (h .from), le-ltb (yearDays y) d (h .to)),
 )
 
-pub day-small : (y d : ℕ) → dayOut y d ≡ false → d < 367
-day-small y d e = omega (arith, leap-small y, day-of-year y d .0 e)
+-- a day of the year has its place among the marks
+pub day-inside : (y d : ℕ) → dayOut y d ≡ false → (1 ≤ d) × (d < 367)
+day-inside y d e =
+    let h = day-of-year y d .0 e in
+    (h .from, omega (arith, leap-small y))
 
 -- the code's cases, in the order 1, 3, 13
 module _ (y : ℕ) (hs : List ℕ) (d : ℕ) where

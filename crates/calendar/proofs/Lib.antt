@@ -1,8 +1,3 @@
-pub mod Leaps
-pub mod Months
-pub mod Seasons
-pub mod Weekdays
-pub mod Counted
 pub mod Lists
 pub mod Marked
 pub mod Rules

@@ -14,7 +14,7 @@ use Rattle.over.specs.Over.{anyOver}
 use Rattle.over.proofs.Bools.{neither}
 use Rattle.over.proofs.Tests.{Passed, any-at, any-fails, all-passed}
 use Rattle.answers.specs.Ruling.{holidaysMost}
-use Rattle.calendar.specs.Dates.{yearDays}
+use Rattle.dates.specs.Dates.{yearDays}
 use Rattle.calendar.specs.Holidays.{before, badEntry, badHolidays, LegalHolidays}
 
 -- the entry before the next one is this one

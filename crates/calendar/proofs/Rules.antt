@@ -7,14 +7,13 @@ use native.Mathlib.Omega.{arith}
 use borrow.Author.Tests.{le-leb, lt-leb, eq-eqb, ne-eqb}
 use lib.Dec.{leb}
 use Rattle.calendar.specs.declared.DayKind.the-variants.{Windows, Weekend, Listed, Christmas, Bridge}
-use Rattle.calendar.specs.Dates.{yearDays, dayOf, weekdayOf, saturday, friday}
-use Rattle.calendar.specs.Free.{christmas, free, candidate, mondayCandidate, bridge, kindBy}
-use Rattle.calendar.proofs.Leaps.{leap-small}
-use Rattle.calendar.proofs.Months.{days-table}
+use Rattle.dates.specs.Dates.{yearDays, dayOf, weekdayOf, saturday}
+use Rattle.calendar.specs.Free.{christmas, free, candidate, mondayCandidate, fridayCandidate, bridge, kindBy}
+use Rattle.dates.proofs.Months.{year-end}
 
 -- 24 December is the eighth day from the year's end
 eve : (y : ℕ) → yearDays y - 7 ≡ dayOf y 12 24
-eve y = omega (arith, days-table y 11 (omega arith), leap-small y)
+eve y = omega (arith, year-end y)
 
 pub christmas-by : (y d n : ℕ) → n ≡ yearDays y → (leb d 1 || leb (n - 7) d) ≡ christmas y d
 unfolding christmas
@@ -59,19 +58,13 @@ module _ (y : ℕ) (isListed : ℕ → Bool) (d : ℕ) where
   unfolding bridge
   bridge-monday e = simp e
 
-  pub bridge-friday :
-      {n m : ℕ}
-      → n ≡ d - 1
-      → m ≡ d - 4
-      → mondayCandidate y isListed d ≡ false
-      → candidate y isListed friday n d ≡ true
-      → not (mondayCandidate y isListed m) ≡ bridge y isListed d
+  pub bridge-friday : {m : ℕ} → m ≡ d - 4 → mondayCandidate y isListed d ≡ false → fridayCandidate y isListed d ≡ true → not (mondayCandidate y isListed m) ≡ bridge y isListed d
   unfolding bridge
-  bridge-friday p q e f = simp (q, e, rw p at f)
+  bridge-friday q e f = simp (q, e, f)
 
-  pub bridge-none : {n : ℕ} → n ≡ d - 1 → mondayCandidate y isListed d ≡ false → candidate y isListed friday n d ≡ false → false ≡ bridge y isListed d
+  pub bridge-none : mondayCandidate y isListed d ≡ false → fridayCandidate y isListed d ≡ false → false ≡ bridge y isListed d
   unfolding bridge
-  bridge-none p e f = simp (e, rw p at f)
+  bridge-none e f = simp (e, f)
 
   -- kinds, in their order
   pub kind-weekend : saturday ≤ weekdayOf y d → Weekend ≡ kindBy y isListed d

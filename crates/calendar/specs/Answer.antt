@@ -7,7 +7,7 @@ use Rattle.answers.specs.Ruling.{yearOut, ChargeYear}
 use Rattle.answers.specs.Said.{Said, only, yesNo}
 use Rattle.calendar.specs.declared.DayAnswer.{DayAnswer}
 use Rattle.calendar.specs.declared.DayAnswer.the-variants.{Carries, YearOut, BadList, DayOut}
-use Rattle.calendar.specs.Dates.{yearDays}
+use Rattle.dates.specs.Dates.{yearDays}
 use Rattle.calendar.specs.Holidays.{badHolidays, LegalHolidays}
 use Rattle.calendar.specs.Free.{carries}
 

@@ -7,7 +7,7 @@ use lib.Dec.{leb, eqb}
 use Rattle.over.specs.Over.{table}
 use Rattle.calendar.specs.declared.DayKind.{DayKind}
 use Rattle.calendar.specs.declared.DayKind.the-variants.{Windows, Weekend, Listed, Christmas, Bridge}
-use Rattle.calendar.specs.Dates.{mostDays, dayOf, weekdayOf, monday, friday, saturday}
+use Rattle.dates.specs.Dates.{mostDays, dayOf, weekdayOf, monday, friday, saturday}
 use Rattle.calendar.specs.Holidays.{listed}
 
 -- Saturday and Sunday

@@ -6,7 +6,7 @@ use lib.Dec.{leb, ltb, eqb}
 use lib.ListN.{length, getD}
 use Rattle.over.specs.Over.{anyOver}
 use Rattle.answers.specs.Ruling.{holidaysMost}
-use Rattle.calendar.specs.Dates.{yearDays}
+use Rattle.dates.specs.Dates.{yearDays}
 
 -- a listed day: the list alone says it
 unfoldable pub listed : List ℕ → ℕ → Bool

@@ -1,15 +1,11 @@
--- How the code works inside: a day's part of the year, and marks for the listed days. Nothing of this is promised to a caller.
+-- How the code works inside: marks for the listed days. Nothing of this is promised to a caller.
 use mathlib.Core.Path.{_≡_}
 use mathlib.Core.Bool.{Bool, false, cond}
 use mathlib.Core.List.{List}
-use Prim.Native.Nat.{ℕ, _/_, _<_}
+use Prim.Native.Nat.{ℕ, _<_}
 use lib.Dec.{ltb}
 use lib.ListN.{getD}
 use Rattle.calendar.specs.Holidays.{listed}
-
--- the 32nd part of the year that a day stands in, the last two as one: its month, from 0, or the one before
-abbrev pub partOf : ℕ → ℕ
-partOf d = cond (ltb d 352) (d / 32) 10
 
 -- the place that marks a day: one for each day of a year and the days beside it, and a last one for all others
 abbrev pub placeOf : ℕ → ℕ

@@ -47,9 +47,9 @@ fn letter(answer: DayAnswer) -> u8 {
 // A day's character in a line: its weekday (W), its season (S), the season of that day of the period (P), or its answer (A).
 fn mark(line: u8, year: u16, list: &[u16], day: u16) -> u8 {
     match line {
-        b'W' => digit(calendar::weekday(year, day)),
-        b'S' => digit(calendar::season(year, day)),
-        b'P' => digit(calendar::period_season(year, day)),
+        b'W' => digit(dates::weekday(year, day)),
+        b'S' => digit(dates::season(year, day)),
+        b'P' => digit(dates::period_season(year, day)),
         _ => letter(calendar::carries_windows(year, list, day)),
     }
 }
@@ -73,9 +73,9 @@ fn whole_year(year: u16, list: &[u16]) {
     write(b"Y ");
     write_number(year as u64);
     write(b" ");
-    write_number(calendar::year_days(year) as u64);
+    write_number(dates::year_days(year) as u64);
     write(b" ");
-    write_number(calendar::period_days(year) as u64);
+    write_number(dates::period_days(year) as u64);
     write(b"\n");
     write_line(b'W', year, list);
     write_line(b'S', year, list);
@@ -85,7 +85,7 @@ fn whole_year(year: u16, list: &[u16]) {
 
 // Does the list leave a Monday-to-Friday day free?
 fn is_freed(year: u16, list: &[u16], day: u16) -> bool {
-    if 5 <= calendar::weekday(year, day) {
+    if 5 <= dates::weekday(year, day) {
         return false;
     }
     letter(calendar::carries_windows(year, list, day)) == b'-'

@@ -8,7 +8,7 @@ use Rattle.calendar.specs.Holidays.{badHolidays}
 use Rattle.calendar.specs.Free.{isWindows}
 use Rattle.calendar.specs.Answer.{dayOut}
 use Rattle.calendar.proofs.Marked.{by-marks}
-use Rattle.calendar.proofs.Answers.{day-small, said-year, said-list, said-day, said-carries}
+use Rattle.calendar.proofs.Answers.{day-inside, said-year, said-list, said-day, said-carries}
 use Rattle.calendar.proofs.carries_windows.Statement.{statement}
 use Rattle.calendar.proofs.carries_windows.Tie as tie
 
@@ -32,7 +32,7 @@ returns-4 c =
     let e = c .before .before .before .before in
     said-carries _ _ _ (year-at (e .before .before .before .before)) (list-at (e .before .before)) (day-at e)
     (c .is-windows .ensures
-    ∙ ap isWindows (c .before .kind .ensures ∙ by-marks _ _ _ _ (c .before .before .before .marks .ensures) (day-small _ _ (day-at e))))
+    ∙ ap isWindows (c .before .kind .ensures ∙ by-marks _ _ _ _ (c .before .before .before .marks .ensures) (day-inside _ _ (day-at e) .1)))
 
 pub carries-windows-spec : {M : Type 1} → statement M
 carries-windows-spec =
@@ -45,6 +45,6 @@ carries-windows-spec =
     (λ c κs. search needs)  -- day-out-requires
     returns-3
     (λ c κs. search needs)  -- marks-requires
-    (λ c κs. day-small _ _ (day-at (c .before .before)))  -- kind-requires
+    (λ c κs. day-inside _ _ (day-at (c .before .before)))  -- kind-requires
     (λ c κs. search needs)  -- is-windows-requires
     returns-4)

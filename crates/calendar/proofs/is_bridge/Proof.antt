@@ -15,14 +15,11 @@ no-monday e = sym (e .before .is-candidate .ensures) ∙ e .if1 .left
 returns-2 : tie.Need-returns-2
 returns-2 c =
     ap not (c .is-candidate3 .ensures)
-    ∙ bridge-friday _ _ _ (c .before .before .before .before .less .ensures) (c .before .less2 .ensures)
-    (no-monday (c .before .before .before .before .before))
+    ∙ bridge-friday _ _ _ (c .before .monday-of .ensures) (no-monday (c .before .before .before .before))
     (sym (c .before .before .before .is-candidate2 .ensures) ∙ c .before .before .if2 .taken)
 
 returns-3 : tie.Need-returns-3
-returns-3 c =
-    bridge-none _ _ _ (c .before .before .less .ensures) (no-monday (c .before .before .before))
-    (sym (c .before .is-candidate2 .ensures) ∙ c .if2 .left)
+returns-3 c = bridge-none _ _ _ (no-monday (c .before .before)) (sym (c .before .is-candidate2 .ensures) ∙ c .if2 .left)
 
 pub is-bridge-spec : {M : Type 1} → statement M
 is-bridge-spec =
@@ -31,9 +28,9 @@ is-bridge-spec =
     (λ c. search needs)  -- add-is-candidate
     (λ c κs. search needs)  -- is-candidate-requires
     (λ c. bridge-monday _ _ _ (sym (c .before .is-candidate .ensures) ∙ c .if1 .taken))  -- returns
-    (λ c κs. search needs)  -- less-requires
+    (λ c. search needs)  -- sub-is-candidate
     (λ c κs. search needs)  -- is-candidate-requires-2
-    (λ c κs. search needs)  -- less-requires-2
+    (λ c κs. search needs)  -- monday-of-requires
     (λ c. search needs)  -- add-is-candidate-2
     (λ c κs. search needs)  -- is-candidate-requires-3
     returns-2

@@ -1,0 +1,3 @@
+pub mod Dates
+pub mod Period
+pub mod Within
