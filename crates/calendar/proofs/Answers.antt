@@ -4,7 +4,7 @@ use mathlib.Core.Path.{_≡_, refl, sym, ap, _∙_}
 use mathlib.Core.Bool.{Bool, true, false, cond}
 use mathlib.Core.Logic.{_↔_, ⊎-elim}
 use mathlib.Core.List.{List}
-use Prim.Native.Nat.{ℕ, _≤_, _<_}
+use Prim.Native.Nat.{ℕ, _≤_}
 use native.Mathlib.Omega.{arith}
 use borrow.Author.Tests.{le-ltb, ltb-false}
 use lib.Dec.{ltb, eqb}
@@ -15,7 +15,7 @@ use Rattle.answers.specs.Said.{Said, only, yesNo}
 use Rattle.answers.proofs.Laws.{one-answer, charge-year}
 use Rattle.calendar.specs.declared.DayAnswer.{DayAnswer}
 use Rattle.calendar.specs.declared.DayAnswer.the-variants.{Carries, YearOut, BadList, DayOut}
-use Rattle.dates.specs.Dates.{yearDays}
+use Rattle.dates.specs.Dates.{yearDays, mostDays}
 use Rattle.calendar.specs.Holidays.{badHolidays}
 use Rattle.calendar.specs.Free.{carries}
 use Rattle.calendar.specs.Answer.DayRow.{one, three, thirteen, zero}
@@ -32,7 +32,7 @@ day-of-year y d = (
 )
 
 -- a day of the year has its place among the marks
-pub day-inside : (y d : ℕ) → dayOut y d ≡ false → (1 ≤ d) × (d < 367)
+pub day-inside : (y d : ℕ) → dayOut y d ≡ false → (1 ≤ d) × (d ≤ mostDays)
 day-inside y d e =
     let h = day-of-year y d .0 e in
     (h .from, omega (arith, leap-small y))

@@ -12,9 +12,10 @@ use lib.ListN.{length, getD, set, length-set}
 use lib.Seq.{getD-set-same, getD-set-other}
 use Rattle.over.specs.Over.{anyOver}
 use Rattle.over.proofs.Tests.{any-none, any-more}
+use Rattle.dates.specs.Dates.{mostDays}
 use Rattle.calendar.specs.Holidays.{listed}
 use Rattle.calendar.specs.Free.{candidate, free, bridge, kindBy, kindOf}
-use Rattle.calendar.specs.Within.{placeOf, marked, Marks}
+use Rattle.calendar.specs.Within.{lastPlace, places, placeOf, marked, Marks}
 
 -- entry j is day d
 abbrev pub isDay : List ℕ → ℕ → ℕ → Bool
@@ -23,11 +24,11 @@ isDay hs d j = eqb (getD hs j 0) d
 -- what the loop keeps: the first k entries are marked
 pub record Marking (hs : List ℕ) (k : ℕ) (m : List Bool) : Type 0 where
   pub some : k ≤ length hs
-  pub long : length m ≡ 369
-  pub each : (d : ℕ) → d < 368 → marked m d ≡ anyOver (isDay hs d) k
+  pub long : length m ≡ places
+  pub each : (d : ℕ) → d < lastPlace → marked m d ≡ anyOver (isDay hs d) k
 
 module _ (hs : List ℕ) where
-  pub marking-none : {m : List Bool} → length m ≡ 369 → ((d : ℕ) → d < 368 → marked m d ≡ false) → Marking hs 0 m
+  pub marking-none : {m : List Bool} → length m ≡ places → ((d : ℕ) → d < lastPlace → marked m d ≡ false) → Marking hs 0 m
   marking-none e f = record { some = omega arith; long = e; each = λ d b. f d b ∙ sym (any-none (isDay hs d)) }
 
   pub marking-more : {k at : ℕ} {m : List Bool} → Marking hs k m → k < length hs → at ≡ placeOf (getD hs k 0) → Marking hs (k + 1) (set m at true)
@@ -35,19 +36,19 @@ module _ (hs : List ℕ) where
       record { some = omega arith; long = simp length-set (h .long); each = λ d b. go d b (ℕ-discrete (getD hs k 0) d) }
     where
       -- another day has another place
-      elsewhere : (d : ℕ) → d < 368 → (getD hs k 0 ≡ d → ⊥) → Dec (getD hs k 0 < 368) → d ≡ at → ⊥
+      elsewhere : (d : ℕ) → d < lastPlace → (getD hs k 0 ≡ d → ⊥) → Dec (getD hs k 0 < lastPlace) → d ≡ at → ⊥
       elsewhere d b n (yes c) e = n (sym (e ∙ p ∙ simp (lt-ltb _ _ c)))
       elsewhere d b n (no c) e =
-          let f : at ≡ 368 = p ∙ simp (le-ltb (getD hs k 0) 368 (omega arith)) in
+          let f : at ≡ lastPlace = p ∙ simp (le-ltb (getD hs k 0) lastPlace (omega arith)) in
           omega arith
 
-      go : (d : ℕ) → d < 368 → Dec (getD hs k 0 ≡ d) → marked (set m at true) d ≡ anyOver (isDay hs d) (k + 1)
+      go : (d : ℕ) → d < lastPlace → Dec (getD hs k 0 ≡ d) → marked (set m at true) d ≡ anyOver (isDay hs d) (k + 1)
       go d b (yes e) =
-          let a : at ≡ d = p ∙ simp (e, lt-ltb d 368 b) in
+          let a : at ≡ d = p ∙ simp (e, lt-ltb d lastPlace b) in
           let s : marked (set m at true) d ≡ true = rw a (getD-set-same m d true false (omega (arith, h .long))) in
           s ∙ simp (any-more, eq-eqb (getD hs k 0) d e) (sym (or-true (anyOver (isDay hs d) k)))
       go d b (no n) =
-          getD-set-other m at d true false (elsewhere d b n (decLt (getD hs k 0) 368))
+          getD-set-other m at d true false (elsewhere d b n (decLt (getD hs k 0) lastPlace))
           ∙ h .each d b
           ∙ simp (any-more, ne-eqb (getD hs k 0) d n) (sym (or-false (anyOver (isDay hs d) k)))
 
@@ -58,7 +59,7 @@ module _ (hs : List ℕ) where
       record { each = λ d b. rw e at (h .each d b) }
 
 -- so a day of the year is of the same kind by the marks and by the list
-pub by-marks : (y : ℕ) (hs : List ℕ) (m : List Bool) (d : ℕ) → Marks hs m → d < 367 → kindBy y (marked m) d ≡ kindOf y hs d
+pub by-marks : (y : ℕ) (hs : List ℕ) (m : List Bool) (d : ℕ) → Marks hs m → d ≤ mostDays → kindBy y (marked m) d ≡ kindOf y hs d
 unfolding kindBy bridge candidate free
 by-marks y hs m d h b =
     simp (

@@ -13,7 +13,7 @@ use lib.ListN.{getD}
 use Rattle.over.proofs.Bools.{decided, both, either, neither, clash}
 use Rattle.over.proofs.Tables.{getD-table}
 use Rattle.calendar.specs.declared.DayKind.the-variants.{Windows, Weekend, Listed, Christmas, Bridge}
-use Rattle.dates.specs.Dates.{yearDays, weekdayOf, monday, friday}
+use Rattle.dates.specs.Dates.{yearDays, mostDays, weekdayOf, monday, friday}
 use Rattle.calendar.specs.Holidays.{listed}
 use Rattle.calendar.specs.Free.{weekend, christmas, free, candidate, mondayCandidate, fridayCandidate, bridge, kindBy, isWindows, carries, windowDays}
 use Rattle.calendar.proofs.Rules.{christmas-late}
@@ -103,9 +103,9 @@ carries-when y hs d = go (weekend y d) (listed hs d) (christmas y d) (bridge y (
     go false false false false = refl
 
 -- what a caller of `window_days` reads: day k + 1 stands at place k, and a day past the year's end carries none
-pub window-day : (y : ℕ) (hs : List ℕ) (k : ℕ) → k < 366 → getD (windowDays y hs) k false ≡ carries y hs (k + 1)
+pub window-day : (y : ℕ) (hs : List ℕ) (k : ℕ) → k < mostDays → getD (windowDays y hs) k false ≡ carries y hs (k + 1)
 unfolding windowDays
-window-day y hs k h = getD-table (λ j. carries y hs (j + 1)) 366 k false h
+window-day y hs k h = getD-table (λ j. carries y hs (j + 1)) mostDays k false h
 
 pub none-past : (y : ℕ) (hs : List ℕ) (d : ℕ) → yearDays y < d → carries y hs d ≡ false
 none-past y hs d h = carries-when y hs d ∙ simp (christmas-late y d (omega arith), and-false)

@@ -7,13 +7,20 @@ use lib.Dec.{ltb}
 use lib.ListN.{getD}
 use Rattle.calendar.specs.Holidays.{listed}
 
--- the place that marks a day: one for each day of a year and the days beside it, and a last one for all others
+-- the places that mark days: one for each of days 0 to 367, so for a year's days and the days beside them, and a last one
+-- for all others
+abbrev pub lastPlace : ℕ
+lastPlace = 368
+
+abbrev pub places : ℕ
+places = 369
+
 abbrev pub placeOf : ℕ → ℕ
-placeOf d = cond (ltb d 368) d 368
+placeOf d = cond (ltb d lastPlace) d lastPlace
 
 abbrev pub marked : List Bool → ℕ → Bool
 marked m d = getD m d false
 
 -- the marks say what the list says
 pub record Marks (hs : List ℕ) (m : List Bool) : Type 0 where
-  pub each : (d : ℕ) → d < 368 → marked m d ≡ listed hs d
+  pub each : (d : ℕ) → d < lastPlace → marked m d ≡ listed hs d

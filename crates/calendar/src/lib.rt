@@ -2,10 +2,16 @@
 // Main theorem: whatever year, list and day are given, the answer is the paper's, and nothing else meets the promise.
 ghost use mathlib.Core.Path.{_≡_};
 ghost use Prim.Native.Nat.{_-_, _≤_, _<_};
+ghost use Rattle.dates.specs.Dates.{mostDays};
 ghost use Rattle.calendar.specs.Holidays.{badHolidays};
 ghost use Rattle.calendar.specs.Free.{christmas, free, candidate, bridge, kindBy, isWindows, windowDays};
 ghost use Rattle.calendar.specs.Answer.{saidOfDay, dayOut, dayAnswer};
-ghost use Rattle.calendar.specs.Within.{placeOf, marked, Marks};
+ghost use Rattle.calendar.specs.Within.{places, lastPlace, placeOf, marked, Marks};
+
+// The places that mark listed days: one for each of days 0 to 367, and a last one for days that no year has.
+const PLACES: usize = 369;
+
+const LAST_PLACE: usize = 368;
 
 // Weekdays, from 0.
 const MONDAY: u8 = 0;
@@ -31,18 +37,19 @@ pub enum DayAnswer {
     DayOut,
 }
 
-// The place that marks a day: the last, for a day that no year has.
+// The place that marks a day.
 fn place_of(day: u16) -> usize
-    ensures { λ r. ⌜ (r ≡ placeOf day) × (r < 369) ⌝ }
+    ensures { λ r. ⌜ (r ≡ placeOf day) × (r < places) ⌝ }
 {
-    if day < 368 { day as usize } else { 368 }
+    let at = day as usize;
+    if at < LAST_PLACE { at } else { LAST_PLACE }
 }
 
 // The listed days, marked once, so that no day searches the list.
-fn marks(holidays: &[u16]) -> [bool; 369]
+fn marks(holidays: &[u16]) -> [bool; PLACES]
     ensures { λ r. ⌜ Marks (now (holidays .entry)) r ⌝ }
 {
-    let mut out = [false; 369];
+    let mut out = [false; PLACES];
     for k in 0..holidays.len() {
         let at = place_of(holidays[k]);
         out[at] = true;
@@ -58,8 +65,8 @@ fn in_christmas(year: u16, day: u16) -> bool
 }
 
 // Free by another rule than that of bridge days.
-fn is_free(year: u16, marks: &[bool; 369], day: u16) -> bool
-    requires { ⌜ day < 368 ⌝ }
+fn is_free(year: u16, marks: &[bool; PLACES], day: u16) -> bool
+    requires { ⌜ day < lastPlace ⌝ }
     ensures { λ r. ⌜ r ≡ free year (marked (now (marks .entry))) day ⌝ }
 {
     if SATURDAY <= dates::weekday(year, day) {
@@ -72,8 +79,8 @@ fn is_free(year: u16, marks: &[bool; 369], day: u16) -> bool
 }
 
 // A day of the weekday, with a listed neighbour, that is not free already.
-fn is_candidate(year: u16, marks: &[bool; 369], on: u8, beside: u16, day: u16) -> bool
-    requires { ⌜ (beside < 368) × (day < 368) ⌝ }
+fn is_candidate(year: u16, marks: &[bool; PLACES], on: u8, beside: u16, day: u16) -> bool
+    requires { ⌜ (beside < lastPlace) × (day < lastPlace) ⌝ }
     ensures { λ r. ⌜ r ≡ candidate year (marked (now (marks .entry))) on beside day ⌝ }
 {
     if dates::weekday(year, day) != on {
@@ -93,8 +100,8 @@ fn monday_of(friday: u16) -> u16
 }
 
 // The first candidate of its week: a Monday, or a Friday whose Monday is none.
-fn is_bridge(year: u16, marks: &[bool; 369], day: u16) -> bool
-    requires { ⌜ (1 ≤ day) × (day < 367) ⌝ }
+fn is_bridge(year: u16, marks: &[bool; PLACES], day: u16) -> bool
+    requires { ⌜ (1 ≤ day) × (day ≤ mostDays) ⌝ }
     ensures { λ r. ⌜ r ≡ bridge year (marked (now (marks .entry))) day ⌝ }
 {
     if is_candidate(year, marks, MONDAY, day + 1, day) {
@@ -108,8 +115,8 @@ fn is_bridge(year: u16, marks: &[bool; 369], day: u16) -> bool
 }
 
 // Whether a day carries windows by the marks and, where not, why it is free.
-fn kind(year: u16, marks: &[bool; 369], day: u16) -> DayKind
-    requires { ⌜ (1 ≤ day) × (day < 367) ⌝ }
+fn kind(year: u16, marks: &[bool; PLACES], day: u16) -> DayKind
+    requires { ⌜ (1 ≤ day) × (day ≤ mostDays) ⌝ }
     ensures { λ r. ⌜ r ≡ kindBy year (marked (now (marks .entry))) day ⌝ }
 {
     if SATURDAY <= dates::weekday(year, day) {
@@ -140,12 +147,12 @@ fn is_windows(kind: DayKind) -> bool
 }
 
 // Which days of any year carry windows by any list, day 1 first: for a loop over a year's days.
-pub fn window_days(year: u16, holidays: &[u16]) -> [bool; 366]
+pub fn window_days(year: u16, holidays: &[u16]) -> [bool; dates::MOST_DAYS]
     ensures { λ r. ⌜ r ≡ windowDays year (now (holidays .entry)) ⌝ }
 {
     let m = marks(holidays);
-    let mut out = [false; 366];
-    for k in 0..366 {
+    let mut out = [false; dates::MOST_DAYS];
+    for k in 0..dates::MOST_DAYS {
         out[k] = is_windows(kind(year, &m, (k + 1) as u16));
     }
     out

@@ -6,6 +6,9 @@ ghost use Rattle.dates.specs.Dates.{leap, leapDay, yearDays, daysTo, mon
 ghost use Rattle.dates.specs.Period.{periodDays, periodDate, periodSeason};
 ghost use Rattle.dates.specs.Within.{partOf};
 
+// The most days that a year has.
+pub const MOST_DAYS: usize = 366;
+
 // The days before each month of a common year, and each month's season.
 const DAYS_BEFORE: [u16; 12] = [0, 31, 59, 90, 120, 151, 181, 212, 243, 273, 304, 334];
 

@@ -5,6 +5,7 @@ use mathlib.Core.Bool.{false}
 use Prim.Native.Nat.{ℕ, _-_, _+_}
 use native.Mathlib.Omega.{arith}
 use borrow.Author.Needs.{needs}
+use Rattle.dates.specs.Dates.{mostDays}
 use Rattle.calendar.specs.Free.{isWindows, carries, windowDays}
 use Rattle.over.proofs.Tables.{Filled, filled-none, filled-more, filled-all}
 use Rattle.calendar.proofs.Marked.{by-marks}
@@ -12,10 +13,10 @@ use Rattle.calendar.proofs.window_days.Statement.{statement}
 use Rattle.calendar.proofs.window_days.Tie as tie
 
 abbrev Inv-loop : tie.InvT-loop
-Inv-loop year holidays m out₀ k₀ out k = Filled (λ (j : ℕ). carries year holidays (j + 1)) 366 false k out
+Inv-loop year holidays m out₀ k₀ out k = Filled (λ (j : ℕ). carries year holidays (j + 1)) mostDays false k out
 
 abbrev μ-loop : tie.MeasureT-loop
-μ-loop year holidays m out₀ k₀ out k = 366 - k
+μ-loop year holidays m out₀ k₀ out k = mostDays - k
 
 loop-again : tie.Need-loop-again Inv-loop μ-loop
 loop-again c =
