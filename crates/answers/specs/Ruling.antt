@@ -1,8 +1,9 @@
 -- The numbers of the ruling and of the ordinance, and the limits that document 01 sets, each under its name and in the paper's
 -- order. No other specification writes one of them out. "Tenor" is the ruling's operative part.
-use mathlib.Core.Bool.{Bool, cond, _||_}
-use Prim.Native.Nat.{ℕ, _≤_}
-use lib.Dec.{leb, ltb, eqb}
+use mathlib.Core.Bool.{Bool, cond}
+use Prim.Native.Nat.{ℕ}
+use lib.Dec.{leb, eqb}
+use Rattle.over.specs.Limits.{Within, outside}
 
 -- Numbers
 
@@ -49,12 +50,17 @@ shareOf level = cond (eqb level 1) 5 (cond (leb level 3) 10 (cond (leb level 5) 
 
 -- answer 1: the year is outside the range of charge years
 unfoldable pub yearOut : ℕ → Bool
-yearOut y = ltb y firstYear || ltb lastYear y
+yearOut y = outside firstYear lastYear y
 
--- a charge year, in plain orders
-pub record ChargeYear (y : ℕ) : Type 0 where
-  pub from : firstYear ≤ y
-  pub to : y ≤ lastYear
+abbrev pub ChargeYear : ℕ → Type 0
+ChargeYear y = Within firstYear lastYear y
+
+-- answer 2: the level is not 1 to 7
+unfoldable pub levelOut : ℕ → Bool
+levelOut level = outside 1 lastLevel level
+
+abbrev pub Level : ℕ → Type 0
+Level level = Within 1 lastLevel level
 
 -- High-load windows
 

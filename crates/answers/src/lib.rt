@@ -1,12 +1,15 @@
-// The numbered answers' common ground: the ruling's numbers as the code needs them, and the test of a charge year.
+// The numbered answers' common ground: the ruling's numbers as the code needs them, and the tests of a year and a level.
 // Document 01, Numbers. The same numbers have the same names in specs/Ruling.
 ghost use mathlib.Core.Path.{_≡_};
-ghost use Rattle.answers.specs.Ruling.{yearOut};
+ghost use Rattle.answers.specs.Ruling.{yearOut, levelOut};
 
 // Charge years.
 pub const FIRST_YEAR: u16 = 2014;
 
 pub const LAST_YEAR: u16 = 2028;
+
+// Level codes, from 1.
+pub const LAST_LEVEL: u8 = 7;
 
 // Days on a holiday list.
 pub const HOLIDAYS_MOST: usize = 40;
@@ -16,4 +19,11 @@ pub fn year_out(year: u16) -> bool
     ensures { λ r. ⌜ r ≡ yearOut year ⌝ }
 {
     (year < FIRST_YEAR) | (LAST_YEAR < year)
+}
+
+// Is a level code not 1 to 7 (answer 2)? Any code has an answer.
+pub fn level_out(level: u8) -> bool
+    ensures { λ r. ⌜ r ≡ levelOut level ⌝ }
+{
+    (level < 1) | (LAST_LEVEL < level)
 }

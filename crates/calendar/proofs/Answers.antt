@@ -6,10 +6,9 @@ use mathlib.Core.Logic.{_↔_, ⊎-elim}
 use mathlib.Core.List.{List}
 use Prim.Native.Nat.{ℕ, _≤_}
 use native.Mathlib.Omega.{arith}
-use borrow.Author.Tests.{le-ltb, ltb-false}
-use lib.Dec.{ltb, eqb}
+use lib.Dec.{eqb}
 use lib.ListN.{getD}
-use Rattle.over.proofs.Bools.{decided, neither, refutes}
+use Rattle.over.proofs.Bools.{decided, refutes, within}
 use Rattle.answers.specs.Ruling.{yearOut}
 use Rattle.answers.specs.Said.{Said, only, yesNo}
 use Rattle.answers.proofs.Laws.{one-answer, charge-year}
@@ -26,10 +25,7 @@ use Rattle.calendar.proofs.Lists.{legal-holidays}
 -- a day is refused exactly when it is no day of the year
 pub day-of-year : (y d : ℕ) → (dayOut y d ≡ false) ↔ DayOfYear y d
 unfolding dayOut
-day-of-year y d = (
-  λ e. let b = neither (ltb d 1) (ltb (yearDays y) d) e in record { from = ltb-false d 1 (b .0); to = ltb-false (yearDays y) d (b .1) },
-  λ h. simp (le-ltb d 1 (h .from), le-ltb (yearDays y) d (h .to)),
-)
+day-of-year y d = within 1 (yearDays y) d
 
 -- a day of the year has its place among the marks
 pub day-inside : (y d : ℕ) → dayOut y d ≡ false → (1 ≤ d) × (d ≤ mostDays)

@@ -1,8 +1,8 @@
 -- Document 01, Numbered answers: "For a calendar day: 1, 3, 13."
-use mathlib.Core.Bool.{Bool, cond, _||_}
+use mathlib.Core.Bool.{Bool, cond}
 use mathlib.Core.List.{List}
-use Prim.Native.Nat.{ℕ, _≤_}
-use lib.Dec.{ltb}
+use Prim.Native.Nat.{ℕ}
+use Rattle.over.specs.Limits.{Within, outside}
 use Rattle.answers.specs.Ruling.{yearOut, ChargeYear}
 use Rattle.answers.specs.Said.{Said, only, yesNo}
 use Rattle.calendar.specs.declared.DayAnswer.{DayAnswer}
@@ -20,7 +20,10 @@ saidOfDay DayOut = only 13
 
 -- answer 13: a day outside the year
 unfoldable pub dayOut : ℕ → ℕ → Bool
-dayOut y d = ltb d 1 || ltb (yearDays y) d
+dayOut y d = outside 1 (yearDays y) d
+
+abbrev pub DayOfYear : ℕ → ℕ → Type 0
+DayOfYear y d = Within 1 (yearDays y) d
 
 -- what is answered: the first number whose row holds, else 0 with yes or no
 unfoldable pub dayAnswer : ℕ → List ℕ → ℕ → Said
@@ -29,11 +32,6 @@ dayAnswer y hs d =
     (cond (badHolidays y hs) (only 3)
     (cond (dayOut y d) (only 13)
     (yesNo (carries y hs d))))
-
--- a day of the year, in plain orders
-pub record DayOfYear (y d : ℕ) : Type 0 where
-  pub from : 1 ≤ d
-  pub to : d ≤ yearDays y
 
 -- The table's rows for a calendar day: what each number is given for, where no number before it in the order is given.
 pub data DayRow (y : ℕ) (hs : List ℕ) (d : ℕ) : ℕ → Type 0 where

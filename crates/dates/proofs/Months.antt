@@ -10,6 +10,7 @@ use native.Mathlib.Omega.{arith}
 use borrow.Author.Tests.{lt-ltb, le-ltb, ltb-true, eqb-true}
 use lib.Dec.{ltb, eqb}
 use lib.ListN.{getD}
+use Rattle.over.specs.Limits.{Within}
 use Rattle.over.specs.Over.{joined, sumOver, countOver, allOver}
 use Rattle.over.proofs.Tests.{count-le, count-all, count-cong, all-at}
 use Rattle.dates.specs.Dates.{leapDay, yearDays, daysTo, dayOf, monthOf}
@@ -111,10 +112,6 @@ pub month-this : (y d p : ℕ) → p ≡ partOf d → p < 11 → d ≤ daysTo y 
 month-this y d p e b h = omega (arith, simp (le-ltb _ _ h) at (month-by-part y d p e b))
 
 -- months are 1 to 12
-pub record Month (m : ℕ) : Type 0 where
-  pub from : 1 ≤ m
-  pub to : m ≤ 12
-
-pub month-range : (y d : ℕ) → Month (monthOf y d)
+pub month-range : (y d : ℕ) → Within 1 12 (monthOf y d)
 unfolding monthOf
 month-range y d = record { from = omega arith; to = omega (arith, count-le (λ k. ltb (daysTo y (k + 1)) d) 11) }

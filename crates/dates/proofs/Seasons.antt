@@ -9,6 +9,7 @@ use native.Mathlib.Omega.{arith}
 use borrow.Author.Tests.{le-leb, lt-leb, leb-true, eqb-true}
 use lib.Dec.{leb, eqb}
 use lib.ListN.{getD}
+use Rattle.over.specs.Limits.{Within}
 use Rattle.over.specs.Over.{joined, allOver}
 use Rattle.over.proofs.Bools.{both}
 use Rattle.over.proofs.Tests.{all-at}
@@ -22,16 +23,11 @@ use Rattle.dates.proofs.Months.{days-table, month-range}
 abbrev pub seasons : List ℕ
 seasons = 1 ∷ 1 ∷ 2 ∷ 2 ∷ 2 ∷ 3 ∷ 3 ∷ 3 ∷ 4 ∷ 4 ∷ 4 ∷ 1 ∷ []
 
--- what a caller needs to index by season
-pub record Season (s : ℕ) : Type 0 where
-  pub from : 1 ≤ s
-  pub to : s ≤ 4
-
 -- one test of the whole table: it is the month's season, and 1 to 4
 right : ℕ → Bool
 right k = eqb (getD seasons k 0) (seasonOfMonth (k + 1)) && (leb 1 (getD seasons k 0) && leb (getD seasons k 0) 4)
 
-season-table : (k : ℕ) → k < 12 → (getD seasons k 0 ≡ seasonOfMonth (k + 1)) × Season (getD seasons k 0)
+season-table : (k : ℕ) → k < 12 → (getD seasons k 0 ≡ seasonOfMonth (k + 1)) × Within 1 4 (getD seasons k 0)
 unfolding joined right allOver
 season-table k h =
     let v = getD seasons k 0 in
@@ -46,12 +42,13 @@ season-of y d =
     let e : monthOf y d - 1 + 1 ≡ monthOf y d = omega arith in
     season-table (monthOf y d - 1) (omega arith) .0 ∙ ap seasonOfMonth e
 
-pub season-range : (y d : ℕ) → Season (seasonOf y d)
+-- seasons are 1 to 4: what a caller needs to index by one
+pub season-range : (y d : ℕ) → Within 1 4 (seasonOf y d)
 season-range y d =
     let h = month-range y d in
     rw (season-of y d) at (season-table (monthOf y d - 1) (omega arith) .1)
 
-pub period-season-range : (y k : ℕ) → Season (periodSeason y k)
+pub period-season-range : (y k : ℕ) → Within 1 4 (periodSeason y k)
 unfolding periodSeason
 period-season-range y k = season-range _ _
 

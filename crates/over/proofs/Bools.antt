@@ -1,10 +1,13 @@
--- Laws of two tests taken together, and of a test that decides between values.
+-- Laws of two tests taken together, of a test that decides between values, and of the test of two limits.
 -- Assumes nothing.
 use mathlib.Core.Path.{_≡_, refl, sym, _∙_}
 use mathlib.Core.Bool.{Bool, true, false, cond, _&&_, _||_, false≢true}
 use mathlib.Core.Logic.{_⊎_, inl, inr, _↔_}
-use Prim.Native.Nat.{_≤_}
+use Prim.Native.Nat.{ℕ, _≤_}
 use native.Mathlib.Omega.{arith}
+use borrow.Author.Tests.{le-ltb, ltb-false}
+use lib.Dec.{ltb}
+use Rattle.over.specs.Limits.{Within, outside}
 
 -- a test passes or fails, and says so
 pub decided : (b : Bool) → (b ≡ true) ⊎ (b ≡ false)
@@ -36,3 +39,10 @@ bit-le false = omega arith
 pub refutes : {A : Type 0} (t : Bool) → (t ≡ false) ↔ A → (t ≡ true) ↔ (A → ⊥)
 refutes true h = (λ e a. clash refl (h .1 a), λ n. refl)
 refutes false h = (λ e. absurd (clash e refl), λ n. absurd (n (h .0 refl)))
+
+-- a number lies outside two limits exactly when it is not within them
+pub within : (a b x : ℕ) → (outside a b x ≡ false) ↔ Within a b x
+within a b x = (
+  λ e. let n = neither (ltb x a) (ltb b x) e in record { from = ltb-false x a (n .0); to = ltb-false b x (n .1) },
+  λ h. simp (le-ltb x a (h .from), le-ltb b x (h .to)),
+)

@@ -5,3 +5,4 @@ pub mod Largest
 pub mod Tests
 pub mod First
 pub mod Tables
+pub mod Digits

@@ -2,7 +2,7 @@
 -- these words. Each goes by the top, the way a loop goes: one place more is one step more.
 use mathlib.Core.Bool.{Bool, true, false, cond, _&&_, _||_}
 use mathlib.Core.List.{List, [], _∷_, _++_}
-use Prim.Native.Nat.{ℕ, zero, suc, _+_, max}
+use Prim.Native.Nat.{ℕ, zero, suc, _+_, _-_, _*_, _/_, _%_, _^_, max}
 use lib.Dec.{ltb}
 
 -- the start, joined with f 0, then with f 1, .. , last with f (n - 1)
@@ -38,3 +38,11 @@ firstOver p (suc n) = cond (ltb (firstOver p n) n) (firstOver p n) (cond (p n) n
 -- the list of f 0, .. , f (n - 1): how an array is named
 unfoldable pub table : {A : Type 0} → (ℕ → A) → ℕ → List A
 table f n = joined _++_ [] (λ k. f k ∷ []) n
+
+-- the number that f 0, .. , f (n - 1) are the digits of, in a base, the first digit on top
+unfoldable pub inBase : ℕ → (ℕ → ℕ) → ℕ → ℕ
+inBase base f n = joined (λ a d. base * a + d) 0 f n
+
+-- digit k of the n digits of a number x, the first on top
+abbrev pub digitOf : ℕ → ℕ → ℕ → ℕ → ℕ
+digitOf base n x k = x / base ^ (n - 1 - k) % base
