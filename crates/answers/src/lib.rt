@@ -14,6 +14,9 @@ pub const LAST_LEVEL: u8 = 7;
 // Days on a holiday list.
 pub const HOLIDAYS_MOST: usize = 40;
 
+// Quarters in a season's windows.
+pub const WINDOWS_MOST: usize = 40;
+
 // Is a year outside the charge years (answer 1)? Any year has an answer.
 pub fn year_out(year: u16) -> bool
     ensures { λ r. ⌜ r ≡ yearOut year ⌝ }

@@ -6,3 +6,4 @@ pub mod Tests
 pub mod First
 pub mod Tables
 pub mod Digits
+pub mod Buffers

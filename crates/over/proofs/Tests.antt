@@ -30,6 +30,10 @@ module _ (p : ℕ → Bool) where
   unfolding countOver
   count-more n = sum-more _ n
 
+  -- a turn of a loop that counts
+  pub counted : (n : ℕ) {m b : ℕ} → m ≡ countOver p n → b ≡ cond (p n) 1 0 → m + b ≡ countOver p (n + 1)
+  counted n e f = rw (count-more n, e, f)
+
   pub count-add : (a b : ℕ) → countOver p (a + b) ≡ countOver p a + countOver (λ k. p (a + k)) b
   unfolding countOver
   count-add a b = sum-add _ a b

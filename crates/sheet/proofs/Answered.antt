@@ -1,0 +1,110 @@
+-- The cases of reading and writing a sheet, each with the code's answer on the left.
+-- Assumes nothing.
+use mathlib.Core.Path.{_≡_, refl, sym, ap, _∙_}
+use mathlib.Core.Bool.{Bool, true, false, cond, not}
+use mathlib.Core.Logic.{_↔_, _⊎_, inl, inr}
+use mathlib.Core.List.{List, _++_}
+use Prim.Native.Nat.{ℕ, _≤_, _<_}
+use native.Mathlib.Omega.{arith}
+use native.Mathlib.Decide.{ℕ-discrete}
+use borrow.Author.Tests.{lt-ltb, le-ltb, eq-eqb, ne-eqb, eqb-true, not-false}
+use lib.Dec.{ltb, eqb}
+use lib.ListN.{length, drop, getD}
+use Rattle.over.specs.Over.{anyOver}
+use Rattle.over.proofs.Bools.{decided}
+use Rattle.over.proofs.Tests.{any-fails, all-passed}
+use Rattle.answers.specs.Ruling.{yearOut, levelOut}
+use Rattle.answers.specs.Said.{Said, only}
+use Rattle.sheet.specs.declared.Sheet.{Sheet}
+use Rattle.sheet.specs.Windows.{tooFull}
+use Rattle.sheet.specs.Bytes.{mark, versionAt, yearAt, levelAt, sheetSize, sheetVersion, twoAt, windowsIn, sheetIn, sheetBytes, unmarked}
+use Rattle.sheet.specs.Rows.{Marked, Formed}
+use Rattle.sheet.specs.Answers.{readAnswer, readSheet, readOf, SheetRead, blank, writeAnswer, written}
+
+module _ (b : List ℕ) where
+  -- the sheet beside an answer: the fixed one beside a refusal, what the bytes say beside 0
+  pub read-refused : {n : ℕ} → only n ≡ readAnswer b → eqb n 0 ≡ false → record { answer = only n; sheet = blank } ≡ readOf b
+  unfolding readSheet
+  read-refused e z = rw (← e, z)
+
+  pub read-taken : only 0 ≡ readAnswer b → record { answer = only 0; sheet = sheetIn b } ≡ readOf b
+  unfolding readSheet
+  read-taken e = rw (← e)
+
+  -- the mark by its test
+  pub marked : (unmarked b ≡ false) ↔ Marked b
+  unfolding unmarked
+  marked = (
+    λ e k l. eqb-true _ _ (not-false _ (all-passed (λ j. not (eqb (getD b j 0) (getD mark j 0))) versionAt e .fails k l)),
+    λ h. any-fails (λ j. not (eqb (getD b j 0) (getD mark j 0))) versionAt (λ k l. ap not (eq-eqb _ _ (h k l))),
+  )
+
+  -- the answers, in their order
+  pub read-form : (Formed b → ⊥) → only 12 ≡ readAnswer b
+  unfolding readAnswer
+  read-form h = go (ℕ-discrete (length b) sheetSize) (decided (unmarked b)) (ℕ-discrete (twoAt b versionAt) sheetVersion)
+    where
+      go : Dec (length b ≡ sheetSize) → (unmarked b ≡ true) ⊎ (unmarked b ≡ false) → Dec (twoAt b versionAt ≡ sheetVersion) → only 12 ≡ readAnswer b
+      go (no s) m v = simp (ne-eqb (length b) sheetSize s)
+      go (yes s) (inl m) v = simp (eq-eqb (length b) sheetSize s, m)
+      go (yes s) (inr m) (no v) = simp (eq-eqb (length b) sheetSize s, m, ne-eqb (twoAt b versionAt) sheetVersion v)
+      go (yes s) (inr m) (yes v) = absurd (h (record { size = s; marked = marked .0 m; version = v }))
+
+  module _ (f : Formed b) where
+    size : eqb (length b) sheetSize ≡ true
+    size = eq-eqb (length b) sheetSize (f .size)
+
+    version : eqb (twoAt b versionAt) sheetVersion ≡ true
+    version = eq-eqb (twoAt b versionAt) sheetVersion (f .version)
+
+    pub read-year : yearOut (twoAt b yearAt) ≡ true → only 1 ≡ readAnswer b
+    unfolding readAnswer
+    read-year y = simp (size, marked .1 (f .marked), version, y)
+
+    module _ (y : yearOut (twoAt b yearAt) ≡ false) where
+      pub read-level : levelOut (getD b levelAt 0) ≡ true → only 2 ≡ readAnswer b
+      unfolding readAnswer
+      read-level l = simp (size, marked .1 (f .marked), version, y, l)
+
+      module _ (l : levelOut (getD b levelAt 0) ≡ false) where
+        pub read-full : tooFull (windowsIn b) ≡ true → only 12 ≡ readAnswer b
+        unfolding readAnswer
+        read-full w = simp (size, marked .1 (f .marked), version, y, l, w)
+
+        pub read-accepted : tooFull (windowsIn b) ≡ false → only 0 ≡ readAnswer b
+        unfolding readAnswer
+        read-accepted w = simp (size, marked .1 (f .marked), version, y, l, w)
+
+module _ (s : Sheet) where
+  -- an answer, and what the lent buffer then holds
+  pub write-refused : (out : List ℕ) {n : ℕ} → only n ≡ writeAnswer s (length out) → eqb n 0 ≡ false → (only n ≡ writeAnswer s (length out)) × (out ≡ written s out)
+  unfolding written
+  write-refused out e z = (e, rw (← e, z))
+
+  pub write-taken : (out next : List ℕ) → only 0 ≡ writeAnswer s (length out) → next ≡ sheetBytes s ++ drop sheetSize out → (only 0 ≡ writeAnswer s (length out)) × (next ≡ written s out)
+  unfolding written
+  write-taken out next e f = (e, rw (← e) f)
+
+  module _ (room : ℕ) where
+    pub write-short : room < sheetSize → only 14 ≡ writeAnswer s room
+    unfolding writeAnswer
+    write-short h = simp (lt-ltb room sheetSize h)
+
+    module _ (h : sheetSize ≤ room) where
+      pub write-year : yearOut (s .year) ≡ true → only 1 ≡ writeAnswer s room
+      unfolding writeAnswer
+      write-year y = simp (le-ltb room sheetSize h, y)
+
+      module _ (y : yearOut (s .year) ≡ false) where
+        pub write-level : levelOut (s .level) ≡ true → only 2 ≡ writeAnswer s room
+        unfolding writeAnswer
+        write-level l = simp (le-ltb room sheetSize h, y, l)
+
+        module _ (l : levelOut (s .level) ≡ false) where
+          pub write-full : tooFull (s .windows) ≡ true → only 12 ≡ writeAnswer s room
+          unfolding writeAnswer
+          write-full f = simp (le-ltb room sheetSize h, y, l, f)
+
+          pub write-accepted : tooFull (s .windows) ≡ false → only 0 ≡ writeAnswer s room
+          unfolding writeAnswer
+          write-accepted f = simp (le-ltb room sheetSize h, y, l, f)

@@ -1,0 +1,3 @@
+pub mod Windows
+pub mod Bytes
+pub mod Answered

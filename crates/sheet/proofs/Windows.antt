@@ -1,0 +1,63 @@
+-- Laws of a sheet's windows: which quarter is set, how many are set in a season, and the chosen quarters laid flat.
+-- Assumes nothing.
+use mathlib.Core.Path.{_≡_, refl, sym, ap, _∙_}
+use mathlib.Core.Bool.{Bool, true, false, _||_}
+use mathlib.Core.Logic.{_↔_}
+use mathlib.Core.List.{List, []}
+use Prim.Native.Nat.{ℕ, _+_, _-_, _*_, _/_, _%_, _≤_, _<_}
+use native.Mathlib.Omega.{arith}
+use borrow.Author.Tests.{lt-ltb, le-ltb, le-leb, lt-leb, ltb-false}
+use lib.Dec.{ltb}
+use lib.ListN.{length, getD}
+use Rattle.over.specs.Limits.{Within}
+use Rattle.over.specs.Over.{joined, anyOver}
+use Rattle.over.proofs.Tests.{any-fails, all-passed}
+use Rattle.over.proofs.Tables.{length-table, getD-table}
+use Rattle.answers.specs.Ruling.{dayQuarters, windowsMost}
+use Rattle.sheet.specs.Windows.{seasons, places, placeOf, isSet, setIn, tooFull, Roomy, flatOf}
+
+-- is a quarter set: the code's cases
+module _ (w : List Bool) (s q : ℕ) where
+  pub set-early : s < 1 → false ≡ isSet w s q
+  unfolding isSet
+  set-early h = simp (lt-leb 1 s h)
+
+  pub set-late : 1 ≤ s → seasons < s → false ≡ isSet w s q
+  unfolding isSet
+  set-late h l = simp (le-leb 1 s h, lt-leb s seasons l)
+
+  pub set-past : Within 1 seasons s → dayQuarters ≤ q → false ≡ isSet w s q
+  unfolding isSet
+  set-past h l = simp (le-leb 1 s (h .from), le-leb s seasons (h .to), le-ltb q dayQuarters l)
+
+  pub set-at : Within 1 seasons s → q < dayQuarters → getD w (placeOf s q) false ≡ isSet w s q
+  unfolding isSet
+  set-at h l = simp (le-leb 1 s (h .from), le-leb s seasons (h .to), lt-ltb q dayQuarters l)
+
+-- a season is too full exactly when not every one has room
+full-at : (w : List Bool) → tooFull w ≡ false → (k : ℕ) → k < seasons → setIn w (k + 1) ≤ windowsMost
+unfolding tooFull
+full-at w e k l = ltb-false windowsMost (setIn w (k + 1)) (all-passed (λ j. ltb windowsMost (setIn w (j + 1))) seasons e .fails k l)
+
+pub roomy : (w : List Bool) → (tooFull w ≡ false) ↔ Roomy w
+unfolding tooFull
+roomy w = (
+  λ e s h. let p : s - 1 + 1 ≡ s = omega arith in rw p at (full-at w e (s - 1) (omega arith)),
+  λ h. any-fails (λ j. ltb windowsMost (setIn w (j + 1))) seasons (λ k l. le-ltb windowsMost (setIn w (k + 1)) (h (k + 1) (record { from = omega arith; to = omega arith }))),
+)
+
+pub too-full : (w : List Bool) (a b c d : ℕ) → a ≡ setIn w 1 → b ≡ setIn w 2 → c ≡ setIn w 3 → d ≡ setIn w 4 → (ltb windowsMost a || ltb windowsMost b || ltb windowsMost c || ltb windowsMost d) ≡ tooFull w
+unfolding tooFull anyOver joined
+too-full w a b c d p q r s = rw (p, q, r, s)
+
+-- the chosen quarters, laid flat
+pub length-flat : (chosen : List (List Bool)) → length (flatOf chosen) ≡ places
+unfolding flatOf
+length-flat chosen = length-table _ places
+
+pub flat-at : (chosen : List (List Bool)) (s q : ℕ) → Within 1 seasons s → q < dayQuarters → getD (flatOf chosen) (placeOf s q) false ≡ getD (getD chosen (s - 1) []) q false
+unfolding flatOf
+flat-at chosen s q h l =
+    let d : placeOf s q / dayQuarters ≡ s - 1 = omega arith in
+    let m : placeOf s q % dayQuarters ≡ q = omega arith in
+    getD-table (λ p. getD (getD chosen (p / dayQuarters) []) (p % dayQuarters) false) places (placeOf s q) false (omega arith) ∙ rw (d, m)

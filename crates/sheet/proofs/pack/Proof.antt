@@ -1,0 +1,44 @@
+-- `sheet::pack` meets its contract. The loop's invariant: the first j quarters are packed.
+-- Assumes nothing.
+use mathlib.Core.Path.{_≡_, sym}
+use Prim.Native.Nat.{_≤_, _<_, _-_}
+use native.Mathlib.Omega.{arith}
+use borrow.Author.Needs.{needs}
+use Rattle.over.specs.Over.{inBase}
+use Rattle.sheet.specs.Bytes.{windowByte}
+use Rattle.over.proofs.Digits.{base-none}
+use Rattle.sheet.proofs.Bytes.{quarter, packs}
+use Rattle.sheet.proofs.pack.Statement.{statement}
+use Rattle.sheet.proofs.pack.Tie as tie
+
+abbrev Inv-loop : tie.InvT-loop
+Inv-loop windows k byte₀ j₀ byte j = (j ≤ 8) × (byte < 256) × (byte ≡ inBase 2 (quarter windows k) j)
+
+abbrev μ-loop : tie.MeasureT-loop
+μ-loop windows k byte₀ j₀ byte j = 8 - j
+
+loop-again : tie.Need-loop-again Inv-loop μ-loop
+loop-again c = let a = c .before .before .before .before .args in packs (a .windows .now) (a .k) _ (omega arith) (c .before .before .before .loop .inv .2) (c .one-if .ensures .0)
+
+returns : tie.Need-returns Inv-loop μ-loop
+unfolding windowByte
+returns c = let e : c .before .loop .j ≡ 8 = omega arith in rw e at (c .before .loop .inv .2)
+
+pub pack-spec : {M : Type 1} → statement M
+pack-spec =
+    tie.close
+    (tie.spec
+    Inv-loop
+    μ-loop
+    (λ c. (omega arith, omega arith, sym (base-none 2 _)))  -- loop-holds
+    (λ c. search needs)  -- mul-byte
+    (λ c. search needs)  -- mul-one-if
+    (λ c. search needs)  -- add-one-if
+    (λ c. search needs)  -- element-copy-out-one-if
+    (λ c κs. search needs)  -- one-if-requires
+    (λ c. search needs)  -- add-byte
+    (λ c. search needs)  -- add-j
+    (λ c. search needs)  -- loop-less
+    loop-again
+    (λ c. search needs)  -- cast-result
+    returns)

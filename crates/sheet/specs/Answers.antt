@@ -1,0 +1,69 @@
+-- Document 01, Numbered answers. Reading a sheet alone: "sheet length, mark, version (12), year (1), level (2), set bits (12)".
+-- Writing one: 14 for a buffer shorter than 56 bytes, then 1, 2, 12. "An accepted sheet fills 56 bytes; all further bytes stay."
+use mathlib.Core.Bool.{Bool, false, cond, not}
+use mathlib.Core.List.{List, _++_}
+use Prim.Native.Nat.{ℕ}
+use lib.Dec.{ltb, eqb}
+use lib.ListN.{length, drop, getD, replicate}
+use Rattle.answers.specs.Ruling.{yearOut, levelOut}
+use Rattle.answers.specs.Said.{Said, only}
+use Rattle.sheet.specs.declared.Sheet.{Sheet}
+use Rattle.sheet.specs.declared.SheetAnswer.{SheetAnswer}
+use Rattle.sheet.specs.declared.SheetAnswer.the-variants.{Accepted, Short, YearOut, LevelOut, Malformed}
+use Rattle.sheet.specs.declared.Reading.{Reading}
+use Rattle.sheet.specs.Windows.{places, tooFull}
+use Rattle.sheet.specs.Bytes.{yearAt, levelAt, sheetSize, twoAt, windowsIn, sheetIn, sheetBytes, unmarked, versionOut}
+
+-- the number of each case of the code's answer
+abbrev pub saidOfSheet : SheetAnswer → Said
+saidOfSheet Accepted = only 0
+saidOfSheet Short = only 14
+saidOfSheet YearOut = only 1
+saidOfSheet LevelOut = only 2
+saidOfSheet Malformed = only 12
+
+-- reading: the answer, and the sheet beside it, which is one fixed sheet where the bytes are refused
+unfoldable pub readAnswer : List ℕ → Said
+readAnswer b =
+    cond (not (eqb (length b) sheetSize)) (only 12)
+    (cond (unmarked b) (only 12)
+    (cond (versionOut b) (only 12)
+    (cond (yearOut (twoAt b yearAt)) (only 1)
+    (cond (levelOut (getD b levelAt 0)) (only 2)
+    (cond (tooFull (windowsIn b)) (only 12)
+    (only 0))))))
+
+abbrev pub blank : Sheet
+blank = record { year = 0; level = 0; windows = replicate places false }
+
+abbrev pub refusal : SheetAnswer → Reading
+refusal answer = record { answer = answer; sheet = blank }
+
+-- what a number makes of a state or a buffer: only 0 changes it
+abbrev pub onlyWhere0 : {A : Type 0} → Said → A → A → A
+onlyWhere0 answer changed kept = cond (eqb (answer .number) 0) changed kept
+
+unfoldable pub readSheet : List ℕ → Sheet
+readSheet b = onlyWhere0 (readAnswer b) (sheetIn b) blank
+
+pub record SheetRead : Type 0 where
+  pub answer : Said
+  pub sheet : Sheet
+
+abbrev pub shownOf : Reading → SheetRead
+shownOf r = record { answer = saidOfSheet (r .answer); sheet = r .sheet }
+
+abbrev pub readOf : List ℕ → SheetRead
+readOf b = record { answer = readAnswer b; sheet = readSheet b }
+
+-- writing: the answer, and what the lent buffer then holds
+unfoldable pub writeAnswer : Sheet → ℕ → Said
+writeAnswer s room =
+    cond (ltb room sheetSize) (only 14)
+    (cond (yearOut (s .year)) (only 1)
+    (cond (levelOut (s .level)) (only 2)
+    (cond (tooFull (s .windows)) (only 12)
+    (only 0))))
+
+unfoldable pub written : Sheet → List ℕ → List ℕ
+written s buffer = onlyWhere0 (writeAnswer s (length buffer)) (sheetBytes s ++ drop sheetSize buffer) buffer

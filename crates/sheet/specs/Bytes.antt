@@ -1,0 +1,82 @@
+-- Document 01, Window sheet: "56 bytes, numbers here and in files with the high byte first: "HLZ", version 1 (16 bits), year (16
+-- bits), level (8 bits), then 12 bytes for each season 1 to 4; quarter 0 is the top bit of the first byte."
+use mathlib.Core.Bool.{Bool, false, cond, not}
+use mathlib.Core.List.{List, [], _∷_, _++_}
+use Prim.Native.Nat.{ℕ, _+_, _-_, _*_, _/_, _%_}
+use lib.Dec.{ltb, eqb}
+use lib.ListN.{getD}
+use Rattle.over.specs.Over.{anyOver, table, inBase, digitOf}
+use Rattle.sheet.specs.declared.Sheet.{Sheet}
+use Rattle.sheet.specs.Windows.{places}
+
+-- the fields in order: each starts where the one before it ends
+abbrev pub mark : List ℕ
+mark = 72 ∷ 76 ∷ 90 ∷ []
+
+abbrev pub versionAt : ℕ
+versionAt = 3
+
+abbrev pub yearAt : ℕ
+yearAt = versionAt + 2
+
+abbrev pub levelAt : ℕ
+levelAt = yearAt + 2
+
+abbrev pub windowsAt : ℕ
+windowsAt = levelAt + 1
+
+abbrev pub windowBytes : ℕ
+windowBytes = 48
+
+abbrev pub sheetSize : ℕ
+sheetSize = windowsAt + windowBytes
+
+abbrev pub sheetVersion : ℕ
+sheetVersion = 1
+
+-- the 16 bits at place i, high byte first; and a number as two bytes
+unfoldable pub twoAt : List ℕ → ℕ → ℕ
+twoAt b i = inBase 256 (λ k. getD b (i + k) 0) 2
+
+abbrev pub twoBytes : ℕ → List ℕ
+twoBytes n = n / 256 ∷ n % 256 ∷ []
+
+-- a set quarter is the digit 1
+abbrev pub bit : Bool → ℕ
+bit set = cond set 1 0
+
+-- byte k of the windows: eight quarters, the earliest at the top
+unfoldable pub windowByte : List Bool → ℕ → ℕ
+windowByte windows k = inBase 2 (λ j. bit (getD windows (8 * k + j) false)) 8
+
+-- the bytes of a sheet
+unfoldable pub bytesOf : ℕ → ℕ → List Bool → List ℕ
+bytesOf year level windows =
+    mark ++ (twoBytes sheetVersion ++ (twoBytes year ++ ((level ∷ []) ++ table (windowByte windows) windowBytes)))
+
+-- byte i of a sheet with these first eight bytes
+abbrev pub byteAt : List ℕ → List Bool → ℕ → ℕ
+byteAt head windows i = cond (ltb i windowsAt) (getD head i 0) (windowByte windows (i - windowsAt))
+
+abbrev pub sheetBytes : Sheet → List ℕ
+sheetBytes s = bytesOf (s .year) (s .level) (s .windows)
+
+-- the meaning of a sheet's bytes
+abbrev pub bitOf : ℕ → ℕ → Bool
+bitOf byte j = eqb (digitOf 2 8 byte j) 1
+
+abbrev pub windowAt : List ℕ → ℕ → Bool
+windowAt b p = bitOf (getD b (windowsAt + p / 8) 0) (p % 8)
+
+unfoldable pub windowsIn : List ℕ → List Bool
+windowsIn b = table (windowAt b) places
+
+abbrev pub sheetIn : List ℕ → Sheet
+sheetIn b = record { year = twoAt b yearAt; level = getD b levelAt 0; windows = windowsIn b }
+
+-- the mark is not "HLZ"; the version is not 1
+unfoldable pub unmarked : List ℕ → Bool
+unmarked b = anyOver (λ k. not (eqb (getD b k 0) (getD mark k 0))) versionAt
+
+abbrev pub versionOut : List ℕ → Bool
+versionOut b = not (eqb (twoAt b versionAt) sheetVersion)

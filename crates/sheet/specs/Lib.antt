@@ -1,0 +1,4 @@
+pub mod Windows
+pub mod Bytes
+pub mod Answers
+pub mod Rows

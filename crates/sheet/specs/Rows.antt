@@ -1,0 +1,34 @@
+-- Document 01, Numbered answers: what each number is given for, where no number before it in the call's order is given. In plain
+-- orders; the bytes b, or the meaning s and the room of the lent buffer.
+use mathlib.Core.Path.{_≡_}
+use mathlib.Core.List.{List}
+use Prim.Native.Nat.{ℕ, _≤_, _<_}
+use lib.ListN.{length, getD}
+use Rattle.answers.specs.Ruling.{ChargeYear, Level}
+use Rattle.sheet.specs.declared.Sheet.{Sheet}
+use Rattle.sheet.specs.Windows.{Roomy}
+use Rattle.sheet.specs.Bytes.{mark, versionAt, yearAt, levelAt, sheetSize, sheetVersion, twoAt, windowsIn}
+
+-- "HLZ" stands at the start
+abbrev pub Marked : List ℕ → Type 0
+Marked b = (k : ℕ) → k < versionAt → getD b k 0 ≡ getD mark k 0
+
+-- length, mark and version are as they should be
+pub record Formed (b : List ℕ) : Type 0 where
+  pub size : length b ≡ sheetSize
+  pub marked : Marked b
+  pub version : twoAt b versionAt ≡ sheetVersion
+
+pub data ReadRow (b : List ℕ) : ℕ → Type 0 where
+  malformed : (Formed b → ⊥) → ReadRow b 12
+  one : Formed b → (ChargeYear (twoAt b yearAt) → ⊥) → ReadRow b 1
+  two : Formed b → ChargeYear (twoAt b yearAt) → (Level (getD b levelAt 0) → ⊥) → ReadRow b 2
+  full : Formed b → ChargeYear (twoAt b yearAt) → Level (getD b levelAt 0) → (Roomy (windowsIn b) → ⊥) → ReadRow b 12
+  zero : Formed b → ChargeYear (twoAt b yearAt) → Level (getD b levelAt 0) → Roomy (windowsIn b) → ReadRow b 0
+
+pub data WriteRow (s : Sheet) (room : ℕ) : ℕ → Type 0 where
+  fourteen : room < sheetSize → WriteRow s room 14
+  one : sheetSize ≤ room → (ChargeYear (s .year) → ⊥) → WriteRow s room 1
+  two : sheetSize ≤ room → ChargeYear (s .year) → (Level (s .level) → ⊥) → WriteRow s room 2
+  twelve : sheetSize ≤ room → ChargeYear (s .year) → Level (s .level) → (Roomy (s .windows) → ⊥) → WriteRow s room 12
+  zero : sheetSize ≤ room → ChargeYear (s .year) → Level (s .level) → Roomy (s .windows) → WriteRow s room 0
