@@ -9,10 +9,10 @@ the days that carry windows are worked out week by week, as the paper tells them
 """
 import datetime
 import functools
-import pathlib
 import random
 import struct
-import sys
+
+from kept import keep
 
 DAYS = range(368)  # day 0 and the days past the year's end too
 SEASON = {12: 1, 1: 1, 2: 1, 3: 2, 4: 2, 5: 2, 6: 3, 7: 3, 8: 3, 9: 4, 10: 4, 11: 4}
@@ -202,16 +202,4 @@ def made():
     return records, ("\n".join(lines) + "\n").encode()
 
 
-def main():
-    folder = pathlib.Path("crates/calendar_cases")
-    files = dict(zip(("stdin", "stdout"), made()))
-    if sys.argv[1:] == ["--check"]:
-        same = all((folder / name).read_bytes() == data for name, data in files.items())
-        print("as it should be" if same else "stdin or stdout is not what this script makes")
-        sys.exit(0 if same else 1)
-    for name, data in files.items():
-        (folder / name).write_bytes(data)
-    print({name: len(data) for name, data in files.items()})
-
-
-main()
+keep("crates/calendar_cases", dict(zip(("stdin", "stdout"), made())))

@@ -3,6 +3,7 @@
 use mathlib.Core.Bool.{Bool, cond}
 use mathlib.Core.List.{List, [], _∷_}
 use Prim.Native.Nat.{ℕ}
+use lib.Dec.{eqb}
 
 pub record Said : Type 0 where
   pub number : ℕ
@@ -11,6 +12,10 @@ pub record Said : Type 0 where
 -- a number that carries nothing
 abbrev pub only : ℕ → Said
 only n = record { number = n; carries = [] }
+
+-- what stands after an answer, in a state or a lent buffer: the new value where the number is 0, else the old one
+abbrev pub after : {A : Type 0} → Said → A → A → A
+after answer new old = cond (eqb (answer .number) 0) new old
 
 -- 0 with yes (1) or no (0)
 abbrev pub yesNo : Bool → Said

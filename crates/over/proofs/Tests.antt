@@ -47,6 +47,11 @@ module _ (p : ℕ → Bool) where
   count-all zero h = count-none
   count-all (suc n) h = rw (count-suc, count-all n (λ k l. h k (omega arith)), h n (omega arith)) (omega arith)
 
+  -- none passes: nothing is counted
+  pub count-fails : (n : ℕ) → ((k : ℕ) → k < n → p k ≡ false) → countOver p n ≡ 0
+  count-fails zero h = count-none
+  count-fails (suc n) h = rw (count-suc, count-fails n (λ k l. h k (omega arith)), h n (omega arith))
+
 module _ (p q : ℕ → Bool) (n : ℕ) where
   pub count-cong : ((k : ℕ) → k < n → p k ≡ q k) → countOver p n ≡ countOver q n
   unfolding countOver

@@ -1,25 +1,23 @@
 -- The cases of reading and writing a sheet, each with the code's answer on the left.
 -- Assumes nothing.
-use mathlib.Core.Path.{_≡_, refl, sym, ap, _∙_}
-use mathlib.Core.Bool.{Bool, true, false, cond, not}
+use mathlib.Core.Path.{_≡_, ap}
+use mathlib.Core.Bool.{true, false, not}
 use mathlib.Core.Logic.{_↔_, _⊎_, inl, inr}
 use mathlib.Core.List.{List, _++_}
 use Prim.Native.Nat.{ℕ, _≤_, _<_}
-use native.Mathlib.Omega.{arith}
 use native.Mathlib.Decide.{ℕ-discrete}
 use borrow.Author.Tests.{lt-ltb, le-ltb, eq-eqb, ne-eqb, eqb-true, not-false}
-use lib.Dec.{ltb, eqb}
+use lib.Dec.{eqb}
 use lib.ListN.{length, drop, getD}
-use Rattle.over.specs.Over.{anyOver}
-use Rattle.over.proofs.Bools.{decided}
+use Rattle.over.proofs.Bools.{decided, clash}
 use Rattle.over.proofs.Tests.{any-fails, all-passed}
 use Rattle.answers.specs.Ruling.{yearOut, levelOut}
-use Rattle.answers.specs.Said.{Said, only}
+use Rattle.answers.specs.Said.{only}
 use Rattle.sheet.specs.declared.Sheet.{Sheet}
 use Rattle.sheet.specs.Windows.{tooFull}
 use Rattle.sheet.specs.Bytes.{mark, versionAt, yearAt, levelAt, sheetSize, sheetVersion, twoAt, windowsIn, sheetIn, sheetBytes, unmarked}
 use Rattle.sheet.specs.Rows.{Marked, Formed}
-use Rattle.sheet.specs.Answers.{readAnswer, readSheet, readOf, SheetRead, blank, writeAnswer, written}
+use Rattle.sheet.specs.Answers.{readAnswer, readSheet, readOf, blank, writeAnswer, written}
 
 module _ (b : List ℕ) where
   -- the sheet beside an answer: the fixed one beside a refusal, what the bytes say beside 0
@@ -38,6 +36,16 @@ module _ (b : List ℕ) where
     λ e k l. eqb-true _ _ (not-false _ (all-passed (λ j. not (eqb (getD b j 0) (getD mark j 0))) versionAt e .fails k l)),
     λ h. any-fails (λ j. not (eqb (getD b j 0) (getD mark j 0))) versionAt (λ k l. ap not (eq-eqb _ _ (h k l))),
   )
+
+  -- the form is decided
+  pub form : Dec (Formed b)
+  form = go (ℕ-discrete (length b) sheetSize) (decided (unmarked b)) (ℕ-discrete (twoAt b versionAt) sheetVersion)
+    where
+      go : Dec (length b ≡ sheetSize) → (unmarked b ≡ true) ⊎ (unmarked b ≡ false) → Dec (twoAt b versionAt ≡ sheetVersion) → Dec (Formed b)
+      go (no s) m v = no (λ f. s (f .size))
+      go (yes s) (inl m) v = no (λ f. clash m (marked .1 (f .marked)))
+      go (yes s) (inr m) (no v) = no (λ f. v (f .version))
+      go (yes s) (inr m) (yes v) = yes (record { size = s; marked = marked .0 m; version = v })
 
   -- the answers, in their order
   pub read-form : (Formed b → ⊥) → only 12 ≡ readAnswer b

@@ -1,23 +1,22 @@
 -- Laws of a sheet's bytes: their number, each of them, and that the bits of a byte are the quarters it was made of.
 -- Assumes nothing.
 use mathlib.Core.Path.{_≡_, refl, sym, ap, _∙_}
-use mathlib.Core.Bool.{Bool, true, false, cond, not, _||_}
+use mathlib.Core.Bool.{Bool, true, false, not, _||_}
 use mathlib.Core.List.{List, [], _∷_, _++_}
-use Prim.Native.Nat.{ℕ, zero, suc, _+_, _-_, _*_, _/_, _%_, _^_, _≤_, _<_}
+use Prim.Native.Nat.{ℕ, zero, suc, _+_, _-_, _*_, _^_, _≤_, _<_}
 use native.Mathlib.Nat.{add-zero}
 use native.Mathlib.Decide.{decLt}
 use native.Mathlib.Omega.{arith}
 use borrow.Author.Tests.{lt-ltb, le-ltb}
-use lib.Dec.{ltb, eqb}
-use lib.ListN.{length, getD, length-append, List·getD-append}
+use lib.Dec.{eqb}
+use lib.ListN.{length, getD, List·getD-append}
 use lib.Seq.{getD-append-add}
 use lib.Pow.{pow-mono}
 use Rattle.over.specs.Over.{joined, anyOver, inBase, digitOf, table}
 use Rattle.over.proofs.Bools.{bit-le}
 use Rattle.over.proofs.Tables.{length-table, getD-table}
-use Rattle.over.proofs.Digits.{base-none, base-more, base-cong, base-lt, base-digit, base-back}
-use Rattle.sheet.specs.Windows.{places}
-use Rattle.sheet.specs.Bytes.{mark, yearAt, levelAt, windowsAt, windowBytes, sheetSize, sheetVersion, twoAt, twoBytes, bit, windowByte, bytesOf, byteAt, bitOf, windowAt, windowsIn, unmarked, versionOut}
+use Rattle.over.proofs.Digits.{base-more, base-cong, base-lt, base-digit, base-back}
+use Rattle.sheet.specs.Bytes.{mark, windowsAt, windowBytes, sheetSize, sheetVersion, twoAt, twoBytes, bit, windowByte, bytesOf, byteAt, bitOf, unmarked}
 
 -- two bytes
 pub two-at : (b : List ℕ) (i : ℕ) → twoAt b i ≡ 256 * getD b i 0 + getD b (i + 1) 0

@@ -1,3 +1,5 @@
 pub mod Windows
 pub mod Bytes
 pub mod Answered
+pub mod Exactly
+pub mod Back

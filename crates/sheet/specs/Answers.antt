@@ -1,12 +1,12 @@
 -- Document 01, Numbered answers. Reading a sheet alone: "sheet length, mark, version (12), year (1), level (2), set bits (12)".
 -- Writing one: 14 for a buffer shorter than 56 bytes, then 1, 2, 12. "An accepted sheet fills 56 bytes; all further bytes stay."
-use mathlib.Core.Bool.{Bool, false, cond, not}
+use mathlib.Core.Bool.{false, cond, not}
 use mathlib.Core.List.{List, _++_}
 use Prim.Native.Nat.{ℕ}
 use lib.Dec.{ltb, eqb}
 use lib.ListN.{length, drop, getD, replicate}
 use Rattle.answers.specs.Ruling.{yearOut, levelOut}
-use Rattle.answers.specs.Said.{Said, only}
+use Rattle.answers.specs.Said.{Said, only, after}
 use Rattle.sheet.specs.declared.Sheet.{Sheet}
 use Rattle.sheet.specs.declared.SheetAnswer.{SheetAnswer}
 use Rattle.sheet.specs.declared.SheetAnswer.the-variants.{Accepted, Short, YearOut, LevelOut, Malformed}
@@ -39,12 +39,8 @@ blank = record { year = 0; level = 0; windows = replicate places false }
 abbrev pub refusal : SheetAnswer → Reading
 refusal answer = record { answer = answer; sheet = blank }
 
--- what a number makes of a state or a buffer: only 0 changes it
-abbrev pub onlyWhere0 : {A : Type 0} → Said → A → A → A
-onlyWhere0 answer changed kept = cond (eqb (answer .number) 0) changed kept
-
 unfoldable pub readSheet : List ℕ → Sheet
-readSheet b = onlyWhere0 (readAnswer b) (sheetIn b) blank
+readSheet b = after (readAnswer b) (sheetIn b) blank
 
 pub record SheetRead : Type 0 where
   pub answer : Said
@@ -66,4 +62,4 @@ writeAnswer s room =
     (only 0))))
 
 unfoldable pub written : Sheet → List ℕ → List ℕ
-written s buffer = onlyWhere0 (writeAnswer s (length buffer)) (sheetBytes s ++ drop sheetSize buffer) buffer
+written s buffer = after (writeAnswer s (length buffer)) (sheetBytes s ++ drop sheetSize buffer) buffer

@@ -151,22 +151,20 @@ fn fill(year: u16, level: u8, windows: &[bool; PLACES], out: &mut [u8])
 pub fn write(sheet: Sheet, out: &mut [u8]) -> SheetAnswer
     ensures { λ r. ⌜ (saidOfSheet r ≡ writeAnswer sheet (length (now (out .entry)))) × (now (out .exit) ≡ written sheet (now (out .entry))) ⌝ }
 {
-    let year = sheet.year;
-    let level = sheet.level;
     let windows = sheet.windows;
     if out.len() < SHEET_SIZE {
         return SheetAnswer::Short;
     }
-    if answers::year_out(year) {
+    if answers::year_out(sheet.year) {
         return SheetAnswer::YearOut;
     }
-    if answers::level_out(level) {
+    if answers::level_out(sheet.level) {
         return SheetAnswer::LevelOut;
     }
     if too_full(&windows) {
         return SheetAnswer::Malformed;
     }
-    fill(year, level, &windows, out);
+    fill(sheet.year, sheet.level, &windows, out);
     SheetAnswer::Accepted
 }
 
