@@ -1,0 +1,122 @@
+-- Laws of legal readings: the search for the first illegal one, and that there is one exactly where the highest is illegal.
+-- Assumes nothing.
+use mathlib.Core.Path.{_≡_, sym, _∙_}
+use mathlib.Core.Bool.{Bool, true}
+use mathlib.Core.List.{List}
+use Prim.Native.Nat.{ℕ, _+_, _*_, _≤_, _<_}
+use native.Mathlib.Omega.{arith}
+use borrow.Author.Tests.{lt-ltb, le-ltb, ltb-true, ltb-false}
+use lib.Dec.{ltb}
+use lib.ListN.{length, getD}
+use Rattle.over.specs.Over.{anyOver}
+use Rattle.over.proofs.Tests.{Passed, any-at, any-fails, any-cong, all-passed, passed-more}
+use Rattle.over.proofs.First.{first-fails, first-at, any-first, any-above}
+use Rattle.dates.specs.Dates.{mostDays}
+use Rattle.readings.specs.declared.Run.{Run}
+use Rattle.readings.specs.Runs.{runDays, dayLen, dayStart, reading}
+use Rattle.readings.specs.Legal.{illegal, highestOf, firstAbove, dayPeak, peakOf, badIn, badAt, badDay, firstIllegal}
+
+-- some readings: the code's search
+module _ (limit : ℕ) (xs : List ℕ) where
+  abbrev pub above : ℕ → Bool
+  above i = illegal limit (getD xs i 0)
+
+  pub above-found : {i : ℕ} → Passed above i → i < length xs → limit < getD xs i 0 → i ≡ firstAbove limit xs
+  unfolding firstAbove
+  above-found {i} h l v = sym (first-at above (length xs) i l (lt-ltb limit (getD xs i 0) v) (h .fails))
+
+  pub above-none : {i : ℕ} → Passed above i → length xs ≤ i → length xs ≡ firstAbove limit xs
+  unfolding firstAbove
+  above-none h l = sym (first-fails above (length xs) (λ k b. h .fails k (omega arith)))
+
+  -- where the highest is legal all are, and else there is a first that is not
+  pub highest-legal : highestOf xs ≤ limit → length xs ≤ firstAbove limit xs
+  unfolding highestOf firstAbove
+  highest-legal h =
+      let e = any-above (λ i. getD xs i 0) limit (length xs) ∙ le-ltb limit _ h in
+      ltb-false _ _ (sym (any-first above (length xs)) ∙ e)
+
+  pub highest-illegal : limit < highestOf xs → firstAbove limit xs < length xs
+  unfolding highestOf firstAbove
+  highest-illegal h =
+      let e = any-above (λ i. getD xs i 0) limit (length xs) ∙ lt-ltb limit _ h in
+      ltb-true _ _ (sym (any-first above (length xs)) ∙ e)
+
+-- a run: a search through its days and through the positions of a day
+module _ (run : Run) (limit : ℕ) (xs : List ℕ) where
+  abbrev pub badFrom : ℕ → ℕ → Bool
+  badFrom d p = illegal limit (reading run xs d p)
+
+  -- a position more without an illegal reading
+  pub legal-more : (d : ℕ) {p i : ℕ} → Passed (badFrom d) p → i ≡ dayStart run d + p → getD xs i 0 ≤ limit → Passed (badFrom d) (p + 1)
+  legal-more d {p} {i} h e v = passed-more h (rw e at (le-ltb limit (getD xs i 0) v))
+
+  -- a day without one, and a day more
+  pub day-legal : (d : ℕ) {p : ℕ} → Passed (badIn run limit xs) d → Passed (badFrom d) p → dayLen run d ≤ p → Passed (badIn run limit xs) (d + 1)
+  unfolding badIn
+  day-legal d {p} h g l = passed-more h (any-fails (badFrom d) (dayLen run d) (λ k b. g .fails k (omega arith)))
+
+  -- the search is through
+  pub illegal-none : {d : ℕ} → Passed (badIn run limit xs) d → runDays run ≤ d → record { day = 0; position = 0 } ≡ firstIllegal run limit xs
+  unfolding firstIllegal badDay
+  illegal-none {d} h l =
+      let e = first-fails (badIn run limit xs) (runDays run) (λ k b. h .fails k (omega arith)) in
+      simp (e, le-ltb (runDays run) (runDays run) (omega arith))
+
+  -- the search has found
+  bad-here : (d p : ℕ) → p < dayLen run d → badFrom d p ≡ true → badIn run limit xs d ≡ true
+  unfolding badIn
+  bad-here d p m t = any-at (badFrom d) (dayLen run d) p m t
+
+  pub illegal-found :
+      {d p i : ℕ}
+      → Passed (badIn run limit xs) d
+      → Passed (badFrom d) p
+      → d < runDays run
+      → p < dayLen run d
+      → i ≡ dayStart run d + p
+      → limit < getD xs i 0
+      → record { day = d + 1; position = p } ≡ firstIllegal run limit xs
+  unfolding firstIllegal badDay badAt
+  illegal-found {d} {p} {i} h g l m e v =
+      let here : badFrom d p ≡ true = rw e at (lt-ltb limit (getD xs i 0) v) in
+      let at = first-at (badFrom d) (dayLen run d) p m here (g .fails) in
+      let day = first-at (badIn run limit xs) (runDays run) d l (bad-here d p m here) (h .fails) in
+      simp (day, at, lt-ltb d (runDays run) l)
+
+  -- a day is bad exactly where its peak is above the limit, and so is a run
+  pub bad-peak : (d : ℕ) → badIn run limit xs d ≡ ltb limit (dayPeak run xs d)
+  unfolding badIn dayPeak
+  bad-peak d = any-above (reading run xs d) limit (dayLen run d)
+
+  pub bad-run : anyOver (badIn run limit xs) (runDays run) ≡ ltb limit (peakOf run xs (runDays run))
+  unfolding peakOf
+  bad-run =
+      any-cong (badIn run limit xs) (λ d. ltb limit (dayPeak run xs d)) (runDays run) (λ d l. bad-peak d)
+      ∙ any-above (dayPeak run xs) limit (runDays run)
+
+  pub peak-legal : peakOf run xs (runDays run) ≤ limit → firstIllegal run limit xs ≡ record { day = 0; position = 0 }
+  peak-legal h = sym (illegal-none (all-passed (badIn run limit xs) (runDays run) (bad-run ∙ le-ltb limit _ h)) (omega arith))
+
+  pub peak-illegal : limit < peakOf run xs (runDays run) → badDay run limit xs < runDays run
+  unfolding badDay
+  peak-illegal h = ltb-true _ _ (sym (any-first (badIn run limit xs) (runDays run)) ∙ (bad-run ∙ lt-ltb limit _ h))
+
+  -- what the search keeps before day d, and before position p of that day
+  pub record Searching (days day position start d : ℕ) : Type 0 where
+    pub some : d ≤ days
+    pub all : days ≡ runDays run
+    pub few : days ≤ mostDays
+    pub no-day : day ≡ 0
+    pub no-position : position ≡ 0
+    pub from : start ≡ dayStart run d
+    pub low : start ≤ 100 * d
+    pub passed : Passed (badIn run limit xs) d
+
+  pub record InDay (days day position start d len p : ℕ) : Type 0 where
+    pub outer : Searching days day position start d
+    pub less : d < days
+    pub size : len ≡ dayLen run d
+    pub most : len ≤ 100
+    pub upto : p ≤ len
+    pub legal : Passed (badFrom d) p

@@ -1,0 +1,83 @@
+-- Laws of a run's layout: all that other proofs know of it. The sums follow from `dayLen`, so they stay where it moves.
+-- Assumes nothing.
+use mathlib.Core.Path.{_≡_, refl, sym, ap, _∙_}
+use mathlib.Core.Bool.{true, false}
+use Prim.Native.Nat.{ℕ, zero, suc, _+_, _*_, _≤_, _<_}
+use native.Mathlib.Nat.{not-suc-le-zero}
+use native.Mathlib.Decide.{decLt}
+use native.Mathlib.Omega.{arith}
+use Rattle.over.proofs.Sums.{sum-none, sum-suc, sum-more}
+use Rattle.answers.specs.Ruling.{dayQuarters}
+use Rattle.dates.specs.Dates.{yearDays, mostDays}
+use Rattle.dates.specs.Period.{periodDays}
+use Rattle.dates.proofs.Leaps.{leap-small}
+use Rattle.dates.proofs.Seasons.{period-most}
+use Rattle.readings.specs.declared.Run.{Run}
+use Rattle.readings.specs.Runs.{runDays, dayLen, quarterOf, dayStart, runReadings}
+
+-- a day has at least one reading and at most 100, and a position stands for one of 96 quarters
+pub len-some : (run : Run) (d : ℕ) → 1 ≤ dayLen run d
+unfolding dayLen
+len-some run d = omega arith
+
+pub len-most : (run : Run) (d : ℕ) → dayLen run d ≤ 100
+unfolding dayLen
+len-most run d = omega arith
+
+pub quarter-in : (run : Run) (d p : ℕ) → p < dayLen run d → quarterOf run d p < dayQuarters
+unfolding dayLen quarterOf
+quarter-in run d p l = omega arith
+
+-- the code's leaves
+pub len-is : (run : Run) (d : ℕ) → dayQuarters ≡ dayLen run d
+unfolding dayLen
+len-is run d = refl
+
+pub quarter-is : (run : Run) (d p : ℕ) → p ≡ quarterOf run d p
+unfolding quarterOf
+quarter-is run d p = refl
+
+pub days-period : (run : Run) {n : ℕ} → run .period ≡ true → n ≡ periodDays (run .year) → (n ≡ runDays run) × (n ≤ mostDays)
+unfolding runDays
+days-period run {n} e f = (f ∙ rw e, omega (arith, period-most (run .year)))
+
+pub days-year : (run : Run) {n : ℕ} → run .period ≡ false → n ≡ yearDays (run .year) → (n ≡ runDays run) × (n ≤ mostDays)
+unfolding runDays
+days-year run {n} e f = (f ∙ rw e, omega (arith, leap-small (run .year)))
+
+module _ (run : Run) where
+  pub start-none : dayStart run 0 ≡ 0
+  unfolding dayStart
+  start-none = sum-none (dayLen run)
+
+  pub start-suc : (d : ℕ) → dayStart run (suc d) ≡ dayStart run d + dayLen run d
+  unfolding dayStart
+  start-suc d = sum-suc (dayLen run) d
+
+  pub start-more : (d : ℕ) → dayStart run (d + 1) ≡ dayStart run d + dayLen run d
+  unfolding dayStart
+  start-more d = sum-more (dayLen run) d
+
+  pub start-most : (d : ℕ) → dayStart run d ≤ 100 * d
+  start-most zero = omega (arith, start-none)
+  start-most (suc d) = omega (arith, start-most d, start-suc d, len-most run d)
+
+  -- a day of the first n stands within their readings
+  pub start-below : (n d : ℕ) → d < n → dayStart run d + dayLen run d ≤ dayStart run n
+  start-below zero d l = absurd (not-suc-le-zero l)
+  start-below (suc n) d l = go (decLt d n) (start-below n d)
+    where
+      go : Dec (d < n) → (d < n → dayStart run d + dayLen run d ≤ dayStart run n) → dayStart run d + dayLen run d ≤ dayStart run (suc n)
+      go (yes m) ih = omega (arith, ih m, start-suc n)
+      go (no m) ih =
+          let e : d ≡ n = omega arith in
+          rw e (omega (arith, start-suc n))
+
+  -- by the number of quarters: for the leaves alone
+  pub start-formula : (d : ℕ) → dayStart run d ≡ dayQuarters * d
+  start-formula zero = omega (arith, start-none)
+  start-formula (suc d) = omega (arith, start-formula d, start-suc d, len-is run d)
+
+  pub readings-formula : (n : ℕ) → n ≡ runDays run → dayQuarters * n ≡ runReadings run
+  unfolding runReadings
+  readings-formula n e = sym (start-formula n) ∙ ap (dayStart run) e
