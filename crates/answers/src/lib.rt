@@ -1,6 +1,8 @@
 // The numbered answers' common ground: the ruling's numbers as the code needs them, and the tests of a year and a level.
 // Document 01, Numbers. The same numbers have the same names in specs/Ruling.
 ghost use mathlib.Core.Path.{_≡_};
+ghost use Prim.Native.Nat.{_≤_};
+ghost use Rattle.over.specs.Over.{bit};
 ghost use Rattle.answers.specs.Ruling.{yearOut, levelOut};
 
 // Charge years.
@@ -29,4 +31,11 @@ pub fn level_out(level: u8) -> bool
     ensures { λ r. ⌜ r ≡ levelOut level ⌝ }
 {
     (level < 1) | (LAST_LEVEL < level)
+}
+
+// 1 for yes and 0 for no: what a counting loop adds.
+pub fn one_if(yes: bool) -> usize
+    ensures { λ r. ⌜ (r ≡ bit yes) × (r ≤ 1) ⌝ }
+{
+    if yes { 1 } else { 0 }
 }

@@ -58,7 +58,12 @@ module _ (y : ℕ) (isListed : ℕ → Bool) (d : ℕ) where
   unfolding bridge
   bridge-monday e = simp e
 
-  pub bridge-friday : {m : ℕ} → m ≡ d - 4 → mondayCandidate y isListed d ≡ false → fridayCandidate y isListed d ≡ true → not (mondayCandidate y isListed m) ≡ bridge y isListed d
+  pub bridge-friday :
+      {m : ℕ}
+      → m ≡ d - 4
+      → mondayCandidate y isListed d ≡ false
+      → fridayCandidate y isListed d ≡ true
+      → not (mondayCandidate y isListed m) ≡ bridge y isListed d
   unfolding bridge
   bridge-friday q e f = simp (q, e, f)
 

@@ -7,3 +7,4 @@ pub mod First
 pub mod Tables
 pub mod Digits
 pub mod Buffers
+pub mod Rank

@@ -1,37 +1,33 @@
 -- Laws of `countOver`, `anyOver` and `allOver`. The test is the first explicit argument.
 -- Assumes nothing.
 use mathlib.Core.Path.{_≡_, refl, ap}
-use mathlib.Core.Bool.{Bool, true, false, cond, _&&_, _||_, or-assoc, or-false, or-true, and-false}
+use mathlib.Core.Bool.{Bool, true, false, _&&_, _||_, or-assoc, or-false, or-true, and-false}
 use mathlib.Core.Logic.{⊎-elim}
 use Prim.Native.Nat.{ℕ, zero, suc, _+_, _≤_, _<_}
 use native.Mathlib.Nat.{not-suc-le-zero}
 use native.Mathlib.Omega.{arith}
 use borrow.Author.Count.{below-more}
-use Rattle.over.specs.Over.{countOver, anyOver, allOver}
-use Rattle.over.proofs.Bools.{decided, clash, bit-le}
+use Rattle.over.specs.Over.{bit, countOver, anyOver, allOver}
+use Rattle.over.proofs.Bools.{decided, clash, bit-le, bit-mono}
 use Rattle.over.proofs.Joined.{joined-none, joined-more, joined-related, joined-cong, joined-at, joined-add}
 use Rattle.over.proofs.Sums.{sum-none, sum-suc, sum-more, sum-add, sum-le, sum-cong, sum-mono}
 
 -- countOver
-bit-mono : (a b : Bool) → (a ≡ true → b ≡ true) → cond a 1 0 ≤ cond b 1 0
-bit-mono false b h = omega arith
-bit-mono true b h = rw (h refl) (omega arith)
-
 module _ (p : ℕ → Bool) where
   pub count-none : countOver p 0 ≡ 0
   unfolding countOver
   count-none = sum-none _
 
-  pub count-suc : (n : ℕ) → countOver p (suc n) ≡ countOver p n + cond (p n) 1 0
+  pub count-suc : (n : ℕ) → countOver p (suc n) ≡ countOver p n + bit (p n)
   unfolding countOver
   count-suc n = sum-suc _ n
 
-  pub count-more : (n : ℕ) → countOver p (n + 1) ≡ countOver p n + cond (p n) 1 0
+  pub count-more : (n : ℕ) → countOver p (n + 1) ≡ countOver p n + bit (p n)
   unfolding countOver
   count-more n = sum-more _ n
 
   -- a turn of a loop that counts
-  pub counted : (n : ℕ) {m b : ℕ} → m ≡ countOver p n → b ≡ cond (p n) 1 0 → m + b ≡ countOver p (n + 1)
+  pub counted : (n : ℕ) {m b : ℕ} → m ≡ countOver p n → b ≡ bit (p n) → m + b ≡ countOver p (n + 1)
   counted n e f = rw (count-more n, e, f)
 
   pub count-add : (a b : ℕ) → countOver p (a + b) ≡ countOver p a + countOver (λ k. p (a + k)) b
@@ -55,7 +51,7 @@ module _ (p : ℕ → Bool) where
 module _ (p q : ℕ → Bool) (n : ℕ) where
   pub count-cong : ((k : ℕ) → k < n → p k ≡ q k) → countOver p n ≡ countOver q n
   unfolding countOver
-  count-cong h = sum-cong _ _ n (λ k l. ap (λ (b : Bool). cond b 1 0) (h k l))
+  count-cong h = sum-cong _ _ n (λ k l. ap bit (h k l))
 
   pub count-mono : ((k : ℕ) → k < n → p k ≡ true → q k ≡ true) → countOver p n ≤ countOver q n
   unfolding countOver

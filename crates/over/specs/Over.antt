@@ -18,9 +18,13 @@ largestOver f n = joined max 0 f n
 unfoldable pub sumOver : (ℕ → ℕ) → ℕ → ℕ
 sumOver f n = joined _+_ 0 f n
 
+-- a test that passes counts 1, another 0
+abbrev pub bit : Bool → ℕ
+bit b = cond b 1 0
+
 -- how many places below n pass the test p
 unfoldable pub countOver : (ℕ → Bool) → ℕ → ℕ
-countOver p n = sumOver (λ k. cond (p k) 1 0) n
+countOver p n = sumOver (λ k. bit (p k)) n
 
 -- some place below n passes the test p
 unfoldable pub anyOver : (ℕ → Bool) → ℕ → Bool

@@ -22,7 +22,13 @@ module _ (xs : List ℕ) (day : ℕ) where
   unfolding dayPart
   part-past n h = simp (ne-eqb day 0 n, lt-ltb (length xs) (dayQuarters * day) (omega arith))
 
-  pub part-held : (day ≡ 0 → ⊥) → day ≤ length xs / dayQuarters → {at size : ℕ} → at ≡ dayQuarters * (day - 1) → size ≡ dayQuarters → take size (drop at xs) ≡ dayPart xs day
+  pub part-held :
+      (day ≡ 0 → ⊥)
+      → day ≤ length xs / dayQuarters
+      → {at size : ℕ}
+      → at ≡ dayQuarters * (day - 1)
+      → size ≡ dayQuarters
+      → take size (drop at xs) ≡ dayPart xs day
   unfolding dayPart
   part-held n h ea es = simp (ne-eqb day 0 n, le-ltb (length xs) (dayQuarters * day) (omega arith), ea, es)
 

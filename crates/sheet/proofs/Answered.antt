@@ -85,11 +85,19 @@ module _ (b : List ℕ) where
 
 module _ (s : Sheet) where
   -- an answer, and what the lent buffer then holds
-  pub write-refused : (out : List ℕ) {n : ℕ} → only n ≡ writeAnswer s (length out) → eqb n 0 ≡ false → (only n ≡ writeAnswer s (length out)) × (out ≡ written s out)
+  pub write-refused :
+      (out : List ℕ) {n : ℕ}
+      → only n ≡ writeAnswer s (length out)
+      → eqb n 0 ≡ false
+      → (only n ≡ writeAnswer s (length out)) × (out ≡ written s out)
   unfolding written
   write-refused out e z = (e, rw (← e, z))
 
-  pub write-taken : (out next : List ℕ) → only 0 ≡ writeAnswer s (length out) → next ≡ sheetBytes s ++ drop sheetSize out → (only 0 ≡ writeAnswer s (length out)) × (next ≡ written s out)
+  pub write-taken :
+      (out next : List ℕ)
+      → only 0 ≡ writeAnswer s (length out)
+      → next ≡ sheetBytes s ++ drop sheetSize out
+      → (only 0 ≡ writeAnswer s (length out)) × (next ≡ written s out)
   unfolding written
   write-taken out next e f = (e, rw (← e) f)
 

@@ -11,7 +11,7 @@ use borrow.Author.Tests.{lt-ltb, le-ltb}
 use lib.ListN.{List·getD-append, length, getD, take, drop, replicate, length-replicate, getD-replicate}
 use lib.Seq.{ext-getD, take-at}
 use Rattle.over.specs.Limits.{Within}
-use Rattle.over.specs.Over.{table}
+use Rattle.over.specs.Over.{bit, table}
 use Rattle.over.proofs.Tests.{count-fails}
 use Rattle.over.proofs.Tables.{length-table, getD-table, is-table}
 use Rattle.over.proofs.Digits.{base-cong}
@@ -20,7 +20,7 @@ use Rattle.answers.specs.Said.{only}
 use Rattle.answers.proofs.Laws.{charge-year, level-of}
 use Rattle.sheet.specs.declared.Sheet.{Sheet}
 use Rattle.sheet.specs.Windows.{seasons, places, placeOf, setIn, Legal}
-use Rattle.sheet.specs.Bytes.{mark, versionAt, yearAt, levelAt, windowsAt, windowBytes, sheetSize, sheetVersion, twoAt, twoBytes, bit, windowByte, bytesOf, byteAt, sheetBytes, bitOf, windowAt, windowsIn, sheetIn}
+use Rattle.sheet.specs.Bytes.{mark, versionAt, yearAt, levelAt, windowsAt, windowBytes, sheetSize, sheetVersion, twoAt, twoBytes, windowByte, bytesOf, byteAt, sheetBytes, bitOf, windowAt, windowsIn, sheetIn}
 use Rattle.sheet.specs.Rows.ReadRow.{zero}
 use Rattle.sheet.specs.Rows.WriteRow.{zero}
 use Rattle.sheet.specs.Rows.{Formed, ReadRow, WriteRow}
@@ -145,11 +145,22 @@ module _ (b : List ℕ) (e : readAnswer b .number ≡ 0) where
   bytes-back small = rw (accepted .1) (written-read b small (accepted .0))
 
 -- so two accepted sheets with one meaning have the same bytes
-pub same-bytes : (b c : List ℕ) → AreBytes b → AreBytes c → readAnswer b .number ≡ 0 → readAnswer c .number ≡ 0 → readSheet b ≡ readSheet c → b ≡ c
+pub same-bytes :
+    (b c : List ℕ)
+    → AreBytes b
+    → AreBytes c
+    → readAnswer b .number ≡ 0
+    → readAnswer c .number ≡ 0
+    → readSheet b ≡ readSheet c
+    → b ≡ c
 same-bytes b c small tiny p q e = sym (bytes-back b p small) ∙ ap sheetBytes e ∙ bytes-back c q tiny
 
 -- an accepted writing leaves a sheet in the buffer that reads back
-pub buffer-read : (s : Sheet) (buffer : List ℕ) → length (s .windows) ≡ places → writeAnswer s (length buffer) .number ≡ 0 → readOf (take sheetSize (written s buffer)) ≡ record { answer = only 0; sheet = s }
+pub buffer-read :
+    (s : Sheet) (buffer : List ℕ)
+    → length (s .windows) ≡ places
+    → writeAnswer s (length buffer) .number ≡ 0
+    → readOf (take sheetSize (written s buffer)) ≡ record { answer = only 0; sheet = s }
 buffer-read s buffer long e = go (write-exactly s (length buffer) 0 .0 e)
   where
     go : WriteRow s (length buffer) 0 → readOf (take sheetSize (written s buffer)) ≡ record { answer = only 0; sheet = s }

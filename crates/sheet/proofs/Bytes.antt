@@ -12,11 +12,11 @@ use lib.Dec.{eqb}
 use lib.ListN.{length, getD, List·getD-append}
 use lib.Seq.{getD-append-add}
 use lib.Pow.{pow-mono}
-use Rattle.over.specs.Over.{joined, anyOver, inBase, digitOf, table}
+use Rattle.over.specs.Over.{bit, joined, anyOver, inBase, digitOf, table}
 use Rattle.over.proofs.Bools.{bit-le}
 use Rattle.over.proofs.Tables.{length-table, getD-table}
 use Rattle.over.proofs.Digits.{base-more, base-cong, base-lt, base-digit, base-back}
-use Rattle.sheet.specs.Bytes.{mark, windowsAt, windowBytes, sheetSize, sheetVersion, twoAt, twoBytes, bit, windowByte, bytesOf, byteAt, bitOf, unmarked}
+use Rattle.sheet.specs.Bytes.{mark, windowsAt, windowBytes, sheetSize, sheetVersion, twoAt, twoBytes, windowByte, bytesOf, byteAt, bitOf, unmarked}
 
 -- two bytes
 pub two-at : (b : List ℕ) (i : ℕ) → twoAt b i ≡ 256 * getD b i 0 + getD b (i + 1) 0

@@ -46,7 +46,13 @@ roomy w = (
   λ h. any-fails (λ j. ltb windowsMost (setIn w (j + 1))) seasons (λ k l. le-ltb windowsMost (setIn w (k + 1)) (h (k + 1) (record { from = omega arith; to = omega arith }))),
 )
 
-pub too-full : (w : List Bool) (a b c d : ℕ) → a ≡ setIn w 1 → b ≡ setIn w 2 → c ≡ setIn w 3 → d ≡ setIn w 4 → (ltb windowsMost a || ltb windowsMost b || ltb windowsMost c || ltb windowsMost d) ≡ tooFull w
+pub too-full :
+    (w : List Bool) (a b c d : ℕ)
+    → a ≡ setIn w 1
+    → b ≡ setIn w 2
+    → c ≡ setIn w 3
+    → d ≡ setIn w 4
+    → (ltb windowsMost a || ltb windowsMost b || ltb windowsMost c || ltb windowsMost d) ≡ tooFull w
 unfolding tooFull anyOver joined
 too-full w a b c d p q r s = rw (p, q, r, s)
 

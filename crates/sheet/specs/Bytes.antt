@@ -5,7 +5,7 @@ use mathlib.Core.List.{List, [], _∷_, _++_}
 use Prim.Native.Nat.{ℕ, _+_, _-_, _*_, _/_, _%_}
 use lib.Dec.{ltb, eqb}
 use lib.ListN.{getD}
-use Rattle.over.specs.Over.{anyOver, table, inBase, digitOf}
+use Rattle.over.specs.Over.{bit, anyOver, table, inBase, digitOf}
 use Rattle.sheet.specs.declared.Sheet.{Sheet}
 use Rattle.sheet.specs.Windows.{places}
 
@@ -40,10 +40,6 @@ twoAt b i = inBase 256 (λ k. getD b (i + k) 0) 2
 
 abbrev pub twoBytes : ℕ → List ℕ
 twoBytes n = n / 256 ∷ n % 256 ∷ []
-
--- a set quarter is the digit 1
-abbrev pub bit : Bool → ℕ
-bit set = cond set 1 0
 
 -- byte k of the windows: eight quarters, the earliest at the top
 unfoldable pub windowByte : List Bool → ℕ → ℕ

@@ -6,7 +6,7 @@ ghost use mathlib.Core.List.{_++_};
 ghost use lib.ListN.{length, drop};
 ghost use Rattle.over.specs.Limits.{Within};
 ghost use Rattle.sheet.specs.Windows.{seasons, isSet, setIn, tooFull, flatOf};
-ghost use Rattle.sheet.specs.Bytes.{windowBytes, sheetSize, twoAt, bit, windowByte, byteAt, bytesOf, bitOf, windowsIn, unmarked};
+ghost use Rattle.sheet.specs.Bytes.{windowBytes, sheetSize, twoAt, windowByte, byteAt, bytesOf, bitOf, windowsIn, unmarked};
 ghost use Rattle.sheet.specs.Answers.{saidOfSheet, shownOf, readOf, refusal, writeAnswer, written};
 
 // Bytes of a sheet; where its version, year, level and windows begin; the version.
@@ -65,12 +65,6 @@ pub fn is_set(windows: &[bool; PLACES], season: u8, quarter: usize) -> bool
     windows[DAY_QUARTERS * (season as usize - 1) + quarter]
 }
 
-fn one_if(set: bool) -> usize
-    ensures { λ r. ⌜ (r ≡ bit set) × (r ≤ 1) ⌝ }
-{
-    if set { 1 } else { 0 }
-}
-
 // How many quarters of a season, from 1, are set.
 fn set_in(windows: &[bool; PLACES], season: usize) -> usize
     requires { ⌜ Within 1 seasons season ⌝ }
@@ -78,7 +72,7 @@ fn set_in(windows: &[bool; PLACES], season: usize) -> usize
 {
     let mut n: usize = 0;
     for q in 0..DAY_QUARTERS {
-        n += one_if(windows[DAY_QUARTERS * (season - 1) + q]);
+        n += answers::one_if(windows[DAY_QUARTERS * (season - 1) + q]);
     }
     n
 }
@@ -111,7 +105,7 @@ fn pack(windows: &[bool; PLACES], k: usize) -> u8
 {
     let mut byte: usize = 0;
     for j in 0..8 {
-        byte = 2 * byte + one_if(windows[8 * k + j]);
+        byte = 2 * byte + answers::one_if(windows[8 * k + j]);
     }
     byte as u8
 }
