@@ -81,3 +81,17 @@ module _ (run : Run) where
   pub readings-formula : (n : ℕ) → n ≡ runDays run → dayQuarters * n ≡ runReadings run
   unfolding runReadings
   readings-formula n e = sym (start-formula n) ∙ ap (dayStart run) e
+
+  -- the readings of each day of a run stand within the run's
+  pub run-held : (d : ℕ) → d < runDays run → dayStart run d + dayLen run d ≤ runReadings run
+  unfolding runReadings
+  run-held d l = start-below (runDays run) d l
+
+-- the days of a reference period, and of a charge year
+pub period-run : (y : ℕ) → runDays (record { year = y; period = true }) ≡ periodDays y
+unfolding runDays
+period-run y = refl
+
+pub year-run : (y : ℕ) → runDays (record { year = y; period = false }) ≡ yearDays y
+unfolding runDays
+year-run y = refl

@@ -68,7 +68,8 @@ pub fn day_part(series: &[u32], day: usize) -> &[u32]
     &series[at..end]
 }
 
-fn larger(a: u32, b: u32) -> u32
+// The larger of two readings.
+pub fn larger(a: u32, b: u32) -> u32
     ensures { λ r. ⌜ r ≡ max a b ⌝ }
 {
     if a < b { b } else { a }

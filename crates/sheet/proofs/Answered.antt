@@ -12,7 +12,8 @@ use lib.ListN.{length, drop, getD}
 use Rattle.over.proofs.Bools.{decided, clash}
 use Rattle.over.proofs.Tests.{any-fails, all-passed}
 use Rattle.answers.specs.Ruling.{yearOut, levelOut}
-use Rattle.answers.specs.Said.{only}
+use Rattle.answers.specs.Said.{only, after}
+use Rattle.answers.proofs.Laws.{after-again}
 use Rattle.sheet.specs.declared.Sheet.{Sheet}
 use Rattle.sheet.specs.Windows.{tooFull}
 use Rattle.sheet.specs.Bytes.{mark, versionAt, yearAt, levelAt, sheetSize, sheetVersion, twoAt, windowsIn, sheetIn, sheetBytes, unmarked}
@@ -100,6 +101,10 @@ module _ (s : Sheet) where
       → (only 0 ≡ writeAnswer s (length out)) × (next ≡ written s out)
   unfolding written
   write-taken out next e f = (e, rw (← e) f)
+
+  pub written-again : (out : List ℕ) → after (writeAnswer s (length out)) (written s out) out ≡ written s out
+  unfolding written
+  written-again out = after-again (writeAnswer s (length out)) (sheetBytes s ++ drop sheetSize out) out
 
   module _ (room : ℕ) where
     pub write-short : room < sheetSize → only 14 ≡ writeAnswer s room

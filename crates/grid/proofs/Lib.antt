@@ -1,0 +1,5 @@
+pub mod Laid
+pub mod Curves
+pub mod Answered
+pub mod Steps
+pub mod Only

@@ -1,0 +1,71 @@
+-- `grid::collect` meets its contract. The loop's invariant: the curves are those of the first d days.
+-- Assumes nothing.
+use mathlib.Core.Path.{_≡_, sym, ap, _∙_}
+use Prim.Native.Nat.{_≤_, _-_, _+_}
+use native.Mathlib.Omega.{arith}
+use borrow.Author.Needs.{needs}
+use lib.ListN.{length}
+use Rattle.readings.specs.Runs.{dayLen, dayStart}
+use Rattle.grid.specs.Curves.{periodRun, flatCurves}
+use Rattle.dates.proofs.Seasons.{period-most}
+use Rattle.readings.proofs.Runs.{start-none, start-more}
+use Rattle.grid.proofs.Curves.{curves-long, curves-none, curves-cut, cut-long, held}
+use Rattle.grid.proofs.collect.Statement.{statement}
+use Rattle.grid.proofs.collect.Tie as tie
+
+abbrev Inv-loop : tie.InvT-loop
+Inv-loop year days series curves₀ at₀ d₀ curves at d = (d ≤ days) × (at ≡ dayStart (periodRun year) d) × (curves ≡ flatCurves year series d)
+
+abbrev μ-loop : tie.MeasureT-loop
+μ-loop year days series curves₀ at₀ d₀ curves at d = days - d
+
+-- the day's readings stand within the series
+room :
+    (c : tie.After-day-len Inv-loop μ-loop)
+    → let a = c .before .before .before .before .args in
+    dayStart (periodRun (a .year)) (c .before .before .loop .d) + dayLen (periodRun (a .year)) (c .before .before .loop .d)
+    ≤ length (a .series .now)
+room c = let s = c .before .before .before .before in held (s .args .year) (s .args .days) (s .args .series .now) (s .pre .0) (s .pre .1) (c .before .before .loop .d) (omega arith)
+
+lay-requires : tie.Need-lay-requires Inv-loop μ-loop
+lay-requires c κs =
+    let e = c .before .before in
+    let a = e .before .before .before .before .args in
+    let at = e .before .before .loop in (
+      ap length (at .inv .2) ∙ curves-long _ _ _,
+      omega (arith, period-most (a .year)),
+      cut-long (a .year) (a .series .now) (at .d) (at .at) (at .at + e .day-len .result - at .at) (at .inv .1) (omega arith) (omega (arith, room e)),
+    )
+
+loop-again : tie.Need-loop-again Inv-loop μ-loop
+loop-again c =
+    let e = c .before .before .before in
+    let a = e .before .before .before .before .args in
+    let at = e .before .before .loop in
+    let next = start-more (periodRun (a .year)) (at .d) in (
+      omega arith,
+      omega arith,
+      c .lay .ensures ∙ curves-cut (a .year) (a .series .now) (at .d) (at .at) (at .at + e .day-len .result - at .at) (at .inv .1) (omega arith) (at .inv .2),
+    )
+
+returns : tie.Need-returns Inv-loop μ-loop
+returns c = let full : c .before .loop .d ≡ c .before .before .before .args .days = omega arith in c .before .loop .inv .2 ∙ ap (flatCurves _ _) full
+
+pub collect-spec : {M : Type 1} → statement M
+collect-spec =
+    tie.close
+    (tie.spec
+    Inv-loop
+    μ-loop
+    (λ c. (omega arith, sym (start-none _), curves-none _ _))  -- loop-holds
+    (λ c κs. search needs)  -- day-len-requires
+    (λ c. let h = room c in omega arith)  -- add-end
+    (λ c. let h = room (c .before) in omega arith)  -- mul-lay
+    (λ c. search needs)  -- sub-lay
+    (λ c. search needs)  -- part-lay-start
+    (λ c. let h = room (c .before) in search needs)  -- part-lay-end
+    lay-requires
+    (λ c. search needs)  -- add-d
+    (λ c. search needs)  -- loop-less
+    loop-again
+    returns)
