@@ -20,7 +20,7 @@ use Rattle.readings.specs.Runs.{dayLen, dayStart, quarterOf, runReadings, readi
 use Rattle.readings.specs.Legal.{highestOf, dayPeak, peakOf}
 use Rattle.readings.proofs.Runs.{quarter-in, run-held, period-run}
 use Rattle.sheet.specs.Windows.{places}
-use Rattle.grid.specs.Curves.{periodRun, counted, topOf, curveAt, flatCurves, merged}
+use Rattle.grid.specs.Curves.{periodRun, counted, inSeason, topOf, curveAt, flatCurves, merged}
 
 pub curves-long : (y : ℕ) (xs : List ℕ) (n : ℕ) → length (flatCurves y xs n) ≡ places
 unfolding flatCurves
@@ -37,7 +37,7 @@ module _ (y : ℕ) (xs : List ℕ) (d : ℕ) (day : List ℕ) (same : (p : ℕ) 
   top-same : (s q : ℕ) → topOf y d (λ p. getD day p 0) s q ≡ topOf y d (reading (periodRun y) xs d) s q
   unfolding topOf
   top-same s q =
-      ap (counted (eqb (periodSeason y (d + 1)) s))
+      ap (counted (inSeason y d s))
       (largest-cong _ _ (dayLen (periodRun y) d) (λ p l. ap (counted (eqb (quarterOf (periodRun y) d p) q)) (same p l)))
 
   pub curves-more : {flat : List ℕ} → flat ≡ flatCurves y xs d → merged y flat d day ≡ flatCurves y xs (d + 1)
@@ -88,7 +88,7 @@ module _ (y : ℕ) (xs : List ℕ) (n : ℕ) where
   curve-le s q =
       largest-le _ n _
       (λ d l.
-      le-trans (counted-le (eqb (periodSeason y (d + 1)) s) _)
+      le-trans (counted-le (inSeason y d s) _)
       (largest-le _ (dayLen (periodRun y) d) _
       (λ p m. le-trans (counted-le (eqb (quarterOf (periodRun y) d p) q) _) (reading-le d p l m))))
 

@@ -19,13 +19,13 @@ use Rattle.dates.proofs.Seasons.{period-season-range}
 use Rattle.readings.specs.Runs.{dayLen, quarterOf}
 use Rattle.readings.proofs.Runs.{quarter-in}
 use Rattle.sheet.specs.Windows.{places}
-use Rattle.grid.specs.Curves.{periodRun, counted, topOf, merged}
+use Rattle.grid.specs.Curves.{periodRun, counted, inSeason, topOf, merged}
 
 module _ (y d : ℕ) (day : List ℕ) where
   -- what the first p positions of the day bring to place i of the curves
   abbrev laid : ℕ → ℕ → ℕ
   laid p i =
-      counted (eqb (periodSeason y (d + 1)) (i / dayQuarters + 1))
+      counted (inSeason y d (i / dayQuarters + 1))
       (largestOver (λ k. counted (eqb (quarterOf (periodRun y) d k) (i % dayQuarters)) (getD day k 0)) p)
 
   -- the place that position p reaches

@@ -20,10 +20,14 @@ periodRun y = record { year = y; period = true }
 abbrev pub counted : Bool → ℕ → ℕ
 counted b v = cond b v 0
 
+-- every day, weekends too, lies in one season: day d (from 0) of year y's period in season s
+abbrev pub inSeason : ℕ → ℕ → ℕ → Bool
+inSeason y d s = eqb (periodSeason y (d + 1)) s
+
 -- of day d (from 0) of year y's period, with the reading f p at position p: the highest in quarter q of season s; 0 in another season
 unfoldable pub topOf : ℕ → ℕ → (ℕ → ℕ) → ℕ → ℕ → ℕ
 topOf y d f s q =
-    counted (eqb (periodSeason y (d + 1)) s)
+    counted (inSeason y d s)
     (largestOver (λ p. counted (eqb (quarterOf (periodRun y) d p) q) (f p)) (dayLen (periodRun y) d))
 
 -- over the first n days of a series: the curve value of season s and quarter q, and all of them
