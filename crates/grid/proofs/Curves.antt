@@ -32,21 +32,26 @@ curves-none y xs =
     is-table _ places 0 (replicate places 0) (length-replicate {A = ℕ} places 0)
     (λ i l. getD-replicate {A = ℕ} places i 0 0 l ∙ sym (largest-none _))
 
+-- a day whose readings agree brings the same
+pub top-cong :
+    (y d : ℕ) (f g : ℕ → ℕ)
+    → ((p : ℕ) → p < dayLen (periodRun y) d → f p ≡ g p)
+    → (s q : ℕ)
+    → topOf y d f s q ≡ topOf y d g s q
+unfolding topOf
+top-cong y d f g same s q =
+    ap (counted (inSeason y d s))
+    (largest-cong _ _ (dayLen (periodRun y) d) (λ p l. ap (counted (eqb (quarterOf (periodRun y) d p) q)) (same p l)))
+
 -- one day more, as a list that has the day's readings
 module _ (y : ℕ) (xs : List ℕ) (d : ℕ) (day : List ℕ) (same : (p : ℕ) → p < dayLen (periodRun y) d → getD day p 0 ≡ reading (periodRun y) xs d p) where
-  top-same : (s q : ℕ) → topOf y d (λ p. getD day p 0) s q ≡ topOf y d (reading (periodRun y) xs d) s q
-  unfolding topOf
-  top-same s q =
-      ap (counted (inSeason y d s))
-      (largest-cong _ _ (dayLen (periodRun y) d) (λ p l. ap (counted (eqb (quarterOf (periodRun y) d p) q)) (same p l)))
-
   pub curves-more : {flat : List ℕ} → flat ≡ flatCurves y xs d → merged y flat d day ≡ flatCurves y xs (d + 1)
   unfolding merged flatCurves curveAt
   curves-more e =
       table-cong _ _ places
       (λ i l.
       rw (e, getD-table, largest-more)
-      (ap (max (largestOver (λ k. topOf y k (reading (periodRun y) xs k) (i / dayQuarters + 1) (i % dayQuarters)) d)) (top-same (i / dayQuarters + 1) (i % dayQuarters))))
+      (ap (max (largestOver (λ k. topOf y k (reading (periodRun y) xs k) (i / dayQuarters + 1) (i % dayQuarters)) d)) (top-cong y d _ _ same (i / dayQuarters + 1) (i % dayQuarters))))
 
 -- a day that a series holds, cut out of it
 module _ (y : ℕ) (xs : List ℕ) (d at size : ℕ) (ea : at ≡ dayStart (periodRun y) d) (es : size ≡ dayLen (periodRun y) d) where
@@ -77,7 +82,7 @@ counted-le true v = omega arith
 counted-le false v = omega arith
 
 module _ (y : ℕ) (xs : List ℕ) (n : ℕ) where
-  reading-le : (d p : ℕ) → d < n → p < dayLen (periodRun y) d → reading (periodRun y) xs d p ≤ peakOf (periodRun y) xs n
+  pub reading-le : (d p : ℕ) → d < n → p < dayLen (periodRun y) d → reading (periodRun y) xs d p ≤ peakOf (periodRun y) xs n
   unfolding peakOf dayPeak
   reading-le d p l m =
       le-trans (largest-above (reading (periodRun y) xs d) (dayLen (periodRun y) d) p m)

@@ -3,3 +3,4 @@ pub mod Curves
 pub mod Answered
 pub mod Steps
 pub mod Only
+pub mod Whole

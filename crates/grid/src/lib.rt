@@ -1,5 +1,6 @@
 // The high-load windows of a grid series, whole and day by day.
-// Main theorem: days given one by one, refused ones among them, close as the whole series of the taken days, sheet bytes included.
+// Main theorem: days given one by one, refused ones among them, close as the whole series of the taken days, sheet bytes included
+// (`days-whole`, proofs/Whole).
 ghost use mathlib.Core.Path.{_≡_};
 ghost use Prim.Native.Nat.{_<_};
 ghost use lib.ListN.{length};

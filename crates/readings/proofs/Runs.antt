@@ -82,6 +82,11 @@ module _ (run : Run) where
   unfolding runReadings
   readings-formula n e = sym (start-formula n) ∙ ap (dayStart run) e
 
+  -- all days of a run have its readings
+  pub run-all : dayStart run (runDays run) ≡ runReadings run
+  unfolding runReadings
+  run-all = refl
+
   -- the readings of each day of a run stand within the run's
   pub run-held : (d : ℕ) → d < runDays run → dayStart run d + dayLen run d ≤ runReadings run
   unfolding runReadings
