@@ -1,3 +1,4 @@
 pub mod Curves
 pub mod Answers
 pub mod Days
+pub mod Rows
