@@ -4,6 +4,7 @@ use mathlib.Core.Bool.{Bool, cond}
 use mathlib.Core.List.{List, [], _∷_}
 use Prim.Native.Nat.{ℕ}
 use lib.Dec.{eqb}
+use Rattle.over.specs.Over.{bit}
 
 pub record Said : Type 0 where
   pub number : ℕ
@@ -19,4 +20,4 @@ after answer new old = cond (eqb (answer .number) 0) new old
 
 -- 0 with yes (1) or no (0)
 abbrev pub yesNo : Bool → Said
-yesNo b = record { number = 0; carries = cond b 1 0 ∷ [] }
+yesNo b = record { number = 0; carries = bit b ∷ [] }

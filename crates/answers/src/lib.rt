@@ -13,8 +13,14 @@ pub const LAST_YEAR: u16 = 2028;
 // Level codes, from 1.
 pub const LAST_LEVEL: u8 = 7;
 
+// The highest legal reading of the grid, kW.
+pub const GRID_MOST: u32 = 200_000_000;
+
 // Days on a holiday list.
 pub const HOLIDAYS_MOST: usize = 40;
+
+// Quarters of a day.
+pub const DAY_QUARTERS: usize = 96;
 
 // Quarters in a season's windows.
 pub const WINDOWS_MOST: usize = 40;

@@ -17,11 +17,6 @@ use readings::Run;
 use sheet::Sheet;
 use sheet::SheetAnswer;
 
-// The highest legal reading, kW.
-const GRID_MOST: u32 = 200_000_000;
-
-const DAY_QUARTERS: usize = 96;
-
 // What each call answers: 0, 14, 1, 2, 4, 5 with its place, 7, 12, 13.
 pub enum GridAnswer {
     Done,
@@ -54,7 +49,7 @@ fn lay(curves: &mut [u32; 384], year: u16, d: u16, day: &[u32])
     requires { ⌜ (length (now curves) ≡ places) × (d < mostDays) × (length (now day) ≡ dayLen (periodRun year) d) ⌝ }
     ensures { λ r. ⌜ now (curves .exit) ≡ merged year (now (curves .entry)) d (now (day .entry)) ⌝ }
 {
-    let base = DAY_QUARTERS * (dates::period_season(year, d + 1) as usize - 1);
+    let base = answers::DAY_QUARTERS * (dates::period_season(year, d + 1) as usize - 1);
     for p in 0..day.len() {
         let at = base + readings::quarter_of(Run { year, period: true }, d, p);
         curves[at] = readings::larger(curves[at], day[p]);
@@ -126,8 +121,8 @@ pub fn windows(year: u16, level: u8, series: &[u32], out: &mut [u8]) -> GridAnsw
     }
     let curves = collect(year, dates::period_days(year), series);
     let peak = readings::highest(&curves);
-    if GRID_MOST < peak {
-        return GridAnswer::BadReading(readings::first_illegal(run, series, GRID_MOST));
+    if answers::GRID_MOST < peak {
+        return GridAnswer::BadReading(readings::first_illegal(run, series, answers::GRID_MOST));
     }
     finish(year, level, &curves, peak, out)
 }
@@ -203,8 +198,8 @@ impl Grid {
                 grid: self,
             };
         }
-        if GRID_MOST < readings::highest(day) {
-            let position = readings::first_above(day, GRID_MOST) as u16;
+        if answers::GRID_MOST < readings::highest(day) {
+            let position = readings::first_above(day, answers::GRID_MOST) as u16;
             return Stepped {
                 answer: GridAnswer::BadReading(Place {
                     day: seen + 1,

@@ -1,6 +1,6 @@
 -- Document 01, Numbers: "Every day has quarters 0 to 95 (house rule)." A run is the days whose readings a series holds, one day after
 -- the other: a charge year's, or those of its reference period. A run's days d and a day's positions p count from 0. How a day is
--- laid out in a series is said here alone, by `dayLen` and `quarterOf`.
+-- laid out in a series is said here, by `dayLen` and `quarterOf`; only the day part (specs/Part) knows no run and takes 96 for each day.
 use mathlib.Core.Bool.{cond}
 use mathlib.Core.List.{List}
 use Prim.Native.Nat.{ℕ, _+_}

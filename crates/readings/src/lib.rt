@@ -8,9 +8,6 @@ ghost use Rattle.readings.specs.Runs.{runDays, dayLen, quarterOf, runRea
 ghost use Rattle.readings.specs.Legal.{highestOf, firstAbove, firstIllegal};
 ghost use Rattle.readings.specs.Part.{dayPart};
 
-// Quarters of a day.
-const DAY_QUARTERS: usize = 96;
-
 // The days whose readings a series holds: those of a charge year, or of its reference period.
 pub struct Run {
     pub year: u16,
@@ -36,7 +33,7 @@ fn run_days(run: Run) -> u16
 pub fn day_len(run: Run, d: u16) -> usize
     ensures { λ r. ⌜ r ≡ dayLen run d ⌝ }
 {
-    DAY_QUARTERS
+    answers::DAY_QUARTERS
 }
 
 // The quarter that a position of a day, both from 0, stands for.
@@ -50,7 +47,7 @@ pub fn quarter_of(run: Run, d: u16, position: usize) -> usize
 pub fn run_readings(run: Run) -> usize
     ensures { λ r. ⌜ r ≡ runReadings run ⌝ }
 {
-    DAY_QUARTERS * run_days(run) as usize
+    answers::DAY_QUARTERS * run_days(run) as usize
 }
 
 // The part of a series that is a day, from 1: empty for day 0 and for a day that the series does not wholly hold.
@@ -60,11 +57,11 @@ pub fn day_part(series: &[u32], day: usize) -> &[u32]
     if day == 0 {
         return &series[0..0];
     }
-    if series.len() / DAY_QUARTERS < day {
+    if series.len() / answers::DAY_QUARTERS < day {
         return &series[0..0];
     }
-    let end = DAY_QUARTERS * day;
-    let at = end - DAY_QUARTERS;
+    let end = answers::DAY_QUARTERS * day;
+    let at = end - answers::DAY_QUARTERS;
     &series[at..end]
 }
 

@@ -22,9 +22,7 @@ const WINDOWS_AT: usize = 8;
 
 const SHEET_VERSION: u16 = 1;
 
-// Quarters of a day, and of the four seasons.
-const DAY_QUARTERS: usize = 96;
-
+// Quarters of the four seasons.
 pub const PLACES: usize = 384;
 
 // A sheet's meaning. The seasons' quarters stand one after the other.
@@ -59,10 +57,10 @@ pub fn is_set(windows: &[bool; PLACES], season: u8, quarter: usize) -> bool
     if 4 < season {
         return false;
     }
-    if DAY_QUARTERS <= quarter {
+    if answers::DAY_QUARTERS <= quarter {
         return false;
     }
-    windows[DAY_QUARTERS * (season as usize - 1) + quarter]
+    windows[answers::DAY_QUARTERS * (season as usize - 1) + quarter]
 }
 
 // How many quarters of a season, from 1, are set.
@@ -71,8 +69,8 @@ fn set_in(windows: &[bool; PLACES], season: usize) -> usize
     ensures { λ r. ⌜ r ≡ setIn (now (windows .entry)) season ⌝ }
 {
     let mut n: usize = 0;
-    for q in 0..DAY_QUARTERS {
-        n += answers::one_if(windows[DAY_QUARTERS * (season - 1) + q]);
+    for q in 0..answers::DAY_QUARTERS {
+        n += answers::one_if(windows[answers::DAY_QUARTERS * (season - 1) + q]);
     }
     n
 }

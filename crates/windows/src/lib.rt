@@ -11,8 +11,6 @@ const LINE_PARTS: u64 = 19;
 
 const PEAK_PARTS: u64 = 20;
 
-const DAY_QUARTERS: usize = 96;
-
 const SEASONS: usize = 4;
 
 // One season of the flat curves, from 0.
@@ -21,8 +19,8 @@ fn curve(flat: &[u32; 384], season: usize) -> [u32; 96]
     ensures { λ r. ⌜ r ≡ curveOf (now (flat .entry)) season ⌝ }
 {
     let mut out = [0; 96];
-    for q in 0..DAY_QUARTERS {
-        out[q] = flat[DAY_QUARTERS * season + q];
+    for q in 0..answers::DAY_QUARTERS {
+        out[q] = flat[answers::DAY_QUARTERS * season + q];
     }
     out
 }
@@ -59,7 +57,7 @@ fn rank_of(peak: u32, curve: &[u32; 96], q: usize) -> usize
     ensures { λ r. ⌜ r ≡ rank peak (now (curve .entry)) q ⌝ }
 {
     let mut n: usize = 0;
-    for p in 0..DAY_QUARTERS {
+    for p in 0..answers::DAY_QUARTERS {
         n += answers::one_if(is_above(peak, curve[p]) & comes_before(curve, p, q));
     }
     n
@@ -80,7 +78,7 @@ fn kept_of(peak: u32, curve: &[u32; 96]) -> [bool; 96]
     ensures { λ r. ⌜ r ≡ keptOf peak (now (curve .entry)) ⌝ }
 {
     let mut out = [false; 96];
-    for q in 0..DAY_QUARTERS {
+    for q in 0..answers::DAY_QUARTERS {
         out[q] = is_kept(peak, curve, q);
     }
     out
