@@ -25,6 +25,12 @@ pub const DAY_QUARTERS: usize = 96;
 // Quarters in a season's windows.
 pub const WINDOWS_MOST: usize = 40;
 
+// Where a reading stands: its day from 1, its position in the day from 0. Day 0 is no place.
+pub struct Place {
+    pub day: u16,
+    pub position: u16,
+}
+
 // Is a year outside the charge years (answer 1)? Any year has an answer.
 pub fn year_out(year: u16) -> bool
     ensures { λ r. ⌜ r ≡ yearOut year ⌝ }

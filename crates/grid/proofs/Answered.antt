@@ -9,10 +9,10 @@ use borrow.Author.Tests.{lt-ltb, le-ltb, eq-eqb, ne-eqb}
 use lib.Dec.{eqb}
 use lib.ListN.{length}
 use Rattle.answers.specs.Ruling.{gridMost, yearOut, levelOut}
-use Rattle.answers.specs.Said.{Said, only, after}
+use Rattle.answers.specs.Said.{Said, only, after, badPlace}
 use Rattle.answers.proofs.Laws.{after-again}
 use Rattle.dates.specs.Period.{periodDays}
-use Rattle.readings.specs.declared.Place.{Place}
+use Rattle.answers.specs.declared.Place.{Place}
 use Rattle.readings.specs.Runs.{runReadings}
 use Rattle.readings.specs.Legal.{highestOf, peakOf, firstIllegal}
 use Rattle.readings.proofs.Legal.{peak-legal, illegal-day}
@@ -21,7 +21,7 @@ use Rattle.sheet.specs.Bytes.{sheetSize}
 use Rattle.sheet.specs.Answers.{writeAnswer, written}
 use Rattle.sheet.proofs.Answered.{written-again}
 use Rattle.grid.specs.Curves.{periodRun, flatCurves}
-use Rattle.grid.specs.Answers.{badPlace, sheetOf, finishAnswer, finished, windowsAnswer, windowsBuffer}
+use Rattle.grid.specs.Answers.{sheetOf, finishAnswer, finished, windowsAnswer, windowsBuffer}
 use Rattle.grid.proofs.Curves.{peak-curves}
 
 -- all days are in

@@ -16,7 +16,7 @@ use Rattle.readings.specs.Runs.{dayLen, runReadings}
 use Rattle.readings.specs.Legal.{highestOf, firstIllegal}
 use Rattle.grid.specs.declared.Grid.{Grid}
 use Rattle.grid.specs.Curves.{periodRun, flatCurves}
-use Rattle.grid.specs.Answers.{badPlace, windowsAnswer, sheetOf, finishAnswer, finished, openAnswer, dayAnswer, taken, closeAnswer}
+use Rattle.grid.specs.Answers.{windowsAnswer, sheetOf, finishAnswer, finished, openAnswer, dayAnswer, taken, closeAnswer}
 use Rattle.grid.specs.Rows.{OpenRow, GridDayRow, Closes, CloseRow, Complete, periodPeak, WindowsRow}
 use Rattle.grid.specs.Rows.WindowsRow.{fourteen, one, two, four, five, seven, zero}
 use Rattle.grid.specs.Rows.OpenRow.{one, two, zero}
@@ -31,7 +31,7 @@ use Rattle.sheet.specs.Bytes.{sheetSize}
 use Rattle.sheet.specs.Answers.{writeAnswer, written}
 use Rattle.sheet.proofs.Windows.{roomy}
 use Rattle.sheet.proofs.Answered.{write-year, write-level, write-accepted}
-use Rattle.answers.specs.Said.{Said, only}
+use Rattle.answers.specs.Said.{Said, only, badPlace}
 
 module _ (y level : ℕ) where
   open-holds : OpenRow y level (openAnswer y level .number)

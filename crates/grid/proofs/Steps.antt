@@ -8,7 +8,7 @@ use borrow.Author.Tests.{lt-ltb, le-ltb, le-leb, lt-leb, eq-eqb, ne-eqb}
 use lib.Dec.{eqb}
 use lib.ListN.{length}
 use Rattle.answers.specs.Ruling.{gridMost, yearOut, levelOut}
-use Rattle.answers.specs.Said.{Said, only, after}
+use Rattle.answers.specs.Said.{Said, only, after, badPlace}
 use Rattle.dates.specs.Period.{periodDays}
 use Rattle.readings.specs.Runs.{dayLen}
 use Rattle.readings.specs.Legal.{highestOf, firstAbove}
@@ -16,7 +16,7 @@ use Rattle.readings.proofs.Legal.{highest-legal, highest-illegal}
 use Rattle.sheet.specs.Bytes.{sheetSize}
 use Rattle.grid.specs.declared.Grid.{Grid}
 use Rattle.grid.specs.Curves.{periodRun}
-use Rattle.grid.specs.Answers.{badPlace, finishAnswer, finished, openAnswer, opened, shut, openGrid, dayAnswer, taken, dayGrid, closeAnswer, closeBuffer}
+use Rattle.grid.specs.Answers.{finishAnswer, finished, openAnswer, opened, shut, openGrid, dayAnswer, taken, dayGrid, closeAnswer, closeBuffer}
 use Rattle.grid.proofs.Answered.{finished-again}
 
 -- opening

@@ -6,9 +6,8 @@ use Prim.Native.Nat.{ℕ, _+_}
 use lib.Dec.{leb, ltb, eqb}
 use lib.ListN.{length, replicate}
 use Rattle.answers.specs.Ruling.{gridMost, yearOut, levelOut}
-use Rattle.answers.specs.Said.{Said, only, after}
+use Rattle.answers.specs.Said.{Said, only, after, badPlace}
 use Rattle.dates.specs.Period.{periodDays}
-use Rattle.readings.specs.declared.Place.{Place}
 use Rattle.readings.specs.Runs.{dayLen, runReadings}
 use Rattle.readings.specs.Legal.{highestOf, firstAbove, firstIllegal}
 use Rattle.sheet.specs.declared.Sheet.{Sheet}
@@ -20,10 +19,6 @@ use Rattle.grid.specs.declared.Grid.{Grid}
 use Rattle.grid.specs.declared.GridAnswer.{GridAnswer}
 use Rattle.grid.specs.declared.GridAnswer.the-variants.{Done, Short, YearOut, LevelOut, WrongLength, BadReading, NoPeak, Malformed, DayOut}
 use Rattle.grid.specs.Curves.{periodRun, flatCurves, merged}
-
--- 5 carries the day and the position of the first illegal reading
-abbrev pub badPlace : Place → Said
-badPlace place = record { number = 5; carries = place .day ∷ place .position ∷ [] }
 
 -- the number and the figures of each case of the code's answer
 abbrev pub saidOfGrid : GridAnswer → Said

@@ -12,7 +12,7 @@ ghost use Rattle.readings.specs.Legal.{highestOf};
 ghost use Rattle.sheet.specs.Answers.{saidOfSheet};
 ghost use Rattle.grid.specs.Curves.{periodRun, flatCurves, merged};
 ghost use Rattle.grid.specs.Answers.{saidOfGrid, finishAnswer, finished, windowsAnswer, windowsBuffer, openAnswer, openGrid, shut, dayAnswer, dayGrid, taken, closeAnswer, closeBuffer};
-use readings::Place;
+use answers::Place;
 use readings::Run;
 use sheet::Sheet;
 use sheet::SheetAnswer;

@@ -6,8 +6,8 @@ use Prim.Native.Nat.{ℕ, _+_}
 use lib.Dec.{ltb}
 use lib.ListN.{length, getD}
 use Rattle.over.specs.Over.{largestOver, anyOver, firstOver}
+use Rattle.answers.specs.declared.Place.{Place}
 use Rattle.readings.specs.declared.Run.{Run}
-use Rattle.readings.specs.declared.Place.{Place}
 use Rattle.readings.specs.Runs.{runDays, dayLen, reading}
 
 -- a reading above the limit

@@ -7,17 +7,12 @@ ghost use Rattle.dates.specs.Dates.{mostDays};
 ghost use Rattle.readings.specs.Runs.{runDays, dayLen, quarterOf, runReadings};
 ghost use Rattle.readings.specs.Legal.{highestOf, firstAbove, firstIllegal};
 ghost use Rattle.readings.specs.Part.{dayPart};
+use answers::Place;
 
 // The days whose readings a series holds: those of a charge year, or of its reference period.
 pub struct Run {
     pub year: u16,
     pub period: bool,
-}
-
-// Where a reading stands: its day from 1, its position in the day from 0. Day 0 is no place.
-pub struct Place {
-    pub day: u16,
-    pub position: u16,
 }
 
 fn run_days(run: Run) -> u16
