@@ -19,6 +19,7 @@ use Rattle.dates.proofs.Seasons.{period-season-range}
 use Rattle.readings.specs.Runs.{dayLen, dayStart, quarterOf, runReadings, reading}
 use Rattle.readings.specs.Legal.{highestOf, dayPeak, peakOf}
 use Rattle.readings.proofs.Runs.{quarter-in, run-held, period-run}
+use Rattle.readings.proofs.Days.{reading-le}
 use Rattle.sheet.specs.Windows.{places}
 use Rattle.grid.specs.Curves.{periodRun, counted, inSeason, topOf, curveAt, flatCurves, merged}
 
@@ -82,12 +83,6 @@ counted-le true v = omega arith
 counted-le false v = omega arith
 
 module _ (y : ℕ) (xs : List ℕ) (n : ℕ) where
-  pub reading-le : (d p : ℕ) → d < n → p < dayLen (periodRun y) d → reading (periodRun y) xs d p ≤ peakOf (periodRun y) xs n
-  unfolding peakOf dayPeak
-  reading-le d p l m =
-      le-trans (largest-above (reading (periodRun y) xs d) (dayLen (periodRun y) d) p m)
-      (largest-above (dayPeak (periodRun y) xs) n d l)
-
   curve-le : (s q : ℕ) → curveAt y xs n s q ≤ peakOf (periodRun y) xs n
   unfolding curveAt topOf
   curve-le s q =
@@ -95,7 +90,7 @@ module _ (y : ℕ) (xs : List ℕ) (n : ℕ) where
       (λ d l.
       le-trans (counted-le (inSeason y d s) _)
       (largest-le _ (dayLen (periodRun y) d) _
-      (λ p m. le-trans (counted-le (eqb (quarterOf (periodRun y) d p) q) _) (reading-le d p l m))))
+      (λ p m. le-trans (counted-le (eqb (quarterOf (periodRun y) d p) q) _) (reading-le (periodRun y) xs n d p l m))))
 
   -- a reading is no higher than the curve that it goes into
   in-day : (d p : ℕ) → p < dayLen (periodRun y) d → reading (periodRun y) xs d p ≤ topOf y d (reading (periodRun y) xs d) (periodSeason y (d + 1)) (quarterOf (periodRun y) d p)

@@ -1,4 +1,3 @@
 pub mod Curves
 pub mod Answers
-pub mod Days
 pub mod Rows

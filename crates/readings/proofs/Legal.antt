@@ -102,9 +102,10 @@ module _ (run : Run) (limit : ℕ) (xs : List ℕ) where
   unfolding badDay
   peak-illegal h = ltb-true _ _ (sym (any-first (badIn run limit xs) (runDays run)) ∙ (bad-run ∙ lt-ltb limit _ h))
 
-  pub illegal-day : limit < peakOf run xs (runDays run) → 0 < firstIllegal run limit xs .day
+  -- its day counts from 1
+  pub illegal-at : limit < peakOf run xs (runDays run) → firstIllegal run limit xs .day ≡ badDay run limit xs + 1
   unfolding firstIllegal
-  illegal-day h = simp (lt-ltb (badDay run limit xs) (runDays run) (peak-illegal h)) (omega arith)
+  illegal-at h = simp (lt-ltb (badDay run limit xs) (runDays run) (peak-illegal h))
 
   -- what the search keeps before day d, and before position p of that day
   pub record Searching (days day position start d : ℕ) : Type 0 where

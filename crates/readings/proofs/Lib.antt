@@ -1,3 +1,5 @@
 pub mod Runs
 pub mod Part
 pub mod Legal
+pub mod Days
+pub mod Machines

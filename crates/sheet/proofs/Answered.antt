@@ -13,7 +13,7 @@ use Rattle.over.proofs.Bools.{decided, clash}
 use Rattle.over.proofs.Tests.{any-fails, all-passed}
 use Rattle.answers.specs.Ruling.{yearOut, levelOut}
 use Rattle.answers.specs.Said.{only, after}
-use Rattle.answers.proofs.Laws.{after-again}
+use Rattle.answers.proofs.Laws.{after-again, refusal-keeps}
 use Rattle.sheet.specs.declared.Sheet.{Sheet}
 use Rattle.sheet.specs.Windows.{tooFull}
 use Rattle.sheet.specs.Bytes.{mark, versionAt, yearAt, levelAt, sheetSize, sheetVersion, twoAt, windowsIn, sheetIn, sheetBytes, unmarked}
@@ -92,7 +92,7 @@ module _ (s : Sheet) where
       → eqb n 0 ≡ false
       → (only n ≡ writeAnswer s (length out)) × (out ≡ written s out)
   unfolding written
-  write-refused out e z = (e, rw (← e, z))
+  write-refused out e z = refusal-keeps _ (sheetBytes s ++ drop sheetSize out) out e z
 
   pub write-taken :
       (out next : List ℕ)

@@ -1,0 +1,48 @@
+-- Document 01, Numbered answers, last paragraph: "Both series may be given whole or day by day." What readings alone decide, for a run's
+-- whole series and for one day after the other; a machine of days is any state with its answer to a day and its next state.
+use mathlib.Core.Path.{_≡_}
+use mathlib.Core.Bool.{cond, not}
+use mathlib.Core.List.{List, [], _∷_, _++_}
+use Prim.Native.Nat.{ℕ, _+_, _<_}
+use lib.Dec.{leb, ltb, eqb}
+use lib.ListN.{length}
+use Rattle.over.specs.Over.{table}
+use Rattle.answers.specs.Said.{Said, only, badPlace, after}
+use Rattle.readings.specs.declared.Run.{Run}
+use Rattle.readings.specs.Runs.{runDays, dayLen, runReadings}
+use Rattle.readings.specs.Legal.{firstAbove, firstIllegal}
+use Rattle.readings.specs.Part.{dayPart}
+
+-- a whole series: 4 for a wrong length, then 5 for the first illegal reading
+unfoldable pub seriesAnswer : Run → ℕ → List ℕ → Said
+seriesAnswer run limit xs =
+    cond (not (eqb (length xs) (runReadings run))) (only 4)
+    (cond (ltb 0 (firstIllegal run limit xs .day)) (badPlace (firstIllegal run limit xs))
+    (only 0))
+
+-- a day where n days are taken: "A day past the end is 13, then a day of wrong length 4, then a bad reading 5"
+unfoldable pub nextAnswer : Run → ℕ → ℕ → List ℕ → Said
+nextAnswer run limit n day =
+    cond (leb (runDays run) n) (only 13)
+    (cond (not (eqb (length day) (dayLen run n))) (only 4)
+    (cond (ltb (firstAbove limit day) (length day)) (badPlace (record { day = n + 1; position = firstAbove limit day }))
+    (only 0)))
+
+-- the state after days that are offered one by one, refused ones among them
+unfoldable pub offered : {S : Type 0} → (S → List ℕ → S) → S → List (List ℕ) → S
+offered step s [] = s
+offered step s (day ∷ days) = offered step (step s day) days
+
+-- the readings of the days that are taken, one day after the other
+unfoldable pub takenReadings : {S : Type 0} → (S → List ℕ → Said) → (S → List ℕ → S) → S → List (List ℕ) → List ℕ
+takenReadings answer step s [] = []
+takenReadings answer step s (day ∷ days) = after (answer s day) day [] ++ takenReadings answer step (step s day) days
+
+-- the first n days of a series, each as it is handed out
+unfoldable pub daysOf : List ℕ → ℕ → List (List ℕ)
+daysOf xs n = table (λ d. dayPart xs (d + 1)) n
+
+-- a series whose days are offered to a machine: those before day d (from 0) are taken, and day d answers 5 at position q
+pub record BadThere {S : Type 0} (answer : S → List ℕ → Said) (step : S → List ℕ → S) (start : S) (xs : List ℕ) (d q : ℕ) : Type 0 where
+  pub before : (n : ℕ) → n < d → answer (offered step start (daysOf xs n)) (dayPart xs (n + 1)) ≡ only 0
+  pub there : answer (offered step start (daysOf xs d)) (dayPart xs (d + 1)) ≡ badPlace (record { day = d + 1; position = q })
