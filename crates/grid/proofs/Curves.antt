@@ -10,7 +10,7 @@ use borrow.Author.Tests.{eq-eqb}
 use lib.Dec.{eqb}
 use lib.ListN.{length, getD, take, drop, replicate, length-replicate, getD-replicate, length-take, length-drop}
 use lib.Seq.{getD-take, getD-drop}
-use Rattle.over.specs.Over.{largestOver}
+use Rattle.over.specs.Over.{largestOver, counted}
 use Rattle.over.proofs.Largest.{largest-none, largest-more, largest-above, largest-le, largest-cong}
 use Rattle.over.proofs.Tables.{length-table, getD-table, is-table, table-cong}
 use Rattle.answers.specs.Ruling.{dayQuarters}
@@ -21,7 +21,7 @@ use Rattle.readings.specs.Legal.{highestOf, dayPeak, peakOf}
 use Rattle.readings.proofs.Runs.{quarter-in, run-held, period-run}
 use Rattle.readings.proofs.Days.{reading-le}
 use Rattle.sheet.specs.Windows.{places}
-use Rattle.grid.specs.Curves.{periodRun, counted, inSeason, topOf, curveAt, flatCurves, merged}
+use Rattle.grid.specs.Curves.{periodRun, inSeason, topOf, curveAt, flatCurves, merged}
 
 pub curves-long : (y : ℕ) (xs : List ℕ) (n : ℕ) → length (flatCurves y xs n) ≡ places
 unfolding flatCurves
