@@ -1,0 +1,27 @@
+-- `grid_cases::write_bytes` is safe: every place is inside the bytes.
+-- Assumes nothing.
+use Prim.Native.Nat.{_≤_, _-_}
+use borrow.Author.Needs.{needs}
+use Rattle.grid_cases.proofs.write_bytes.Statement.{statement}
+use Rattle.grid_cases.proofs.write_bytes.Tie as tie
+
+abbrev Inv-loop : tie.InvT-loop
+Inv-loop bytes i₀ i = i ≤ 64
+
+abbrev μ-loop : tie.MeasureT-loop
+μ-loop bytes i₀ i = 64 - i
+
+pub write-bytes-spec : {M : Type 1} → statement M
+write-bytes-spec =
+    tie.close
+    (tie.spec
+    Inv-loop
+    μ-loop
+    (λ c. search needs)  -- loop-holds
+    (λ c. search needs)  -- array-read-print-hex
+    (λ c. search needs)  -- cast-print-hex
+    (λ c κs. search needs)  -- print-hex-requires
+    (λ c. search needs)  -- add-i
+    (λ c. search needs)  -- loop-less
+    (λ c. search needs)  -- loop-again
+    (λ c. search needs))

@@ -1,0 +1,64 @@
+-- Laws of the charges: the sum split at the parts of a cent gives the same charge, its products are small, it is the exact value
+-- rounded half up, the floor is the least, and no charge grows as the capacity figure falls.
+-- Assumes nothing.
+use mathlib.Core.Path.{_≡_, sym, ap, ap₂, _∙_}
+use mathlib.Core.Bool.{Bool}
+use Prim.Native.Nat.{ℕ, _+_, _*_, _/_, _%_, _≤_, _<_, max}
+use native.Mathlib.Nat.{mul-le-mul, mul-le-mul-right, add-mul, div-add-mod', mul-assoc, mul-comm}
+use native.Mathlib.Omega.{arith}
+use Rattle.answers.specs.Ruling.{capacityMost, energyMost, floorParts}
+use Rattle.tariff.specs.declared.Row.{Row}
+use Rattle.tariff.specs.declared.Prices.{Prices}
+use Rattle.tariff.specs.declared.Figures.{Figures}
+use Rattle.tariff.specs.Charges.{centParts, capacityParts, partsFor, chargeFor, general, reduced, floorOf, charge}
+
+module _ (power : ℕ) (row : Row) (sum : ℕ) where
+  pub charge-split :
+      sum / centParts * row .energy + (capacityParts * power * row .capacity + sum % centParts * row .energy + centParts / 2) / centParts
+      ≡ chargeFor power row sum
+  unfolding chargeFor
+  charge-split =
+      let a : ℕ = row .energy in
+      let whole : sum * a ≡ sum / centParts * centParts * a + sum % centParts * a = ap (λ (n : ℕ). n * a) (sym (div-add-mod' sum centParts)) ∙ add-mul _ _ a in
+      let turned : sum / centParts * centParts * a ≡ sum / centParts * a * centParts = mul-assoc _ _ a ∙ ap (_*_ (sum / centParts)) (mul-comm centParts a) ∙ sym (mul-assoc _ a centParts) in
+      omega arith
+
+  -- a charge is its exact value rounded half up: twice the exact value lies from 2 c - 1 to below 2 c + 1
+  pub charge-rounded :
+      (2 * centParts * chargeFor power row sum ≤ 2 * partsFor power row sum + centParts)
+      × (2 * partsFor power row sum + centParts < 2 * centParts * (chargeFor power row sum + 1))
+  unfolding chargeFor
+  charge-rounded = (omega arith, omega arith)
+
+-- the products of a charge are small
+pub record Small (power l a sum : ℕ) : Type 0 where
+  pub peak : capacityParts * power * l ≤ 1717986918000000000
+  pub most : sum / centParts * a ≤ 230584300921350000
+  pub rest : sum % centParts * a ≤ 200000000000
+
+pub product : (a b : ℕ) {m n : ℕ} → a ≤ m → b ≤ n → a * b ≤ m * n
+product a b h k = mul-le-mul h k
+
+pub small : (power l a sum : ℕ) → power ≤ 4294967295 → l ≤ capacityMost → a ≤ energyMost → sum < 18446744073709551616 → Small power l a sum
+small power l a sum hp hl ha hs =
+    record {
+      peak = omega (arith, product (capacityParts * power) l {m = 17179869180000} {n = capacityMost} (omega arith) hl);
+      most = omega (arith, product (sum / centParts) a {m = 4611686018427} {n = energyMost} (omega arith) ha);
+      rest = omega (arith, product (sum % centParts) a {m = centParts} {n = energyMost} (omega arith) ha);
+    }
+
+-- no lower whole cent is a fifth of the general charge
+pub floor-least : (g : ℕ) → (g ≤ floorParts * floorOf g) × ((k : ℕ) → k < floorOf g → floorParts * k < g)
+unfolding floorOf
+floor-least g = (omega arith, λ k l. omega arith)
+
+pub charge-mono : (a b : ℕ) (row : Row) (sum : ℕ) → a ≤ b → chargeFor a row sum ≤ chargeFor b row sum
+unfolding chargeFor
+charge-mono a b row sum h =
+    let m : capacityParts * a * row .capacity ≤ capacityParts * b * row .capacity = mul-le-mul-right (row .capacity) (omega arith) in
+    omega arith
+
+-- the larger of reduced charge and floor is the charge
+pub charge-of : (f : Figures) (p : Prices) (option : Bool) {r t g : ℕ} → r ≡ reduced f p option → t ≡ floorOf g → g ≡ general f p → max r t ≡ charge f p option
+unfolding charge
+charge-of f p option a b e = ap₂ max a (b ∙ ap floorOf e)

@@ -1,0 +1,7 @@
+pub mod Limits
+pub mod Shares
+pub mod Charges
+pub mod Answered
+pub mod Only
+pub mod Exactly
+pub mod Demand

@@ -1,0 +1,36 @@
+-- A price list is refused exactly when it is not within its limits, and a legal level with legal prices passes both tests.
+-- Assumes nothing.
+use mathlib.Core.Path.{_≡_}
+use mathlib.Core.Bool.{false}
+use mathlib.Core.Logic.{_↔_}
+use Prim.Native.Nat.{ℕ}
+use borrow.Author.Tests.{le-ltb, ltb-false}
+use lib.Dec.{ltb}
+use Rattle.over.proofs.Bools.{neither}
+use Rattle.answers.specs.Ruling.{capacityMost, energyMost, levelOut}
+use Rattle.answers.proofs.Laws.{level-of}
+use Rattle.tariff.specs.declared.Row.{Row}
+use Rattle.tariff.specs.declared.Prices.{Prices}
+use Rattle.tariff.specs.Prices.{rowOut, pricesOut, LegalRow, LegalPrices}
+use Rattle.tariff.specs.Rows.{Legal}
+
+row-legal : (row : Row) → (rowOut row ≡ false) ↔ LegalRow row
+unfolding rowOut
+row-legal row = (
+  λ e.
+      let n = neither (ltb capacityMost (row .capacity)) (ltb energyMost (row .energy)) e in
+      record { capacity = ltb-false _ _ (n .0); energy = ltb-false _ _ (n .1) },
+  λ h. simp (le-ltb _ _ (h .capacity), le-ltb _ _ (h .energy)),
+)
+
+pub prices-legal : (p : Prices) → (pricesOut p ≡ false) ↔ LegalPrices p
+unfolding pricesOut
+prices-legal p = (
+  λ e.
+      let n = neither (rowOut (p .low)) (rowOut (p .high)) e in
+      record { low = row-legal (p .low) .0 (n .0); high = row-legal (p .high) .0 (n .1) },
+  λ h. simp (row-legal (p .low) .1 (h .low), row-legal (p .high) .1 (h .high)),
+)
+
+pub legal-in : {level : ℕ} {p : Prices} → Legal level p → (levelOut level ≡ false) × (pricesOut p ≡ false)
+legal-in {level} {p} h = (level-of level .1 (h .legal-level), prices-legal p .1 (h .legal-prices))

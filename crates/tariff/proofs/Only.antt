@@ -1,0 +1,67 @@
+-- Nothing else meets the promises of this crate: what an answer says fixes the answer.
+-- Assumes nothing.
+use mathlib.Core.Path.{_≡_, refl, sym, ap, _∙_}
+use mathlib.Core.Bool.{cond}
+use Prim.Native.Nat.{ℕ, _+_}
+use lib.Dec.{eqb}
+use lib.ListN.{length, getD}
+use Rattle.answers.specs.Said.{Said}
+use Rattle.answers.proofs.Laws.{one-answer}
+use Rattle.tariff.specs.declared.Plain.{Plain}
+use Rattle.tariff.specs.declared.Peaks.{Peaks}
+use Rattle.tariff.specs.declared.Decision.{Decision}
+use Rattle.tariff.specs.declared.Decision.the-variants.{Accepted, Eligible, Taken, YearOut, LevelOut, BadHolidays, WrongLength, BadReading, PriceOut, NoWindow, ShareShort, MoveShort, ReductionShort, Malformed, DayOut}
+use Rattle.tariff.specs.Answers.{saidOf}
+
+-- figure i of an answer, and the figures from figure i on
+abbrev figure : Said → ℕ → ℕ
+figure a i = getD (a .carries) i 0
+
+abbrev plainFrom : Said → ℕ → Plain
+plainFrom a i = record { general = figure a i; peak = figure a (1 + i); sum = figure a (2 + i) }
+
+abbrev peaksFrom : Said → ℕ → Peaks
+peaksFrom a i = record { plain = plainFrom a i; high = figure a (3 + i); day = figure a (4 + i); quarter = figure a (5 + i) }
+
+-- an answer, back from what it says: linear in the cases. 0 alone is a day that is taken, yes is one figure, a charge comes with seven.
+abbrev decisionBack : Said → Decision
+decisionBack a =
+    cond (eqb (a .number) 0)
+    (cond (eqb (length (a .carries)) 0) Taken
+    (cond (eqb (length (a .carries)) 1) Eligible
+    (Accepted (record { charge = figure a 0; peaks = peaksFrom a 1 }))))
+    (cond (eqb (a .number) 1) YearOut
+    (cond (eqb (a .number) 2) LevelOut
+    (cond (eqb (a .number) 3) BadHolidays
+    (cond (eqb (a .number) 4) WrongLength
+    (cond (eqb (a .number) 5) (BadReading (record { day = figure a 0; position = figure a 1 }))
+    (cond (eqb (a .number) 6) PriceOut
+    (cond (eqb (a .number) 8) (NoWindow (plainFrom a 0))
+    (cond (eqb (a .number) 9) (ShareShort (peaksFrom a 0))
+    (cond (eqb (a .number) 10) (MoveShort (peaksFrom a 0))
+    (cond (eqb (a .number) 11) (ReductionShort (peaksFrom a 0))
+    (cond (eqb (a .number) 12) Malformed DayOut)))))))))))
+
+back : (d : Decision) → decisionBack (saidOf d) ≡ d
+back (Accepted a) = refl
+back Eligible = refl
+back Taken = refl
+back YearOut = refl
+back LevelOut = refl
+back BadHolidays = refl
+back WrongLength = refl
+back (BadReading place) = refl
+back PriceOut = refl
+back (NoWindow a) = refl
+back (ShareShort a) = refl
+back (MoveShort a) = refl
+back (ReductionShort a) = refl
+back Malformed = refl
+back DayOut = refl
+
+pub decision-said : {a b : Decision} → saidOf a ≡ saidOf b → a ≡ b
+decision-said {a} {b} e = sym (back a) ∙ ap decisionBack e ∙ back b
+
+-- nothing else meets a promise of `eligible`, `charge`, `judge`
+pub decision-only : {x : Said} {r s : Decision} → saidOf r ≡ x → saidOf s ≡ x → r ≡ s
+decision-only p q = decision-said (one-answer p q)

@@ -1,0 +1,72 @@
+-- `tariff::charge` meets its contract, a law for each return.
+-- Assumes nothing.
+use mathlib.Core.Path.{_≡_, sym, ap, _∙_}
+use mathlib.Core.Bool.{true, false}
+use native.Mathlib.Omega.{arith}
+use borrow.Author.Needs.{needs}
+use borrow.Author.Tests.{not-true, not-false}
+use Rattle.tariff.specs.Prices.{pricesOut}
+use Rattle.tariff.specs.Charges.{charge}
+use Rattle.tariff.specs.Answers.{withPlain, withPeaks}
+use Rattle.tariff.proofs.Limits.{prices-legal}
+use Rattle.tariff.proofs.Charges.{charge-of}
+use Rattle.tariff.proofs.Answered.{charge-prices, charge-none, charge-reduction, charge-accepted}
+use Rattle.tariff.proofs.charge.Statement.{statement}
+use Rattle.tariff.proofs.charge.Tie as tie
+
+-- what is known past each test, and of the charge
+prices-at : (e : tie.Else1) → pricesOut (e .before .before .args .prices) ≡ false
+prices-at e = sym (e .before .prices-out .ensures) ∙ e .if1 .left
+
+some-at : (e : tie.Else2) → e .before .before .before .before .before .args .figures .any ≡ true
+some-at e = not-false _ (sym (e .before .no-window .ensures) ∙ e .if2 .left)
+
+charge-at :
+    (c : tie.After-larger)
+    → let a = c .before .before .before .before .before .before .before .before .args in
+    c .larger .result ≡ charge (a .figures) (a .prices) (a .option)
+charge-at c =
+    let a = c .before .before .before .before .before .before .before .before .args in
+    c .larger .ensures
+    ∙ charge-of (a .figures) (a .prices) (a .option) (c .before .before .reduced-charge .ensures .0) (c .before .floor-of .ensures .0)
+    (c .before .before .before .before .before .general-charge .ensures .0)
+
+returns-2 : tie.Need-returns-2
+returns-2 c =
+    let g = c .before .before .before in
+    ap withPlain (c .plain-of .ensures)
+    ∙ charge-none _ _ _ (prices-at (g .before)) (g .general-charge .ensures .0) (not-true _ (sym (c .before .before .no-window .ensures) ∙ c .before .if2 .taken))
+
+returns-3 : tie.Need-returns-3
+returns-3 c =
+    let l = c .before .before in
+    let s = l .before .before .before in
+    let g = s .before .before in
+    ap (withPeaks 11) (c .before .peaks-of .ensures)
+    ∙ charge-reduction _ _ _ (prices-at (g .before)) (g .general-charge .ensures .0) (some-at s) (charge-at l) (omega arith)
+
+returns-4 : tie.Need-returns-4
+returns-4 c =
+    let l = c .before .before in
+    let s = l .before .before .before in
+    let g = s .before .before in
+    rw (c .before .peaks-of .ensures)
+    (charge-accepted _ _ _ (prices-at (g .before)) (g .general-charge .ensures .0) (some-at s) (charge-at l) (omega arith))
+
+pub charge-spec : {M : Type 1} → statement M
+charge-spec =
+    tie.close
+    (tie.spec
+    (λ c κs. search needs)  -- prices-out-requires
+    (λ c. charge-prices _ _ _ (sym (c .before .prices-out .ensures) ∙ c .if1 .taken))  -- returns
+    (λ c κs. prices-legal _ .0 (prices-at c))  -- general-charge-requires
+    (λ c κs. search needs)  -- no-window-requires
+    (λ c κs. search needs)  -- plain-of-requires
+    returns-2
+    (λ c κs. prices-legal _ .0 (prices-at (c .before .before .before)))  -- reduced-charge-requires
+    (λ c κs. search needs)  -- floor-of-requires
+    (λ c κs. search needs)  -- larger-requires
+    (λ c κs. search needs)  -- peaks-of-requires
+    (λ c. search needs)  -- add-if3
+    returns-3
+    returns-4)

@@ -1,0 +1,20 @@
+-- `tariff::reduced_charge` meets its contract: the charge for the in-window peak, in the row that the option leaves.
+-- Assumes nothing.
+use mathlib.Core.Path.{_∙_}
+use borrow.Author.Needs.{needs}
+use Rattle.tariff.specs.Charges.{reduced}
+use Rattle.tariff.proofs.reduced_charge.Statement.{statement}
+use Rattle.tariff.proofs.reduced_charge.Tie as tie
+
+returns : tie.Need-returns
+unfolding reduced
+returns c = (c .charge-for .ensures .0 ∙ rw (c .before .row-of .ensures .0, c .before .before .few-hours .ensures), c .charge-for .ensures .1)
+
+pub reduced-charge-spec : {M : Type 1} → statement M
+reduced-charge-spec =
+    tie.close
+    (tie.spec
+    (λ c κs. search needs)  -- few-hours-requires
+    (λ c κs. search needs)  -- row-of-requires
+    (λ c κs. search needs)  -- charge-for-requires
+    returns)

@@ -1,0 +1,67 @@
+-- Document 01, Numbered answers: what each number of the decision carries, in the table's order, and the number of each case of the
+-- code's answer. M is `peak`, S is `sum`, H is `high` with its day and quarter.
+use mathlib.Core.Bool.{true}
+use mathlib.Core.List.{List, [], _∷_, _++_}
+use Prim.Native.Nat.{ℕ}
+use lib.ListN.{getD}
+use Rattle.answers.specs.Said.{Said, only, badPlace, yesNo}
+use Rattle.tariff.specs.declared.Figures.{Figures}
+use Rattle.tariff.specs.declared.Plain.{Plain}
+use Rattle.tariff.specs.declared.Peaks.{Peaks}
+use Rattle.tariff.specs.declared.Charged.{Charged}
+use Rattle.tariff.specs.declared.Decision.{Decision}
+use Rattle.tariff.specs.declared.Decision.the-variants.{Accepted, Eligible, Taken, YearOut, LevelOut, BadHolidays, WrongLength, BadReading, PriceOut, NoWindow, ShareShort, MoveShort, ReductionShort, Malformed, DayOut}
+
+-- "g, M, S"
+abbrev pub plainFigures : Plain → List ℕ
+plainFigures a = a .general ∷ a .peak ∷ a .sum ∷ []
+
+-- "g, M, S, H with its place"
+abbrev pub peaksFigures : Peaks → List ℕ
+peaksFigures a = plainFigures (a .plain) ++ (a .high ∷ a .day ∷ a .quarter ∷ [])
+
+-- "c, g, M, S, H with its place"
+abbrev pub chargedFigures : Charged → List ℕ
+chargedFigures a = a .charge ∷ peaksFigures (a .peaks)
+
+-- 8 with its figures; 9, 10 or 11 with theirs; 0 with the charge
+abbrev pub withPlain : Plain → Said
+withPlain a = record { number = 8; carries = plainFigures a }
+
+abbrev pub withPeaks : ℕ → Peaks → Said
+withPeaks n a = record { number = n; carries = peaksFigures a }
+
+abbrev pub withCharge : Charged → Said
+withCharge a = record { number = 0; carries = chargedFigures a }
+
+-- the number and the figures of each case of the code's answer
+abbrev pub saidOf : Decision → Said
+saidOf (Accepted a) = withCharge a
+saidOf Eligible = yesNo true
+saidOf Taken = only 0
+saidOf YearOut = only 1
+saidOf LevelOut = only 2
+saidOf BadHolidays = only 3
+saidOf WrongLength = only 4
+saidOf (BadReading place) = badPlace place
+saidOf PriceOut = only 6
+saidOf (NoWindow a) = withPlain a
+saidOf (ShareShort a) = withPeaks 9 a
+saidOf (MoveShort a) = withPeaks 10 a
+saidOf (ReductionShort a) = withPeaks 11 a
+saidOf Malformed = only 12
+saidOf DayOut = only 13
+
+-- what is carried of a year's figures f, its general charge g and its charge c
+abbrev pub plainOf : Figures → ℕ → Plain
+plainOf f g = record { general = g; peak = f .peak; sum = f .sum }
+
+abbrev pub peaksOf : Figures → ℕ → Peaks
+peaksOf f g = record { plain = plainOf f g; high = f .high; day = f .day; quarter = f .quarter }
+
+abbrev pub chargedOf : Figures → ℕ → ℕ → Charged
+chargedOf f g c = record { charge = c; peaks = peaksOf f g }
+
+-- what the customer pays by an answer: the charge c by 0, the general charge g by 8 to 11. Each carries it first.
+abbrev pub payable : Said → ℕ
+payable a = getD (a .carries) 0 0
