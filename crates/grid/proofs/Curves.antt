@@ -8,8 +8,7 @@ use native.Mathlib.Nat.{le-trans, le-antisymm}
 use native.Mathlib.Omega.{arith}
 use borrow.Author.Tests.{eq-eqb}
 use lib.Dec.{eqb}
-use lib.ListN.{length, getD, take, drop, replicate, length-replicate, getD-replicate, length-take, length-drop}
-use lib.Seq.{getD-take, getD-drop}
+use lib.ListN.{length, getD, take, drop, replicate, length-replicate, getD-replicate}
 use Rattle.over.specs.Over.{largestOver, counted}
 use Rattle.over.proofs.Largest.{largest-none, largest-more, largest-above, largest-le, largest-cong}
 use Rattle.over.proofs.Tables.{length-table, getD-table, is-table, table-cong}
@@ -19,6 +18,7 @@ use Rattle.dates.proofs.Seasons.{period-season-range}
 use Rattle.readings.specs.Runs.{dayLen, dayStart, quarterOf, runReadings, reading}
 use Rattle.readings.specs.Legal.{highestOf, dayPeak, peakOf}
 use Rattle.readings.proofs.Runs.{quarter-in, run-held, period-run}
+use Rattle.readings.proofs.Part.{cut-at}
 use Rattle.readings.proofs.Days.{reading-le}
 use Rattle.sheet.specs.Windows.{places}
 use Rattle.grid.specs.Curves.{periodRun, inSeason, topOf, curveAt, flatCurves, merged}
@@ -54,18 +54,14 @@ module _ (y : ℕ) (xs : List ℕ) (d : ℕ) (day : List ℕ) (same : (p : ℕ) 
       rw (e, getD-table, largest-more)
       (ap (max (largestOver (λ k. topOf y k (reading (periodRun y) xs k) (i / dayQuarters + 1) (i % dayQuarters)) d)) (top-cong y d _ _ same (i / dayQuarters + 1) (i % dayQuarters))))
 
--- a day that a series holds, cut out of it
-module _ (y : ℕ) (xs : List ℕ) (d at size : ℕ) (ea : at ≡ dayStart (periodRun y) d) (es : size ≡ dayLen (periodRun y) d) where
-  cut-at : (p : ℕ) → p < dayLen (periodRun y) d → getD (take size (drop at xs)) p 0 ≡ reading (periodRun y) xs d p
-  cut-at p l =
-      let m : p < size = omega arith in
-      rw (getD-take, getD-drop) (ap (λ (k : ℕ). getD xs (k + p) 0) ea)
-
-  pub curves-cut : {flat : List ℕ} → flat ≡ flatCurves y xs d → merged y flat d (take size (drop at xs)) ≡ flatCurves y xs (d + 1)
-  curves-cut e = curves-more y xs d (take size (drop at xs)) cut-at e
-
-  pub cut-long : at + size ≤ length xs → length (take size (drop at xs)) ≡ dayLen (periodRun y) d
-  cut-long h = simp (length-take, length-drop) (omega arith)
+-- a day cut out of the series
+pub curves-cut :
+    (y : ℕ) (xs : List ℕ) (d : ℕ) {at size : ℕ} {flat : List ℕ}
+    → at ≡ dayStart (periodRun y) d
+    → size ≡ dayLen (periodRun y) d
+    → flat ≡ flatCurves y xs d
+    → merged y flat d (take size (drop at xs)) ≡ flatCurves y xs (d + 1)
+curves-cut y xs d ea es e = curves-more y xs d _ (cut-at (periodRun y) xs d ea es) e
 
 -- every day of the period stands within a series of the right length
 pub held :

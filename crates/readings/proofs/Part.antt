@@ -1,6 +1,6 @@
 -- Laws of a day's part of a series: the code's cases, and that it is the day as every run lays it out.
 -- Assumes nothing.
-use mathlib.Core.Path.{_≡_, ap, _∙_}
+use mathlib.Core.Path.{_≡_, refl, ap, _∙_}
 use mathlib.Core.List.{List, []}
 use Prim.Native.Nat.{ℕ, _+_, _-_, _*_, _/_, _≤_, _<_}
 use native.Mathlib.Omega.{arith}
@@ -32,6 +32,16 @@ module _ (xs : List ℕ) (day : ℕ) where
   unfolding dayPart
   part-held n h ea es = simp (ne-eqb day 0 n, le-ltb (length xs) (dayQuarters * day) (omega arith), ea, es)
 
+-- a day cut out of a series at its place
+module _ (run : Run) (xs : List ℕ) (d : ℕ) {at size : ℕ} (ea : at ≡ dayStart run d) (es : size ≡ dayLen run d) where
+  pub cut-at : (p : ℕ) → p < dayLen run d → getD (take size (drop at xs)) p 0 ≡ reading run xs d p
+  cut-at p l =
+      let m : p < size = omega arith in
+      rw (getD-take, getD-drop) (ap (λ (k : ℕ). getD xs (k + p) 0) ea)
+
+  pub cut-long : at + size ≤ length xs → length (take size (drop at xs)) ≡ dayLen run d
+  cut-long h = simp (length-take, length-drop) (omega arith)
+
 -- a day that the series holds, as a run lays it out
 module _ (run : Run) (xs : List ℕ) (d : ℕ) (h : dayStart run d + dayLen run d ≤ length xs) where
   pub part-of : dayPart xs (d + 1) ≡ take (dayLen run d) (drop (dayStart run d) xs)
@@ -44,7 +54,7 @@ module _ (run : Run) (xs : List ℕ) (d : ℕ) (h : dayStart run d + dayLen run 
       (ap (λ (n : ℕ). take n (drop (dayStart run d) xs)) l)
 
   pub length-part : length (dayPart xs (d + 1)) ≡ dayLen run d
-  length-part = ap length part-of ∙ simp (length-take, length-drop) (omega arith)
+  length-part = ap length part-of ∙ cut-long run xs d refl refl h
 
   pub part-at : (p : ℕ) → p < dayLen run d → getD (dayPart xs (d + 1)) p 0 ≡ reading run xs d p
-  part-at p l = rw (part-of, getD-take, getD-drop)
+  part-at p l = rw part-of (cut-at run xs d refl refl p l)

@@ -12,7 +12,7 @@ use lib.Dec.{eqb}
 use lib.ListN.{length, getD}
 use Rattle.over.proofs.Bools.{decided, refutes}
 use Rattle.answers.specs.Ruling.{yearOut, levelOut}
-use Rattle.answers.specs.Said.{Said}
+use Rattle.answers.specs.Said.{Said, only}
 use Rattle.answers.proofs.Laws.{one-answer, charge-year, level-of}
 use Rattle.sheet.specs.declared.Sheet.{Sheet}
 use Rattle.sheet.specs.declared.Reading.{Reading}
@@ -49,6 +49,23 @@ module _ (b : List ℕ) where
 
   pub read-exactly : (n : ℕ) → (readAnswer b .number ≡ n) ↔ ReadRow b n
   read-exactly n = (λ e. rw e at read-holds, read-given)
+
+  -- 0 carries nothing, and 14 is never given
+  pub read-zero : readAnswer b .number ≡ 0 → only 0 ≡ readAnswer b
+  read-zero e = go (read-exactly 0 .0 e)
+    where
+      go : ReadRow b 0 → only 0 ≡ readAnswer b
+      go (zero f y l w) = read-accepted b f (charge-year _ .1 y) (level-of _ .1 l) (roomy _ .1 w)
+
+  pub read-never : readAnswer b .number ≡ 14 → ⊥
+  read-never e = go (read-exactly 14 .0 e) refl
+    where
+      go : {n : ℕ} → ReadRow b n → n ≡ 14 → ⊥
+      go (malformed f) h = omega arith
+      go (one f y) h = omega arith
+      go (two f y l) h = omega arith
+      go (full f y l w) h = omega arith
+      go (zero f y l w) h = omega arith
 
 module _ (s : Sheet) (room : ℕ) where
   write-holds : WriteRow s room (writeAnswer s room .number)

@@ -9,7 +9,8 @@ use Rattle.readings.specs.Runs.{dayLen, dayStart}
 use Rattle.grid.specs.Curves.{periodRun, flatCurves}
 use Rattle.dates.proofs.Seasons.{period-most}
 use Rattle.readings.proofs.Runs.{start-none, start-more}
-use Rattle.grid.proofs.Curves.{curves-long, curves-none, curves-cut, cut-long, held}
+use Rattle.readings.proofs.Part.{cut-long}
+use Rattle.grid.proofs.Curves.{curves-long, curves-none, curves-cut, held}
 use Rattle.grid.proofs.collect.Statement.{statement}
 use Rattle.grid.proofs.collect.Tie as tie
 
@@ -34,7 +35,7 @@ lay-requires c κs =
     let at = e .before .before .loop in (
       ap length (at .inv .2) ∙ curves-long _ _ _,
       omega (arith, period-most (a .year)),
-      cut-long (a .year) (a .series .now) (at .d) (at .at) (at .at + e .day-len .result - at .at) (at .inv .1) (omega arith) (omega (arith, room e)),
+      cut-long (periodRun (a .year)) (a .series .now) (at .d) {size = at .at + e .day-len .result - at .at} (at .inv .1) (omega arith) (omega (arith, room e)),
     )
 
 loop-again : tie.Need-loop-again Inv-loop μ-loop
@@ -45,7 +46,7 @@ loop-again c =
     let next = start-more (periodRun (a .year)) (at .d) in (
       omega arith,
       omega arith,
-      c .lay .ensures ∙ curves-cut (a .year) (a .series .now) (at .d) (at .at) (at .at + e .day-len .result - at .at) (at .inv .1) (omega arith) (at .inv .2),
+      c .lay .ensures ∙ curves-cut (a .year) (a .series .now) (at .d) {size = at .at + e .day-len .result - at .at} (at .inv .1) (omega arith) (at .inv .2),
     )
 
 returns : tie.Need-returns Inv-loop μ-loop

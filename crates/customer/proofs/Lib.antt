@@ -1,0 +1,4 @@
+pub mod Taken
+pub mod OneDay
+pub mod Answered
+pub mod Exactly

@@ -1,0 +1,43 @@
+-- `customer::day::plain_tops` meets its contract. The loop's invariant: the figures are those of the first p readings.
+-- Assumes nothing.
+use mathlib.Core.Bool.{false}
+use Prim.Native.Nat.{_≤_, _-_}
+use native.Mathlib.Omega.{arith}
+use borrow.Author.Needs.{needs}
+use lib.ListN.{length}
+use Rattle.customer.proofs.OneDay.{Passing, passing-none, passing-more, passing-all}
+use Rattle.customer.proofs.day.plain_tops.Statement.{statement}
+use Rattle.customer.proofs.day.plain_tops.Tie as tie
+
+abbrev Inv-loop : tie.InvT-loop
+Inv-loop day peak₀ sum₀ p₀ p-end peak sum p = (length day ≤ 100) × Passing (λ k. false) day peak sum 0 p
+
+abbrev μ-loop : tie.MeasureT-loop
+μ-loop day peak₀ sum₀ p₀ p-end peak sum p = length day - p
+
+loop-again : tie.Need-loop-again Inv-loop μ-loop
+loop-again c =
+    let at = c .before .before .before .before .before .loop in
+    (at .inv .0, passing-more _ _ (at .inv .1) (omega arith) (c .before .before .larger .ensures) (c .wide .ensures .0) (c .wide .ensures .1) (omega arith))
+
+returns : tie.Need-returns Inv-loop μ-loop
+returns c = let at = c .before .loop in (passing-all _ _ (at .inv .1) (omega arith), omega (arith, at .inv .1 .small, at .inv .1 .some))
+
+pub plain-tops-spec : {M : Type 1} → statement M
+plain-tops-spec =
+    tie.close
+    (tie.spec
+    Inv-loop
+    μ-loop
+    (λ c. (omega arith, passing-none _ _))  -- loop-holds
+    (λ c. search needs)  -- mul-larger
+    (λ c. search needs)  -- shared-slice-read-larger
+    (λ c κs. search needs)  -- larger-requires
+    (λ c. search needs)  -- mul-wide
+    (λ c. search needs)  -- shared-slice-read-wide
+    (λ c κs. search needs)  -- wide-requires
+    (λ c. let h = c .before .before .before .before .before .loop .inv .1 .small in omega arith)  -- add-sum
+    (λ c. search needs)  -- add-p
+    (λ c. search needs)  -- loop-less
+    loop-again
+    returns)

@@ -1,0 +1,81 @@
+-- Document 01, Customer's year and decision: "Annual peak M: highest reading. In-window peak H: highest in-window reading, with the day and
+-- quarter where it first occurs. S: sum of all readings". `inWindow d p` says whether position p of day d is in a window; days d and
+-- positions p count from 0. A year goes by days, a day by positions.
+use mathlib.Core.Bool.{Bool, cond, not, _&&_, _||_}
+use mathlib.Core.List.{List}
+use Prim.Native.Nat.{ℕ, _+_, max}
+use lib.Dec.{ltb}
+use Rattle.over.specs.Over.{largestOver, sumOver, anyOver, largestIn, placeIn}
+use Rattle.readings.specs.declared.Run.{Run}
+use Rattle.readings.specs.Runs.{dayLen, quarterOf, reading}
+use Rattle.readings.specs.Legal.{peakOf}
+use Rattle.tariff.specs.declared.Figures.{Figures}
+
+-- S of the first n days
+unfoldable pub sumOf : Run → List ℕ → ℕ → ℕ
+sumOf run xs n = sumOver (λ d. sumOver (reading run xs d) (dayLen run d)) n
+
+module _ (run : Run) (inWindow : ℕ → ℕ → Bool) where
+  -- does day d have an in-window quarter?
+  unfoldable pub anyOn : ℕ → Bool
+  anyOn d = anyOver (inWindow d) (dayLen run d)
+
+  -- the highest in-window reading of day d, whose reading at position p is f p, and the quarter where it first occurs
+  unfoldable pub highOn : ℕ → (ℕ → ℕ) → ℕ
+  highOn d f = largestIn (inWindow d) f (dayLen run d)
+
+  unfoldable pub quarterOn : ℕ → (ℕ → ℕ) → ℕ
+  quarterOn d f = quarterOf run d (placeIn (inWindow d) f (dayLen run d))
+
+  -- the first n days of a series: H, and the first day that has it
+  unfoldable pub highIn : List ℕ → ℕ → ℕ
+  highIn xs n = largestIn anyOn (λ d. highOn d (reading run xs d)) n
+
+  unfoldable pub highDay : List ℕ → ℕ → ℕ
+  highDay xs n = placeIn anyOn (λ d. highOn d (reading run xs d)) n
+
+  -- the figures of the first n days: M, S, and H with the day, from 1, and the quarter where it first occurs; 0 where no quarter is in a window
+  unfoldable pub figuresOf : List ℕ → ℕ → Figures
+  figuresOf xs n =
+      record {
+        peak = peakOf run xs n;
+        sum = sumOf run xs n;
+        any = anyOver anyOn n;
+        high = highIn xs n;
+        day = cond (anyOver anyOn n) (highDay xs n + 1) 0;
+        quarter = cond (anyOver anyOn n) (quarterOn (highDay xs n) (reading run xs (highDay xs n))) 0;
+      }
+
+-- a day's record: highest reading, sum, whether a quarter is in a window, and the highest such reading with its first quarter
+pub record DayRecord : Type 0 where
+  pub peak : ℕ
+  pub sum : ℕ
+  pub any : Bool
+  pub high : ℕ
+  pub quarter : ℕ
+
+abbrev pub recordOf : Run → (ℕ → ℕ → Bool) → ℕ → (ℕ → ℕ) → DayRecord
+recordOf run inWindow d f =
+    record {
+      peak = largestOver f (dayLen run d);
+      sum = sumOver f (dayLen run d);
+      any = anyOn run inWindow d;
+      high = highOn run inWindow d f;
+      quarter = quarterOn run inWindow d f;
+    }
+
+-- a day's in-window peak counts where it is the year's first, or higher than all before
+abbrev pub better : Figures → DayRecord → Bool
+better f r = r .any && (not (f .any) || ltb (f .high) (r .high))
+
+-- a year's figures with the record of the next day, day d from 1, taken in
+unfoldable pub takenIn : Figures → ℕ → DayRecord → Figures
+takenIn f d r =
+    record {
+      peak = max (f .peak) (r .peak);
+      sum = f .sum + r .sum;
+      any = f .any || r .any;
+      high = cond (better f r) (r .high) (f .high);
+      day = cond (better f r) d (f .day);
+      quarter = cond (better f r) (r .quarter) (f .quarter);
+    }

@@ -1,0 +1,5 @@
+pub mod Counts
+pub mod Figures
+pub mod Answers
+pub mod Rows
+pub mod Within

@@ -1,0 +1,204 @@
+// A day of a customer's year, taken into the year's figures: one pass over its readings.
+ghost use mathlib.Core.Path.{_≡_};
+ghost use mathlib.Core.Bool.{true, false, _&&_};
+ghost use Prim.Native.Nat.{ℕ, _+_, _≤_, _<_};
+ghost use lib.Dec.{eqb};
+ghost use lib.ListN.{length};
+ghost use Rattle.over.specs.Over.{anyOver, firstOver, counted};
+ghost use Rattle.dates.specs.Dates.{mostDays, seasonOf};
+ghost use Rattle.readings.specs.Runs.{dayLen};
+ghost use Rattle.sheet.specs.Windows.{placeOf};
+ghost use Rattle.customer.specs.Counts.{yearRun, setOn, countsOn};
+ghost use Rattle.customer.specs.Within.{alone, topsOf, dayMost, plainly};
+ghost use Rattle.customer.specs.Figures.{recordOf, takenIn};
+use readings::Run;
+use tariff::Figures;
+
+// The highest reading of a day, the sum, and the highest in-window reading.
+struct Tops {
+    peak: u32,
+    sum: u64,
+    high: u32,
+}
+
+fn wide(x: u32) -> u64
+    ensures { λ r. ⌜ (r ≡ x) × (r ≤ 4294967295) ⌝ }
+{
+    x as u64
+}
+
+// Is position p of day d set in its season's windows, which begin at `base`?
+fn is_in(windows: &[bool; sheet::PLACES], year: u16, d: u16, base: usize, p: usize) -> bool
+    requires { ⌜ (base ≡ placeOf (seasonOf year (d + 1)) 0) × (p < dayLen (yearRun year) d) ⌝ }
+    ensures { λ r. ⌜ r ≡ setOn year (now (windows .entry)) d p ⌝ }
+{
+    windows[base
+        + readings::quarter_of(
+            Run {
+                year,
+                period: false,
+            },
+            d,
+            p,
+        )]
+}
+
+fn if_in(inside: bool, reading: u32) -> u32
+    ensures { λ r. ⌜ r ≡ counted inside reading ⌝ }
+{
+    if inside { reading } else { 0 }
+}
+
+// Is any position of day d set? No way out of the loop, so that it costs next to nothing.
+fn some_in(windows: &[bool; sheet::PLACES], year: u16, d: u16, base: usize) -> bool
+    requires { ⌜ base ≡ placeOf (seasonOf year (d + 1)) 0 ⌝ }
+    ensures { λ r. ⌜ r ≡ anyOver (setOn year (now (windows .entry)) d) (dayLen (yearRun year) d) ⌝ }
+{
+    let mut any = false;
+    for p in 0..readings::day_len(
+        Run {
+            year,
+            period: false,
+        },
+        d,
+    ) {
+        any = any | is_in(windows, year, d, base, p);
+    }
+    any
+}
+
+// A day without in-window quarters: maximum and sum alone.
+fn plain_tops(day: &[u32]) -> Tops
+    requires { ⌜ length (now day) ≤ 100 ⌝ }
+    ensures { λ r. ⌜ (r ≡ topsOf (λ (p : ℕ). false) (now (day .entry))) × (r .sum ≤ dayMost) ⌝ }
+{
+    let mut peak = 0;
+    let mut sum = 0;
+    for p in 0..day.len() {
+        peak = readings::larger(peak, day[p]);
+        sum += wide(day[p]);
+    }
+    Tops { peak, sum, high: 0 }
+}
+
+// A day with in-window quarters, in one pass.
+fn window_tops(day: &[u32], windows: &[bool; sheet::PLACES], year: u16, d: u16, base: usize) -> Tops
+    requires { ⌜ (length (now day) ≡ dayLen (yearRun year) d) × (base ≡ placeOf (seasonOf year (d + 1)) 0) ⌝ }
+    ensures { λ r. ⌜ (r ≡ topsOf (setOn year (now (windows .entry)) d) (now (day .entry))) × (r .sum ≤ dayMost) ⌝ }
+{
+    let mut peak = 0;
+    let mut sum = 0;
+    let mut high = 0;
+    for p in 0..day.len() {
+        peak = readings::larger(peak, day[p]);
+        sum += wide(day[p]);
+        high = readings::larger(high, if_in(is_in(windows, year, d, base, p), day[p]));
+    }
+    Tops { peak, sum, high }
+}
+
+// The first in-window position of a day whose reading is `high`, or the day's length: searched only where the year's H moves.
+fn first_in(
+    day: &[u32],
+    windows: &[bool; sheet::PLACES],
+    year: u16,
+    d: u16,
+    base: usize,
+    high: u32,
+) -> usize
+    requires { ⌜ (length (now day) ≡ dayLen (yearRun year) d) × (base ≡ placeOf (seasonOf year (d + 1)) 0) ⌝ }
+    ensures { λ r. ⌜ r ≡ firstOver (λ (p : ℕ). setOn year (now (windows .entry)) d p && eqb (alone (now (day .entry)) p) high) (length (now (day .entry))) ⌝ }
+{
+    for p in 0..day.len() {
+        if is_in(windows, year, d, base, p) & (day[p] == high) {
+            return p;
+        }
+    }
+    day.len()
+}
+
+// Does day d have an in-window quarter?
+fn has_window(
+    carries: bool,
+    windows: &[bool; sheet::PLACES],
+    year: u16,
+    d: u16,
+    base: usize,
+) -> bool
+    requires { ⌜ base ≡ placeOf (seasonOf year (d + 1)) 0 ⌝ }
+    ensures { λ r. ⌜ r ≡ anyOver (countsOn year carries (now (windows .entry)) d) (dayLen (yearRun year) d) ⌝ }
+{
+    if carries {
+        return some_in(windows, year, d, base);
+    }
+    false
+}
+
+// The figures with a day taken in whose in-window peak, if it has one, does not count.
+fn take_plain(f: Figures, t: Tops) -> Figures
+    requires { ⌜ f .sum + t .sum < 18446744073709551616 ⌝ }
+    ensures { λ r. ⌜ r ≡ plainly f t ⌝ }
+{
+    Figures {
+        peak: readings::larger(f.peak, t.peak),
+        sum: f.sum + t.sum,
+        any: f.any,
+        high: f.high,
+        day: f.day,
+        quarter: f.quarter,
+    }
+}
+
+// The figures with day d, from 0, taken in, which has an in-window quarter.
+fn take_window(
+    f: Figures,
+    year: u16,
+    d: u16,
+    windows: &[bool; sheet::PLACES],
+    base: usize,
+    day: &[u32],
+) -> Figures
+    requires { ⌜ (length (now day) ≡ dayLen (yearRun year) d) × (base ≡ placeOf (seasonOf year (d + 1)) 0) × (anyOver (setOn year (now windows) d) (dayLen (yearRun year) d) ≡ true) × (d < mostDays) × (f .sum + dayMost < 18446744073709551616) ⌝ }
+    ensures { λ r. ⌜ (r ≡ takenIn f (d + 1) (recordOf (yearRun year) (setOn year (now (windows .entry))) d (alone (now (day .entry))))) × (r .sum ≤ f .sum + dayMost) ⌝ }
+{
+    let t = window_tops(day, windows, year, d, base);
+    let next = take_plain(f, t);
+    if f.any & (t.high <= f.high) {
+        return next;
+    }
+    let position = first_in(day, windows, year, d, base, t.high);
+    Figures {
+        peak: next.peak,
+        sum: next.sum,
+        any: true,
+        high: t.high,
+        day: d + 1,
+        quarter: readings::quarter_of(
+            Run {
+                year,
+                period: false,
+            },
+            d,
+            position,
+        ) as u8,
+    }
+}
+
+// The figures with day d, from 0, taken in: one pass over its readings, and without in-window quarters maximum and sum alone.
+pub fn take_day(
+    f: Figures,
+    year: u16,
+    d: u16,
+    carries: bool,
+    windows: &[bool; sheet::PLACES],
+    day: &[u32],
+) -> Figures
+    requires { ⌜ (length (now day) ≡ dayLen (yearRun year) d) × (d < mostDays) × (f .sum + dayMost < 18446744073709551616) ⌝ }
+    ensures { λ r. ⌜ (r ≡ takenIn f (d + 1) (recordOf (yearRun year) (countsOn year carries (now (windows .entry))) d (alone (now (day .entry))))) × (r .sum ≤ f .sum + dayMost) ⌝ }
+{
+    let base = answers::DAY_QUARTERS * (dates::season(year, d + 1) as usize - 1);
+    if has_window(carries, windows, year, d, base) {
+        return take_window(f, year, d, windows, base, day);
+    }
+    take_plain(f, plain_tops(day))
+}

@@ -1,0 +1,306 @@
+// A customer's year and the decision over it, whole and day by day.
+// Main theorems: days given one by one, refused ones among them, close as the whole series of the taken days (proofs/Whole); two years
+// that agree in every in-window quarter, with one peak and one energy, are answered the same (proofs/Demand).
+mod day;
+
+ghost use mathlib.Core.Path.{_≡_};
+ghost use Prim.Native.Nat.{_≤_, _<_};
+ghost use lib.ListN.{length};
+ghost use Rattle.dates.specs.Dates.{yearDays};
+ghost use Rattle.readings.specs.Runs.{dayLen, runReadings};
+ghost use Rattle.sheet.specs.Answers.{saidOfSheet};
+ghost use Rattle.tariff.specs.Answers.{saidOf};
+ghost use Rattle.customer.specs.Counts.{yearRun};
+ghost use Rattle.customer.specs.Answers.{noFigures, shut, openAnswer, openCustomer, overfull, sumMost, dayAnswer, taken, dayCustomer, closeAnswer, decideAnswer, figuresUnder};
+use answers::Place;
+use readings::Run;
+use sheet::SheetAnswer;
+use tariff::Decision;
+use tariff::Figures;
+use tariff::Prices;
+use tariff::Row;
+
+// The highest legal reading of a customer, W.
+const CUSTOMER_MOST: u32 = 1_000_000_000;
+
+// What a day of legal readings can add to the sum: at most 100 of them.
+const DAY_SUM_MOST: u64 = 100_000_000_000;
+
+// What a year is judged under: the sheet's year, level and windows, the days that carry windows (day 1 first), prices and option.
+pub struct Terms {
+    pub year: u16,
+    pub level: u8,
+    pub option: bool,
+    pub prices: Prices,
+    pub windows: [bool; sheet::PLACES],
+    pub carrying: [bool; dates::MOST_DAYS],
+}
+
+// A year that is given day by day: the days taken so far, and their figures.
+pub struct Customer {
+    pub terms: Terms,
+    pub seen: u16,
+    pub figures: Figures,
+}
+
+// An answer, and the next state beside it.
+pub struct Stepped {
+    pub answer: Decision,
+    pub customer: Customer,
+}
+
+fn no_figures() -> Figures
+    ensures { λ r. ⌜ r ≡ noFigures ⌝ }
+{
+    Figures {
+        peak: 0,
+        sum: 0,
+        any: false,
+        high: 0,
+        day: 0,
+        quarter: 0,
+    }
+}
+
+// The figures of a whole series.
+fn collect(terms: Terms, series: &[u32]) -> Figures
+    requires { ⌜ length (now series) ≡ runReadings (yearRun (terms .year)) ⌝ }
+    ensures { λ r. ⌜ r ≡ figuresUnder terms (now (series .entry)) (yearDays (terms .year)) ⌝ }
+{
+    let year = terms.year;
+    let windows = terms.windows;
+    let carrying = terms.carrying;
+    let mut figures = no_figures();
+    let mut at = 0;
+    for d in 0..dates::year_days(year) {
+        let end = at
+            + readings::day_len(
+                Run {
+                    year,
+                    period: false,
+                },
+                d,
+            );
+        figures = day::take_day(
+            figures,
+            year,
+            d,
+            carrying[d as usize],
+            &windows,
+            &series[at..end],
+        );
+        at = end;
+    }
+    figures
+}
+
+// What reading the sheet answers, as the decision's: reading never answers 14.
+fn told(answer: SheetAnswer) -> Decision
+    requires { ⌜ (saidOfSheet answer .number ≡ 14 → ⊥) ⌝ }
+    ensures { λ r. ⌜ saidOf r ≡ saidOfSheet answer ⌝ }
+{
+    match answer {
+        SheetAnswer::Accepted => Decision::Taken,
+        SheetAnswer::Short => Decision::Malformed,
+        SheetAnswer::YearOut => Decision::YearOut,
+        SheetAnswer::LevelOut => Decision::LevelOut,
+        SheetAnswer::Malformed => Decision::Malformed,
+    }
+}
+
+// The decision over a whole series. Refuses 12, 1, 2, 12, 3, 6, 4, 5, 8, 9, 10, 11 in this order; else 0 with the charge.
+pub fn decide(
+    sheet: &[u8],
+    holidays: &[u16],
+    prices: Prices,
+    option: bool,
+    series: &[u32],
+) -> Decision
+    ensures { λ r. ⌜ saidOf r ≡ decideAnswer (now (sheet .entry)) (now (holidays .entry)) prices option (now (series .entry)) ⌝ }
+{
+    let opened = Customer::open(sheet, holidays, prices, option);
+    let answer = opened.answer;
+    let Decision::Taken = answer else {
+        return answer;
+    };
+    let terms = opened.customer.terms;
+    let run = Run {
+        year: terms.year,
+        period: false,
+    };
+    if series.len() != readings::run_readings(run) {
+        return Decision::WrongLength;
+    }
+    let figures = collect(terms, series);
+    if CUSTOMER_MOST < figures.peak {
+        return Decision::BadReading(readings::first_illegal(run, series, CUSTOMER_MOST));
+    }
+    let list = terms.prices;
+    tariff::judge(figures, terms.level, list, terms.option)
+}
+
+impl Customer {
+    // Opens a year that comes day by day. Refuses 12, 1, 2, 12, 3, 6 in this order; a refusal hands back one fixed state, on which
+    // every day and every closing is 13.
+    pub fn open(sheet: &[u8], holidays: &[u16], prices: Prices, option: bool) -> Stepped
+        ensures { λ r. ⌜ (saidOf (r .answer) ≡ openAnswer (now (sheet .entry)) (now (holidays .entry)) prices) × (r .customer ≡ openCustomer (now (sheet .entry)) (now (holidays .entry)) prices option) ⌝ }
+    {
+        let read = sheet::read(sheet);
+        let said = read.answer;
+        let answer = told(said);
+        let Decision::Taken = answer else {
+            return Stepped {
+                answer,
+                customer: Customer::shut(),
+            };
+        };
+        let meaning = read.sheet;
+        if calendar::bad_holidays(meaning.year, holidays) {
+            return Stepped {
+                answer: Decision::BadHolidays,
+                customer: Customer::shut(),
+            };
+        }
+        if tariff::prices_out(prices) {
+            return Stepped {
+                answer: Decision::PriceOut,
+                customer: Customer::shut(),
+            };
+        }
+        let windows = meaning.windows;
+        Stepped {
+            answer: Decision::Taken,
+            customer: Customer {
+                terms: Terms {
+                    year: meaning.year,
+                    level: meaning.level,
+                    option,
+                    prices,
+                    windows,
+                    carrying: calendar::window_days(meaning.year, holidays),
+                },
+                seen: 0,
+                figures: no_figures(),
+            },
+        }
+    }
+
+    fn shut() -> Customer
+        ensures { λ r. ⌜ r ≡ shut ⌝ }
+    {
+        Customer {
+            terms: Terms {
+                year: 0,
+                level: 0,
+                option: false,
+                prices: Prices {
+                    low: Row {
+                        capacity: 0,
+                        energy: 0,
+                    },
+                    high: Row {
+                        capacity: 0,
+                        energy: 0,
+                    },
+                },
+                windows: [false; sheet::PLACES],
+                carrying: [false; dates::MOST_DAYS],
+            },
+            seen: 65535,
+            figures: no_figures(),
+        }
+    }
+
+    // A state whose sum no legal days have.
+    fn is_overfull(self) -> bool
+        ensures { λ r. ⌜ r ≡ overfull self ⌝ }
+    {
+        DAY_SUM_MOST * (self.seen as u64) < self.figures.sum
+    }
+
+    // A legal day is taken in.
+    fn add(self, day: &[u32]) -> Customer
+        requires { ⌜ (self .seen < yearDays (self .terms .year)) × (length (now day) ≡ dayLen (yearRun (self .terms .year)) (self .seen)) × (self .figures .sum ≤ sumMost (self .seen)) ⌝ }
+        ensures { λ r. ⌜ r ≡ taken self (now (day .entry)) ⌝ }
+    {
+        let terms = self.terms;
+        let windows = terms.windows;
+        let carrying = terms.carrying;
+        let seen = self.seen;
+        let figures = day::take_day(
+            self.figures,
+            terms.year,
+            seen,
+            carrying[seen as usize],
+            &windows,
+            day,
+        );
+        Customer {
+            terms,
+            seen: seen + 1,
+            figures,
+        }
+    }
+
+    // One day more. Refuses 13, 4, 5 in this order, and then hands back the state as it was.
+    pub fn day(self, day: &[u32]) -> Stepped
+        ensures { λ r. ⌜ (saidOf (r .answer) ≡ dayAnswer self (now (day .entry))) × (r .customer ≡ dayCustomer self (now (day .entry))) ⌝ }
+    {
+        let year = self.terms.year;
+        let seen = self.seen;
+        if self.is_overfull() {
+            return Stepped {
+                answer: Decision::DayOut,
+                customer: self,
+            };
+        }
+        if dates::year_days(year) <= seen {
+            return Stepped {
+                answer: Decision::DayOut,
+                customer: self,
+            };
+        }
+        if day.len()
+            != readings::day_len(
+                Run {
+                    year,
+                    period: false,
+                },
+                seen,
+            )
+        {
+            return Stepped {
+                answer: Decision::WrongLength,
+                customer: self,
+            };
+        }
+        if CUSTOMER_MOST < readings::highest(day) {
+            let position = readings::first_above(day, CUSTOMER_MOST) as u16;
+            return Stepped {
+                answer: Decision::BadReading(Place {
+                    day: seen + 1,
+                    position,
+                }),
+                customer: self,
+            };
+        }
+        let next = self.add(day);
+        Stepped {
+            answer: Decision::Taken,
+            customer: next,
+        }
+    }
+
+    // The decision over the days taken: 13 where they are not all in, else as the whole series.
+    pub fn close(self) -> Decision
+        ensures { λ r. ⌜ saidOf r ≡ closeAnswer self ⌝ }
+    {
+        let terms = self.terms;
+        if self.seen != dates::year_days(terms.year) {
+            return Decision::DayOut;
+        }
+        let figures = self.figures;
+        let prices = terms.prices;
+        tariff::judge(figures, terms.level, prices, terms.option)
+    }
+}
