@@ -152,6 +152,9 @@ module _ (t : Terms) (xs : List ℕ) where
   series-given (five l v) = number (bad-answer l v)
   series-given (judged l v r) = judge-answer l v ∙ judge-exactly (figuresUnder t xs (yearDays (t .year))) (t .level) (t .prices) (t .option) _ .1 r
 
+  pub series-exactly : (n : ℕ) → (wholeAnswer t xs .number ≡ n) ↔ SeriesRow t xs n
+  series-exactly n = (λ e. rw e at series-holds, series-given)
+
 -- the decision
 module _ (b hs : List ℕ) (p : Prices) (option : Bool) (xs : List ℕ) where
   decide-holds : DecideRow b hs p option xs (decideAnswer b hs p option xs .number)
@@ -161,14 +164,14 @@ module _ (b hs : List ℕ) (p : Prices) (option : Bool) (xs : List ℕ) where
       go (no z) =
           rw (number (decide-open b hs p option xs (openAnswer b hs p) (ne-eqb _ _ z) refl)) (refused (customer-open-exactly b hs p _ .0 refl) z)
       go (yes z) =
-          rw (number (decide-whole b hs p option xs (open-zero b hs p z))) (series (customer-open-exactly b hs p 0 .0 z) (series-holds (termsOf (sheetIn b) hs p option) xs))
+          rw (number (decide-whole b hs p option xs (open-zero b hs p z))) (series (customer-open-exactly b hs p 0 .0 z) (series-exactly (termsOf (sheetIn b) hs p option) xs _ .0 refl))
 
   decide-given : {n : ℕ} → DecideRow b hs p option xs n → decideAnswer b hs p option xs .number ≡ n
   decide-given (refused r z) =
       let e = customer-open-exactly b hs p _ .1 r in
       number (decide-open b hs p option xs (openAnswer b hs p) (ne-eqb _ _ (λ k. z (sym e ∙ k))) refl) ∙ e
   decide-given (series r s) =
-      number (decide-whole b hs p option xs (open-zero b hs p (customer-open-exactly b hs p 0 .1 r))) ∙ series-given (termsOf (sheetIn b) hs p option) xs s
+      number (decide-whole b hs p option xs (open-zero b hs p (customer-open-exactly b hs p 0 .1 r))) ∙ series-exactly (termsOf (sheetIn b) hs p option) xs _ .1 s
 
   pub decide-exactly : (n : ℕ) → (decideAnswer b hs p option xs .number ≡ n) ↔ DecideRow b hs p option xs n
   decide-exactly n = (λ e. rw e at decide-holds, decide-given)

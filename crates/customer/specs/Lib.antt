@@ -2,4 +2,5 @@ pub mod Counts
 pub mod Figures
 pub mod Answers
 pub mod Rows
+pub mod Demand
 pub mod Within

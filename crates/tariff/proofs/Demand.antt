@@ -2,10 +2,12 @@
 -- a fifth of the general charge and at least 500 euro below it.
 -- Assumes nothing.
 use mathlib.Core.Path.{_≡_, refl, sym, ap, _∙_}
-use mathlib.Core.Bool.{Bool}
+use mathlib.Core.Bool.{Bool, cond}
 use Prim.Native.Nat.{ℕ, _+_, _*_, _≤_}
 use native.Mathlib.Decide.{ℕ-discrete}
 use native.Mathlib.Omega.{arith}
+use borrow.Author.Tests.{ne-eqb}
+use lib.Dec.{eqb}
 use lib.ListN.{getD}
 use Rattle.over.proofs.Bools.{refutes}
 use Rattle.answers.specs.Ruling.{shareOf, leastReduction}
@@ -129,3 +131,15 @@ module _ (level : ℕ) (p : Prices) (option : Bool) where
       go (full h k g) (own i l r c) = omega (arith, general-same u p)
       go (own h k r c) (full i l g) = absurd (l (stays u k))
       go (own h k r c) (own i l s d) = omega (arith, own-mono u p option)
+
+  -- under a legal level and legal prices the customer pays c by 0, and g by a refusal
+  pub pays-is :
+      Legal level p
+      → (f : Figures)
+      → payable (judgeAnswer f level p option) ≡ cond (eqb (judgeAnswer f level p option .number) 0) (charge f p option) (general f p)
+  pays-is h f = go (pays f (judge-exactly f level p option _ .0 refl))
+    where
+      go : Pays f → payable (judgeAnswer f level p option) ≡ cond (eqb (judgeAnswer f level p option .number) 0) (charge f p option) (general f p)
+      go (unsaid n z) = absurd (n h)
+      go (full l k g) = rw (ne-eqb _ _ k) g
+      go (own l k r c) = rw k c
