@@ -31,7 +31,7 @@ use Rattle.tariff.proofs.Only.{decision-only}
 use Rattle.customer.specs.declared.Terms.{Terms}
 use Rattle.customer.specs.declared.Customer.{Customer}
 use Rattle.customer.specs.Counts.{yearRun}
-use Rattle.customer.specs.Figures.{figuresOf}
+use Rattle.figures.specs.Figures.{figuresOf}
 use Rattle.customer.specs.Answers.{termsOf, openAnswer, opened, shut, openCustomer, overfull, dayAnswer, taken, dayCustomer, closeAnswer, judged, figuresUnder, wholeAnswer, decideAnswer}
 
 -- opening

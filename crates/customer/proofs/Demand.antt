@@ -18,12 +18,12 @@ use Rattle.tariff.specs.Demand.{Under, Fair}
 use Rattle.tariff.proofs.Demand.{stays, never-more, accepted-charge}
 use Rattle.customer.specs.declared.Terms.{Terms}
 use Rattle.customer.specs.Counts.{setOn, counts}
-use Rattle.customer.specs.Figures.{figuresOf}
+use Rattle.figures.specs.Figures.{figuresOf}
 use Rattle.customer.specs.Answers.{termsOf, judged, figuresUnder, decideAnswer}
 use Rattle.customer.specs.Demand.{Basis, basisYear, basisRun, basisDays, inWindow, LegalYear, Given, Alike, Agree, NoneHigher}
 use Rattle.customer.specs.Demand.Given.{whole, days}
 use Rattle.customer.proofs.Answered.{whole-judged, decide-whole}
-use Rattle.customer.proofs.Agree.{figures-agree, high-under}
+use Rattle.figures.proofs.Agree.{figures-agree, high-under}
 use Rattle.customer.proofs.Whole.{days-whole}
 
 module _ (k : Basis) where

@@ -1,8 +1,6 @@
-pub mod Taken
 pub mod OneDay
 pub mod Answered
 pub mod Exactly
 pub mod Only
-pub mod Agree
 pub mod Whole
 pub mod Demand

@@ -26,7 +26,7 @@ use Rattle.tariff.specs.declared.Figures.{Figures}
 use Rattle.customer.specs.declared.day.Tops.{Tops}
 use Rattle.customer.specs.Counts.{yearRun, setOn, countsOn}
 use Rattle.customer.specs.Within.{alone, topsOf, plainly}
-use Rattle.customer.specs.Figures.{anyOn, highOn, quarterOn, DayRecord, recordOf, better, takenIn}
+use Rattle.figures.specs.Figures.{anyOn, highOn, quarterOn, DayRecord, recordOf, better, takenIn}
 
 -- the windows of the day's season begin at `base`
 module _ (y : ℕ) (ws : List Bool) (d : ℕ) {base : ℕ} (e : base ≡ placeOf (seasonOf y (d + 1)) 0) (p : ℕ) (l : p < dayLen (yearRun y) d) where

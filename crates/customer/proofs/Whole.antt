@@ -27,13 +27,13 @@ use Rattle.customer.specs.declared.Terms.{Terms}
 use Rattle.customer.specs.declared.Customer.{Customer}
 use Rattle.customer.specs.Counts.{yearRun, counts}
 use Rattle.customer.specs.Within.{alone}
-use Rattle.customer.specs.Figures.{sumOf, figuresOf, recordOf, takenIn}
+use Rattle.figures.specs.Figures.{sumOf, figuresOf, recordOf, takenIn}
 use Rattle.customer.specs.Answers.{termsOf, figuresUnder, openAnswer, opened, openCustomer, sumMost, dayAnswer, dayCustomer, closeAnswer, wholeAnswer, decideAnswer}
 use Rattle.customer.specs.Rows.{SeriesRow}
 use Rattle.customer.specs.Rows.SeriesRow.{four, five, judged}
 use Rattle.customer.proofs.Exactly.{series-exactly}
-use Rattle.customer.proofs.Taken.{figures-none, taken-more}
-use Rattle.customer.proofs.Agree.{figures-cong}
+use Rattle.figures.proofs.Taken.{figures-none, taken-more}
+use Rattle.figures.proofs.Agree.{figures-cong}
 use Rattle.customer.proofs.Answered.{open-taken, day-refused, day-taken, day-next, close-judged, whole-series, whole-judged, decide-whole}
 
 -- the sum of legal days is one that days can have

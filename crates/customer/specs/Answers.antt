@@ -25,7 +25,7 @@ use Rattle.customer.specs.declared.Terms.{Terms}
 use Rattle.customer.specs.declared.Customer.{Customer}
 use Rattle.customer.specs.Counts.{yearRun, counts}
 use Rattle.customer.specs.Within.{alone}
-use Rattle.customer.specs.Figures.{figuresOf, recordOf, takenIn}
+use Rattle.figures.specs.Figures.{noFigures, figuresOf, recordOf, takenIn}
 
 -- what a year is judged under: the sheet's year, level and windows, the days that carry windows, prices and option
 abbrev pub termsOf : Sheet → List ℕ → Prices → Bool → Terms
@@ -65,9 +65,6 @@ unfoldable pub decideAnswer : List ℕ → List ℕ → Prices → Bool → List
 decideAnswer b hs p option xs = orElse (openAnswer b hs p) (wholeAnswer (termsOf (sheetIn b) hs p option) xs)
 
 -- Day by day. An accepted opening holds no day; a refused one hands back one fixed state, which takes no day and never closes.
-abbrev pub noFigures : Figures
-noFigures = record { peak = 0; sum = 0; any = false; high = 0; day = 0; quarter = 0 }
-
 abbrev pub noRow : Row
 noRow = record { capacity = 0; energy = 0 }
 

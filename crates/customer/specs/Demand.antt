@@ -16,7 +16,7 @@ use Rattle.sheet.specs.Bytes.{sheetIn}
 use Rattle.tariff.specs.declared.Prices.{Prices}
 use Rattle.customer.specs.declared.Customer.{Customer}
 use Rattle.customer.specs.Counts.{yearRun, setOn}
-use Rattle.customer.specs.Figures.{sumOf}
+use Rattle.figures.specs.Figures.{sumOf}
 use Rattle.customer.specs.Answers.{openAnswer, openCustomer, dayAnswer, dayCustomer, closeAnswer, decideAnswer}
 
 -- one sheet, holiday list, price list and option

@@ -1,5 +1,4 @@
 pub mod Counts
-pub mod Figures
 pub mod Answers
 pub mod Rows
 pub mod Demand

@@ -10,7 +10,7 @@ ghost use Rattle.readings.specs.Runs.{dayLen};
 ghost use Rattle.sheet.specs.Windows.{placeOf};
 ghost use Rattle.customer.specs.Counts.{yearRun, setOn, countsOn};
 ghost use Rattle.customer.specs.Within.{alone, topsOf, dayMost, plainly};
-ghost use Rattle.customer.specs.Figures.{recordOf, takenIn};
+ghost use Rattle.figures.specs.Figures.{recordOf, takenIn};
 use readings::Run;
 use tariff::Figures;
 

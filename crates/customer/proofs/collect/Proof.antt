@@ -14,8 +14,8 @@ use Rattle.readings.proofs.Part.{cut-at, cut-long}
 use Rattle.tariff.specs.declared.Figures.{Figures}
 use Rattle.customer.specs.Counts.{yearRun, countsOn, counts}
 use Rattle.customer.specs.Within.{alone, dayMost}
-use Rattle.customer.specs.Figures.{anyOn, highOn, quarterOn, figuresOf, recordOf, takenIn}
-use Rattle.customer.proofs.Taken.{figures-none, taken-more}
+use Rattle.figures.specs.Figures.{anyOn, highOn, quarterOn, figuresOf, recordOf, takenIn}
+use Rattle.figures.proofs.Taken.{figures-none, taken-more}
 use Rattle.customer.proofs.collect.Statement.{statement}
 use Rattle.customer.proofs.collect.Tie as tie
 

@@ -5,7 +5,7 @@ use native.Mathlib.Omega.{arith}
 use borrow.Author.Needs.{needs}
 use Rattle.dates.specs.Dates.{mostDays}
 use Rattle.dates.proofs.Leaps.{leap-small}
-use Rattle.customer.specs.Figures.{anyOn, highOn, quarterOn}
+use Rattle.figures.specs.Figures.{anyOn, highOn, quarterOn}
 use Rattle.customer.proofs.Customer.add.Statement.{statement}
 use Rattle.customer.proofs.Customer.add.Tie as tie
 

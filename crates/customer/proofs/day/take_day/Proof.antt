@@ -13,7 +13,7 @@ use Rattle.sheet.specs.Windows.{placeOf}
 use Rattle.tariff.specs.declared.Figures.{Figures}
 use Rattle.customer.specs.Counts.{yearRun, countsOn}
 use Rattle.customer.specs.Within.{alone}
-use Rattle.customer.specs.Figures.{recordOf, takenIn}
+use Rattle.figures.specs.Figures.{recordOf, takenIn}
 use Rattle.dates.proofs.Seasons.{season-range}
 use Rattle.readings.proofs.Runs.{len-most}
 use Rattle.customer.proofs.OneDay.{carries-some, taken-none}

@@ -14,8 +14,7 @@ use Rattle.readings.specs.declared.Run.{Run}
 use Rattle.readings.specs.Runs.{dayLen, quarterOf, reading}
 use Rattle.readings.specs.Legal.{dayPeak, peakOf}
 use Rattle.tariff.specs.declared.Figures.{Figures}
-use Rattle.customer.specs.Figures.{sumOf, anyOn, highOn, quarterOn, highIn, highDay, figuresOf, DayRecord, recordOf, better, takenIn}
-use Rattle.customer.specs.Answers.{noFigures}
+use Rattle.figures.specs.Figures.{noFigures, sumOf, anyOn, highOn, quarterOn, highIn, highDay, figuresOf, DayRecord, recordOf, better, takenIn}
 
 module _ (run : Run) (inWindow : ℕ → ℕ → Bool) where
   -- a day's record depends on the day's own readings only

@@ -1,9 +1,10 @@
 -- Document 01, Customer's year and decision: "Annual peak M: highest reading. In-window peak H: highest in-window reading, with the day and
 -- quarter where it first occurs. S: sum of all readings". `inWindow d p` says whether position p of day d is in a window; days d and
 -- positions p count from 0. A year goes by days, a day by positions.
-use mathlib.Core.Bool.{Bool, cond, not, _&&_, _||_}
+use mathlib.Core.Path.{_≡_}
+use mathlib.Core.Bool.{Bool, true, false, cond, not, _&&_, _||_}
 use mathlib.Core.List.{List}
-use Prim.Native.Nat.{ℕ, _+_, max}
+use Prim.Native.Nat.{ℕ, _+_, _≤_, _<_, max}
 use lib.Dec.{ltb}
 use Rattle.over.specs.Over.{largestOver, sumOver, anyOver, largestIn, placeIn}
 use Rattle.readings.specs.declared.Run.{Run}
@@ -46,6 +47,10 @@ module _ (run : Run) (inWindow : ℕ → ℕ → Bool) where
         quarter = cond (anyOver anyOn n) (quarterOn (highDay xs n) (reading run xs (highDay xs n))) 0;
       }
 
+-- the figures of no day
+abbrev pub noFigures : Figures
+noFigures = record { peak = 0; sum = 0; any = false; high = 0; day = 0; quarter = 0 }
+
 -- a day's record: highest reading, sum, whether a quarter is in a window, and the highest such reading with its first quarter
 pub record DayRecord : Type 0 where
   pub peak : ℕ
@@ -79,3 +84,17 @@ takenIn f d r =
       day = cond (better f r) d (f .day);
       quarter = cond (better f r) (r .quarter) (f .quarter);
     }
+
+-- what H's place is, in plain orders: an in-window quarter that has H, no in-window reading being above it, and every earlier one below
+pub record FirstPlace (run : Run) (inWindow : ℕ → ℕ → Bool) (xs : List ℕ) (n : ℕ) (f : Figures) : Type 0 where
+  pub on : ℕ
+  pub at : ℕ
+  pub on-in : on < n
+  pub at-in : at < dayLen run on
+  pub counts-there : inWindow on at ≡ true
+  pub has : reading run xs on at ≡ f .high
+  pub day-is : f .day ≡ on + 1
+  pub quarter-is : f .quarter ≡ quarterOf run on at
+  pub above : (d p : ℕ) → d < n → p < dayLen run d → inWindow d p ≡ true → reading run xs d p ≤ f .high
+  pub days-before : (d p : ℕ) → d < on → p < dayLen run d → inWindow d p ≡ true → reading run xs d p < f .high
+  pub before : (p : ℕ) → p < at → inWindow on p ≡ true → reading run xs on p < f .high

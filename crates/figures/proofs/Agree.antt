@@ -13,7 +13,7 @@ use Rattle.readings.specs.declared.Run.{Run}
 use Rattle.readings.specs.Runs.{dayLen, quarterOf, reading}
 use Rattle.readings.specs.Legal.{dayPeak, peakOf}
 use Rattle.tariff.specs.declared.Figures.{Figures}
-use Rattle.customer.specs.Figures.{sumOf, anyOn, highOn, quarterOn, highIn, highDay, figuresOf}
+use Rattle.figures.specs.Figures.{sumOf, anyOn, highOn, quarterOn, highIn, highDay, figuresOf}
 
 module _ (run : Run) (inWindow : ℕ → ℕ → Bool) (xs ys : List ℕ) (n : ℕ) where
   abbrev first : Figures
