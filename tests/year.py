@@ -1,0 +1,278 @@
+"""Document 01's "Customer's year and decision" for the scripts that make records: the rules over figures, and a year of readings.
+
+It knows nothing of the code under test. What a charge, a row, a floor or a share is, which days carry windows, which bits of a sheet are
+set, and the figures of a year are each worked out in two ways that are held against each other: by the units and by the paper's integer
+formulas; week by week and day by day; by the sheet's bits as one number and byte by byte; from the whole series (`whole`) and along the
+days (`Days`).
+"""
+import collections
+import datetime
+import fractions
+import functools
+import math
+import struct
+
+SHARE = {1: 5, 2: 10, 3: 10, 4: 20, 5: 20, 6: 30, 7: 30}
+LIMITS = (100_000, 50_000, 100_000, 50_000)  # of the low row's prices, and of the high row's
+USUAL = (2_000, 4_000, 10_000, 800)  # the prices of "Figures on each side"
+PART = 4_000_000  # of a cent
+READING_MOST = 1_000_000_000
+MISSING = 4_294_967_295
+SEASON = {12: 1, 1: 1, 2: 1, 3: 2, 4: 2, 5: 2, 6: 3, 7: 3, 8: 3, 9: 4, 10: 4, 11: 4}
+YEARS = range(2014, 2029)
+Set = collections.namedtuple("Set", "M S any H day quarter level prices option")
+Terms = collections.namedtuple("Terms", "sheet holidays prices option")
+
+
+# The rules over figures, by units
+
+def charge_by_units(power, capacity, energy, readings):
+    kw = fractions.Fraction(power, 1000)
+    kwh = fractions.Fraction(readings, 4 * 1000)
+    exact = kw * capacity + kwh * fractions.Fraction(energy, 1000)
+    below = math.floor(exact)
+    return below + (exact - below >= fractions.Fraction(1, 2))
+
+
+def few_hours_by_units(M, S):
+    """Without a peak there are no hours to speak of; the paper's S < 10,000 M is false."""
+    return M > 0 and fractions.Fraction(S, 4) / M < 2_500
+
+
+def share_by_units(M, H, percent):
+    return M == 0 or fractions.Fraction(max(M - H, 0), M) >= fractions.Fraction(percent, 100)
+
+
+# The rules over figures, by the paper's formulas
+
+def charge_for(power, row, S):
+    cents = (2 * (4_000 * power * row[0] + S * row[1]) + PART) // (2 * PART)
+    assert cents == charge_by_units(power, row[0], row[1], S)
+    return cents
+
+
+def few_hours(M, S):
+    assert (S < 10_000 * M) == few_hours_by_units(M, S)
+    return S < 10_000 * M
+
+
+def floor_of(g):
+    f = -(-g // 5)
+    assert 5 * f >= g > 5 * (f - 1)
+    return f
+
+
+def share_reached(M, H, level):
+    reached = 100 * max(M - H, 0) >= SHARE[level] * M
+    assert reached == share_by_units(M, H, SHARE[level])
+    return reached
+
+
+def charges(s):
+    """g, r, f."""
+    low, high = s.prices[:2], s.prices[2:]
+    few = few_hours(s.M, s.S)
+    general_row = low if few else high
+    reduced_row = high if few and s.option else general_row
+    g = charge_for(s.M, general_row, s.S)
+    return g, charge_for(s.H, reduced_row, s.S), floor_of(g)
+
+
+def prices_out(prices):
+    return any(price > limit for price, limit in zip(prices, LIMITS))
+
+
+def judge(s):
+    """Number and what it carries: every row of the table, and then the first in the order 2, 6, 8, 9, 10, 11."""
+    if s.level not in SHARE:
+        return (2,)
+    if prices_out(s.prices):
+        return (6,)
+    g, r, f = charges(s)
+    c = max(r, f)
+    holds = {
+        8: not s.any,
+        9: not share_reached(s.M, s.H, s.level),
+        10: s.M - s.H < 100_000,
+        11: g < c + 50_000,
+    }
+    number = next((n for n in (8, 9, 10, 11) if holds[n]), 0)
+    plain = g, s.M, s.S
+    peaks = plain + (s.H, s.day, s.quarter)
+    return (number,) + {0: (c,) + peaks, 8: plain}.get(number, peaks)
+
+
+# Days
+
+def date(year, day):
+    return datetime.date(year, 1, 1) + datetime.timedelta(days=day - 1)
+
+
+def day_of(when):
+    return when.timetuple().tm_yday
+
+
+def yday(year, month, day):
+    return day_of(datetime.date(year, month, day))
+
+
+def days_of(year):
+    return yday(year, 12, 31)
+
+
+def free_by_others(when, year, listed):
+    """Weekend, listed, or 24 December to 1 January."""
+    inside = when.year == year and day_of(when) in listed
+    christmas = (when.month, when.day) >= (12, 24) or (when.month, when.day) == (1, 1)
+    return when.weekday() >= 5 or inside or christmas
+
+
+@functools.lru_cache(maxsize=None)
+def carrying_by_weeks(year, listed):
+    """The days that carry windows: Monday-to-Sunday weeks one after the other, the first candidate of each a bridge day."""
+    carry = []
+    monday = datetime.date(year, 1, 1) - datetime.timedelta(days=datetime.date(year, 1, 1).weekday())
+    while monday.year <= year:
+        week = [monday + datetime.timedelta(days=k) for k in range(7)]
+        is_listed = [d.year == year and day_of(d) in listed for d in week]
+        left = [k for k in range(7) if not free_by_others(week[k], year, listed)]
+        candidates = [k for k, beside in ((0, 1), (4, 3)) if k in left and is_listed[beside]]
+        carry += [day_of(week[k]) for k in left if k not in candidates[:1] and week[k].year == year]
+        monday += datetime.timedelta(days=7)
+    return carry
+
+
+def carries_by_day(year, listed, day):
+    """One day by itself, by day numbers: 1 January 2014 was a Wednesday, and ordinals count on from there."""
+    weekday = (date(year, day).toordinal() - datetime.date(2014, 1, 1).toordinal() + 2) % 7
+    last = days_of(year)
+
+    def plain(d, wd):
+        return wd < 5 and d not in listed and 2 <= d <= last - 8
+
+    if not plain(day, weekday):
+        return False
+    if weekday == 0:
+        return day + 1 not in listed
+    if weekday == 4 and day - 1 in listed:
+        return plain(day - 4, 0) and day - 3 in listed
+    return True
+
+
+# The sheet
+
+def sheet_bytes(year, level, windows):
+    """windows: season 1 to 4 to its quarters; a season that is not there has none."""
+    text = "".join("1" if q in windows.get(s, ()) else "0" for s in (1, 2, 3, 4) for q in range(96))
+    return b"HLZ" + struct.pack(">HHB", 1, year, level) + int(text, 2).to_bytes(48, "big")
+
+
+def read_sheet(data):
+    """A number, or year, level and the quarters of each season."""
+    if len(data) != 56 or data[:3] != b"HLZ" or data[3:5] != b"\x00\x01":
+        return 12
+    year, level = struct.unpack(">HB", data[5:8])
+    if year not in YEARS:
+        return 1
+    if level not in SHARE:
+        return 2
+    text = format(int.from_bytes(data[8:], "big"), "0384b")
+    windows = {s: [q for q in range(96) if text[96 * s - 96 + q] == "1"] for s in (1, 2, 3, 4)}
+    if max(map(len, windows.values())) > 40:
+        return 12
+    return year, level, windows
+
+
+def bit_set(data, season, quarter):
+    return data[8 + 12 * (season - 1) + quarter // 8] & (128 >> quarter % 8) != 0
+
+
+def legal_list(year, holidays):
+    rising = all(a < b for a, b in zip(holidays, holidays[1:]))
+    return len(holidays) <= 40 and rising and all(1 <= h <= days_of(year) for h in holidays)
+
+
+def opening(terms):
+    """12, 1, 2, 12, 3, 6 in this order, else 0."""
+    read = read_sheet(terms.sheet)
+    if isinstance(read, int):
+        return read
+    if not legal_list(read[0], terms.holidays):
+        return 3
+    return 6 if prices_out(terms.prices) else 0
+
+
+# A year of readings
+
+def whole(terms, series):
+    """The decision: number and what it carries."""
+    refused = opening(terms)
+    if refused:
+        return (refused,)
+    year, level, windows = read_sheet(terms.sheet)
+    if len(series) != 96 * days_of(year):
+        return (4,)
+    bad = next((i for i, reading in enumerate(series) if reading > READING_MOST), None)
+    if bad is not None:
+        return (5, bad // 96 + 1, bad % 96)
+    places = [96 * (d - 1) + q for d in carrying_by_weeks(year, frozenset(terms.holidays)) for q in windows[SEASON[date(year, d).month]]]
+    at = max(places, key=lambda p: (series[p], -p), default=None)
+    found = (False, 0, 0, 0) if at is None else (True, series[at], at // 96 + 1, at % 96)
+    return judge(Set(max(series), sum(series), *found, level, terms.prices, terms.option))
+
+
+class Days:
+    """A year that is given day by day. Before an accepted opening it is the state of a refused one."""
+
+    def __init__(self):
+        self.terms = None
+
+    def open(self, terms):
+        number = opening(terms)
+        self.terms = None if number else terms
+        if not number:
+            self.year, self.level = struct.unpack(">HB", terms.sheet[5:8])
+            self.quarters = {s: [q for q in range(96) if bit_set(terms.sheet, s, q)] for s in (1, 2, 3, 4)}
+            self.listed, self.given, self.M, self.S, self.best = frozenset(terms.holidays), [], 0, 0, None
+        return (number,)
+
+    def day(self, day):
+        if self.terms is None or len(self.given) == 96 * days_of(self.year):
+            return (13,)
+        number = len(self.given) // 96 + 1
+        if len(day) != 96:
+            return (4,)
+        bad = [q for q, reading in enumerate(day) if reading > READING_MOST]
+        if bad:
+            return (5, number, bad[0])
+        season = date(self.year, number).month % 12 // 3 + 1
+        if carries_by_day(self.year, self.listed, number):
+            for q in self.quarters[season]:
+                if self.best is None or day[q] > self.best[0]:
+                    self.best = day[q], number, q
+        self.M, self.S = max(self.M, *day), self.S + sum(day)
+        self.given += day
+        return (0,)
+
+    def close(self):
+        if self.terms is None or len(self.given) != 96 * days_of(self.year):
+            return (13,)
+        found = (True, *self.best) if self.best else (False, 0, 0, 0)
+        answer = judge(Set(self.M, self.S, *found, self.level, self.terms.prices, self.terms.option))
+        assert answer == whole(self.terms, self.given)
+        return answer
+
+
+def easter(year):
+    """Anonymous Gregorian algorithm; only to make lists that look like real ones."""
+    a, b, c = year % 19, year // 100, year % 100
+    h = (19 * a + b - b // 4 - (b - (b + 8) // 25 + 1) // 3 + 15) % 30
+    l = (32 + 2 * (b % 4) + 2 * (c // 4) - h - c % 4) % 7
+    m = (a + 11 * h + 22 * l) // 451
+    return datetime.date(year, (h + l - 7 * m + 114) // 31, (h + l - 7 * m + 114) % 31 + 1)
+
+
+def nationwide(year):
+    fixed = [(1, 1), (5, 1), (10, 3), (12, 25), (12, 26)]
+    moved = [easter(year) + datetime.timedelta(days=k) for k in (-2, 1, 39, 50)]
+    return sorted({yday(year, m, d) for m, d in fixed} | {day_of(d) for d in moved})
