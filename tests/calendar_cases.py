@@ -12,22 +12,11 @@ import functools
 import random
 import struct
 
+from dates import date, day_of, days_of, free_by_others, legal_list, nationwide, yday
 from kept import keep
 
 DAYS = range(368)  # day 0 and the days past the year's end too
 SEASON = {12: 1, 1: 1, 2: 1, 3: 2, 4: 2, 5: 2, 6: 3, 7: 3, 8: 3, 9: 4, 10: 4, 11: 4}
-
-
-def date(year, day):
-    return datetime.date(year, 1, 1) + datetime.timedelta(days=day - 1)
-
-
-def day_of(when):
-    return when.timetuple().tm_yday
-
-
-def year_days(year):
-    return day_of(datetime.date(year, 12, 31))
 
 
 def period(year):
@@ -38,14 +27,7 @@ def period(year):
 
 def season(year, day):
     """Of a day of the year; day 0 counts to January and a day past the year to December."""
-    return SEASON[date(year, min(max(day, 1), year_days(year))).month]
-
-
-def free_by_others(when, year, listed):
-    """Weekend, listed, or 24 December to 1 January."""
-    inside = when.year == year and day_of(when) in listed
-    christmas = (when.month, when.day) >= (12, 24) or (when.month, when.day) == (1, 1)
-    return when.weekday() >= 5 or inside or christmas
+    return SEASON[date(year, min(max(day, 1), days_of(year))).month]
 
 
 @functools.lru_cache(maxsize=None)
@@ -62,18 +44,13 @@ def bridge_days(year, listed):
     return found
 
 
-def legal_list(year, holidays):
-    rising = all(a < b for a, b in zip(holidays, holidays[1:]))
-    return len(holidays) <= 40 and rising and all(1 <= h <= year_days(year) for h in holidays)
-
-
 def answer(year, holidays, day):
     """The paper's number and, for 0, yes or no: order 1, 3, 13."""
     if not 2014 <= year <= 2028:
         return (1,)
     if not legal_list(year, holidays):
         return (3,)
-    if not 1 <= day <= year_days(year):
+    if not 1 <= day <= days_of(year):
         return (13,)
     when = date(year, day)
     listed = frozenset(holidays)
@@ -92,7 +69,7 @@ def whole_year(year, holidays):
     # day 0 of the period is 31 August, and past 31 August the days go on
     around = [dates[0] + datetime.timedelta(days=d - 1) for d in DAYS]
     return [
-        f"Y {year} {year_days(year)} {len(dates)}",
+        f"Y {year} {days_of(year)} {len(dates)}",
         "".join(str(date(year, d).weekday()) for d in DAYS),
         "".join(str(season(year, d)) for d in DAYS),
         "".join(str(SEASON[d.month]) for d in around),
@@ -107,7 +84,7 @@ def whole_list(year, holidays):
     """
     listed = frozenset(holidays)
     bridges = bridge_days(year, listed)
-    carry = [d for d in range(1, year_days(year) + 1) if not free_by_others(date(year, d), year, listed) and date(year, d) not in bridges]
+    carry = [d for d in range(1, days_of(year) + 1) if not free_by_others(date(year, d), year, listed) and date(year, d) not in bridges]
     freed = [d for d in DAYS if date(year, d).weekday() < 5 and answer(year, holidays, d) == (0, 0)]
     word = "taken" if legal_list(year, holidays) else "bad"
     return [f"L {year} {word}" + "".join(f" {d}" for d in freed) + f" / {len(carry)} {sum(carry)}"]
@@ -115,25 +92,6 @@ def whole_list(year, holidays):
 
 def one_day(year, holidays, day):
     return ["D " + " ".join(map(str, answer(year, holidays, day)))]
-
-
-def easter(year):
-    """Anonymous Gregorian algorithm; only to make lists that look like real ones."""
-    a, b, c = year % 19, year // 100, year % 100
-    h = (19 * a + b - b // 4 - (b - (b + 8) // 25 + 1) // 3 + 15) % 30
-    l = (32 + 2 * (b % 4) + 2 * (c // 4) - h - c % 4) % 7
-    m = (a + 11 * h + 22 * l) // 451
-    return datetime.date(year, (h + l - 7 * m + 114) // 31, (h + l - 7 * m + 114) % 31 + 1)
-
-
-def nationwide(year):
-    fixed = [(1, 1), (5, 1), (10, 3), (12, 25), (12, 26)]
-    moved = [easter(year) + datetime.timedelta(days=k) for k in (-2, 1, 39, 50)]
-    return sorted({day_of(datetime.date(year, m, d)) for m, d in fixed} | {day_of(d) for d in moved})
-
-
-def yday(year, month, day):
-    return day_of(datetime.date(year, month, day))
 
 
 def cases():
@@ -149,10 +107,10 @@ def cases():
         yield "L", year, 0, nationwide(year)
     for n in range(150):
         year = rng.choice(years)
-        yield "L", year, 0, sorted(rng.sample(range(1, year_days(year) + 1), n % 41))
+        yield "L", year, 0, sorted(rng.sample(range(1, days_of(year) + 1), n % 41))
     # many Tuesdays and Thursdays, so that bridge days are frequent
     for year in years:
-        pool = [d for d in range(1, year_days(year) + 1) if date(year, d).weekday() in (0, 1, 3, 4)]
+        pool = [d for d in range(1, days_of(year) + 1) if date(year, d).weekday() in (0, 1, 3, 4)]
         yield "L", year, 0, sorted(rng.sample(pool, 40))
     # the turns of the years: the first and the last days listed in every way
     for year in years:
@@ -163,7 +121,7 @@ def cases():
             yield "L", year, 0, listed
     # lists that break their row
     for year in (2014, 2016, 2023, 2024, 2028):
-        last = year_days(year)
+        last = days_of(year)
         full = list(range(1, 41))
         for bad in (
             full + [41], list(range(1, 256)), [5, 5], [1, 2, 3, 3, 4], [2, 1], [1, 10, 9, 20], [0], [0, 1], [last + 1], [1, last + 1],

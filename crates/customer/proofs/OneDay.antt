@@ -4,7 +4,7 @@ use mathlib.Core.Path.{_≡_, refl, sym, ap, _∙_}
 use mathlib.Core.Bool.{Bool, true, false, cond, _&&_, _||_, or-true, or-false}
 use mathlib.Core.Logic.{⊎-elim}
 use mathlib.Core.List.{List}
-use Prim.Native.Nat.{ℕ, _+_, _*_, _≤_, _<_, max}
+use Prim.Native.Nat.{ℕ, _+_, _*_, _/_, _%_, _≤_, _<_, max}
 use native.Mathlib.Omega.{arith}
 use borrow.Author.Tests.{lt-ltb, le-ltb, leb-false}
 use lib.Dec.{leb, eqb}
@@ -12,7 +12,7 @@ use lib.ListN.{length, getD}
 use Rattle.over.specs.Over.{largestOver, sumOver, anyOver, firstOver, counted, largestIn, placeIn}
 use Rattle.over.proofs.Bools.{decided, clash}
 use Rattle.over.proofs.Largest.{largest-none, largest-more}
-use Rattle.over.proofs.Sums.{sum-none, sum-more}
+use Rattle.over.proofs.Sums.{sum-none, sum-more, sum-halves}
 use Rattle.over.proofs.Tests.{any-fails}
 use Rattle.over.proofs.Inside.{in-none, in-more, place-in}
 use Rattle.dates.specs.Dates.{seasonOf}
@@ -54,49 +54,61 @@ module _ (y : ℕ) (ws : List Bool) (d : ℕ) (day : List ℕ) (high : ℕ) wher
   pub hit-at : (p : ℕ) {b t : Bool} → b ≡ setOn y ws d p → (b && eqb (alone day p) high) ≡ t → hits p ≡ t
   hit-at p e h = (λ i. sym e i && eqb (alone day p) high) ∙ h
 
--- what a pass over the first p readings of a day keeps
-pub record Passing (test : ℕ → Bool) (day : List ℕ) (peak sum high p : ℕ) : Type 0 where
+-- what a pass over the first p readings of a day keeps: the sum by halves of 16 bits
+pub record Passing (test : ℕ → Bool) (day : List ℕ) (peak low top high p : ℕ) : Type 0 where
   pub some : p ≤ length day
   pub peak-is : peak ≡ largestOver (alone day) p
-  pub sum-is : sum ≡ sumOver (alone day) p
-  pub small : sum ≤ 4294967295 * p
+  pub low-is : low ≡ sumOver (λ k. alone day k % 65536) p
+  pub low-small : low ≤ 65535 * p
+  pub top-is : top ≡ sumOver (λ k. alone day k / 65536) p
+  pub top-small : top ≤ 65535 * p
   pub high-is : high ≡ largestIn test (alone day) p
 
 module _ (test : ℕ → Bool) (day : List ℕ) where
-  pub passing-none : Passing test day 0 0 0 0
+  pub passing-none : Passing test day 0 0 0 0 0
   passing-none =
       record {
         some = omega arith;
         peak-is = sym (largest-none (alone day));
-        sum-is = sym (sum-none (alone day));
-        small = omega arith;
+        low-is = sym (sum-none (λ k. alone day k % 65536));
+        low-small = omega arith;
+        top-is = sym (sum-none (λ k. alone day k / 65536));
+        top-small = omega arith;
         high-is = sym (in-none test (alone day));
       }
 
   pub passing-more :
-      {peak sum high p peak' add high' : ℕ}
-      → Passing test day peak sum high p
+      {peak low top high p next less more higher : ℕ}
+      → Passing test day peak low top high p
       → p < length day
-      → peak' ≡ max peak (getD day p 0)
-      → add ≡ getD day p 0
-      → add ≤ 4294967295
-      → high' ≡ max high (counted (test p) (getD day p 0))
-      → Passing test day peak' (sum + add) high' (p + 1)
+      → next ≡ max peak (alone day p)
+      → (less ≡ alone day p % 65536) × (less ≤ 65535)
+      → (more ≡ alone day p / 65536) × (more ≤ 65535)
+      → higher ≡ max high (counted (test p) (alone day p))
+      → Passing test day next (low + less) (top + more) higher (p + 1)
   passing-more {p = p} h l a b c e =
       record {
         some = omega arith;
         peak-is = omega (arith, h .peak-is, largest-more (alone day) p);
-        sum-is = omega (arith, h .sum-is, sum-more (alone day) p);
-        small = omega (arith, h .small);
+        low-is = omega (arith, h .low-is, b .0, sum-more (λ k. alone day k % 65536) p);
+        low-small = omega (arith, h .low-small, b .1);
+        top-is = omega (arith, h .top-is, c .0, sum-more (λ k. alone day k / 65536) p);
+        top-small = omega (arith, h .top-small, c .1);
         high-is = omega (arith, h .high-is, in-more test (alone day) p);
       }
 
-  pub passing-all : {peak sum high p : ℕ} → Passing test day peak sum high p → length day ≤ p → record { peak = peak; sum = sum; high = high } ≡ topsOf test day
+  pub passing-all :
+      {peak low top high p sum : ℕ}
+      → Passing test day peak low top high p
+      → length day ≤ p
+      → sum ≡ low + 65536 * top
+      → record { peak = peak; sum = sum; high = high } ≡ topsOf test day
   unfolding topsOf
-  passing-all {p = p} h l =
+  passing-all {p = p} {sum} h l s =
       let e : p ≡ length day = omega (arith, h .some) in
       let a = h .peak-is ∙ ap (largestOver (alone day)) e in
-      let b = h .sum-is ∙ ap (sumOver (alone day)) e in
+      let here : sum ≡ sumOver (alone day) p = omega (arith, s, h .low-is, h .top-is, sum-halves (alone day) p) in
+      let b = here ∙ ap (sumOver (alone day)) e in
       let c = h .high-is ∙ ap (largestIn test (alone day)) e in
       λ i. record { peak = a i; sum = b i; high = c i }
 

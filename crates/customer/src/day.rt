@@ -1,7 +1,7 @@
 // A day of a customer's year, taken into the year's figures: one pass over its readings.
 ghost use mathlib.Core.Path.{_≡_};
 ghost use mathlib.Core.Bool.{true, false, _&&_};
-ghost use Prim.Native.Nat.{ℕ, _+_, _≤_, _<_};
+ghost use Prim.Native.Nat.{ℕ, _+_, _/_, _%_, _≤_, _<_};
 ghost use lib.Dec.{eqb};
 ghost use lib.ListN.{length};
 ghost use Rattle.over.specs.Over.{anyOver, firstOver, counted};
@@ -25,6 +25,19 @@ fn wide(x: u32) -> u64
     ensures { λ r. ⌜ (r ≡ x) × (r ≤ 4294967295) ⌝ }
 {
     x as u64
+}
+
+// The two halves of a reading, 16 bits each. A day's sum is kept by halves, so that the pass stays in 32 bits.
+fn low_half(x: u32) -> u32
+    ensures { λ r. ⌜ (r ≡ x % 65536) × (r ≤ 65535) ⌝ }
+{
+    x % 65536
+}
+
+fn top_half(x: u32) -> u32
+    ensures { λ r. ⌜ (r ≡ x / 65536) × (r ≤ 65535) ⌝ }
+{
+    x / 65536
 }
 
 // Is position p of day d set in its season's windows, which begin at `base`?
@@ -73,11 +86,14 @@ fn plain_tops(day: &[u32]) -> Tops
     ensures { λ r. ⌜ (r ≡ topsOf (λ (p : ℕ). false) (now (day .entry))) × (r .sum ≤ dayMost) ⌝ }
 {
     let mut peak = 0;
-    let mut sum = 0;
+    let mut low: u32 = 0;
+    let mut top: u32 = 0;
     for p in 0..day.len() {
         peak = readings::larger(peak, day[p]);
-        sum += wide(day[p]);
+        low += low_half(day[p]);
+        top += top_half(day[p]);
     }
+    let sum = wide(low) + 65536 * wide(top);
     Tops { peak, sum, high: 0 }
 }
 
@@ -87,13 +103,16 @@ fn window_tops(day: &[u32], windows: &[bool; sheet::PLACES], year: u16, d: u16, 
     ensures { λ r. ⌜ (r ≡ topsOf (setOn year (now (windows .entry)) d) (now (day .entry))) × (r .sum ≤ dayMost) ⌝ }
 {
     let mut peak = 0;
-    let mut sum = 0;
+    let mut low: u32 = 0;
+    let mut top: u32 = 0;
     let mut high = 0;
     for p in 0..day.len() {
         peak = readings::larger(peak, day[p]);
-        sum += wide(day[p]);
+        low += low_half(day[p]);
+        top += top_half(day[p]);
         high = readings::larger(high, if_in(is_in(windows, year, d, base, p), day[p]));
     }
+    let sum = wide(low) + 65536 * wide(top);
     Tops { peak, sum, high }
 }
 
@@ -185,7 +204,7 @@ fn take_window(
 }
 
 // The figures with day d, from 0, taken in: one pass over its readings, and without in-window quarters maximum and sum alone.
-pub fn take_day(
+pub(crate) fn take_day(
     f: Figures,
     year: u16,
     d: u16,

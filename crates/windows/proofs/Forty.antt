@@ -12,14 +12,14 @@ use borrow.Author.Tests.{lt-ltb, ltb-true, eq-eqb, ne-eqb}
 use lib.ListN.{getD}
 use Rattle.over.specs.Limits.{Within}
 use Rattle.over.specs.Over.{countOver}
-use Rattle.over.proofs.Bools.{both, pair, clash}
-use Rattle.over.proofs.Tests.{count-mono, count-cong}
+use Rattle.over.proofs.Bools.{decided, both, pair, clash}
+use Rattle.over.proofs.Tests.{count-mono, count-less, count-cong}
 use Rattle.over.proofs.Tables.{getD-table}
 use Rattle.over.proofs.Rank.{exact}
 use Rattle.answers.specs.Ruling.{windowsMost, dayQuarters}
 use Rattle.sheet.specs.Windows.{seasons, placeOf, setIn, Roomy, flatOf}
 use Rattle.sheet.proofs.Windows.{flat-at}
-use Rattle.windows.specs.Chosen.{aboveLine, comesBefore, rank, kept, keptOf, chosenOf}
+use Rattle.windows.specs.Chosen.{aboveLine, aboveIn, comesBefore, rank, kept, keptOf, chosenOf}
 
 module _ (curve : List ℕ) where
   abbrev value : ℕ → ℕ
@@ -63,8 +63,8 @@ module _ (curve : List ℕ) where
 
   module _ (peak : ℕ) where
     -- exactly the smaller of forty and the number above the line
-    pub forty : countOver (kept peak curve) dayQuarters ≡ min windowsMost (countOver (λ q. aboveLine peak (value q)) dayQuarters)
-    unfolding kept rank
+    pub forty : countOver (kept peak curve) dayQuarters ≡ min windowsMost (aboveIn peak curve)
+    unfolding kept rank aboveIn
     forty = exact (comesBefore curve) total trans asym dayQuarters windowsMost (λ q. aboveLine peak (value q))
 
     pub at-most : countOver (kept peak curve) dayQuarters ≤ windowsMost
@@ -81,6 +81,16 @@ module _ (curve : List ℕ) where
         (λ k l t.
         let a = both (aboveLine peak (value k)) (comesBefore curve k p) t in
         pair (a .0) (trans k p q (a .1) b))
+
+    -- where no more than forty are above the line, all of them are kept
+    pub few-kept : (q : ℕ) → q < dayQuarters → aboveIn peak curve ≤ windowsMost → aboveLine peak (value q) ≡ true → kept peak curve q ≡ true
+    unfolding kept rank aboveIn
+    few-kept q l few a =
+        let less = count-less (ahead q) (λ k. aboveLine peak (value k)) dayQuarters q (λ k m t. both (aboveLine peak (value k)) _ t .0) l a (self q) in
+        pair a (lt-ltb (countOver (ahead q) dayQuarters) windowsMost (omega arith))
+      where
+        self : (k : ℕ) → ahead k k ≡ false
+        self k = ⊎-elim (λ t. let b = both (aboveLine peak (value k)) _ t .1 in absurd (asym k k b b)) (λ f. f) (decided (ahead k k))
 
     -- a quarter above the line that comes before a kept one is kept
     pub kept-before : (p q : ℕ) → aboveLine peak (value p) ≡ true → comesBefore curve p q ≡ true → kept peak curve q ≡ true → kept peak curve p ≡ true

@@ -4,7 +4,7 @@ ghost use mathlib.Core.Path.{_≡_};
 ghost use Prim.Native.Nat.{_<_};
 ghost use Rattle.answers.specs.Ruling.{dayQuarters};
 ghost use Rattle.sheet.specs.Windows.{seasons};
-ghost use Rattle.windows.specs.Chosen.{aboveLine, comesBefore, rank, kept, keptOf, chosenOf, curveOf, curvesOf};
+ghost use Rattle.windows.specs.Chosen.{aboveLine, aboveIn, comesBefore, rank, kept, keptOf, chosenOf, curveOf, curvesOf};
 
 // The line lies at 19 twentieths of the peak.
 const LINE_PARTS: u64 = 19;
@@ -63,11 +63,26 @@ fn rank_of(peak: u32, curve: &[u32; 96], q: usize) -> usize
     n
 }
 
-fn is_kept(peak: u32, curve: &[u32; 96], q: usize) -> bool
-    requires { ⌜ q < dayQuarters ⌝ }
+// How many quarters are above the line.
+fn above_of(peak: u32, curve: &[u32; 96]) -> usize
+    ensures { λ r. ⌜ r ≡ aboveIn peak (now (curve .entry)) ⌝ }
+{
+    let mut n: usize = 0;
+    for p in 0..answers::DAY_QUARTERS {
+        n += answers::one_if(is_above(peak, curve[p]));
+    }
+    n
+}
+
+// Where no more than forty are above the line, all of them are kept, and no rank is counted.
+fn is_kept(peak: u32, curve: &[u32; 96], above: usize, q: usize) -> bool
+    requires { ⌜ (q < dayQuarters) × (above ≡ aboveIn peak (now curve)) ⌝ }
     ensures { λ r. ⌜ r ≡ kept peak (now (curve .entry)) q ⌝ }
 {
     if is_above(peak, curve[q]) {
+        if above <= answers::WINDOWS_MOST {
+            return true;
+        }
         return rank_of(peak, curve, q) < answers::WINDOWS_MOST;
     }
     false
@@ -77,9 +92,10 @@ fn is_kept(peak: u32, curve: &[u32; 96], q: usize) -> bool
 fn kept_of(peak: u32, curve: &[u32; 96]) -> [bool; 96]
     ensures { λ r. ⌜ r ≡ keptOf peak (now (curve .entry)) ⌝ }
 {
+    let above = above_of(peak, curve);
     let mut out = [false; 96];
     for q in 0..answers::DAY_QUARTERS {
-        out[q] = is_kept(peak, curve, q);
+        out[q] = is_kept(peak, curve, above, q);
     }
     out
 }

@@ -12,10 +12,10 @@ use Rattle.windows.proofs.kept_of.Statement.{statement}
 use Rattle.windows.proofs.kept_of.Tie as tie
 
 abbrev Inv-loop : tie.InvT-loop
-Inv-loop peak curve out₀ q₀ out q = Filled (kept peak curve) dayQuarters false q out
+Inv-loop peak curve above out₀ q₀ out q = Filled (kept peak curve) dayQuarters false q out
 
 abbrev μ-loop : tie.MeasureT-loop
-μ-loop peak curve out₀ q₀ out q = dayQuarters - q
+μ-loop peak curve above out₀ q₀ out q = dayQuarters - q
 
 returns : tie.Need-returns Inv-loop μ-loop
 unfolding keptOf
@@ -27,6 +27,7 @@ kept-of-spec =
     (tie.spec
     Inv-loop
     μ-loop
+    (λ c κs. search needs)  -- above-of-requires
     (λ c. filled-none refl)  -- loop-holds
     (λ c κs. search needs)  -- is-kept-requires
     (λ c. search needs)  -- array-write-out
