@@ -1,0 +1,85 @@
+-- Laws of a file's header: where its fields start, what a field that did not stop says, and the cases of the header's answer.
+-- Assumes nothing.
+use mathlib.Core.Path.{_≡_}
+use mathlib.Core.Bool.{true, false, not}
+use mathlib.Core.List.{List}
+use Prim.Native.Nat.{ℕ, zero, suc, _+_, _≤_, _<_}
+use native.Mathlib.Numerals.{add-one}
+use native.Mathlib.Decide.{decLt}
+use native.Mathlib.Omega.{arith}
+use borrow.Author.Tests.{lt-ltb, le-ltb, eq-eqb, ne-eqb, ltb-false, eqb-true, not-false}
+use lib.Dec.{eqb}
+use lib.ListN.{length}
+use Rattle.over.proofs.Bools.{neither}
+use Rattle.over.proofs.Sums.{sum-none, sum-more, sum-cong}
+use Rattle.over.proofs.Tests.{Passed, passed-more}
+use Rattle.over.proofs.First.{first-at, first-fails}
+use Rattle.answers.specs.Said.{only}
+use Rattle.fields.specs.Layout.{Layout, startOf, cutOff, stops, firstStop, headAnswer}
+
+module _ (l : Layout) where
+  pub field-none : startOf l 0 ≡ 0
+  unfolding startOf
+  field-none = sum-none (l .width)
+
+  pub field-more : (k : ℕ) → startOf l (k + 1) ≡ startOf l k + l .width k
+  unfolding startOf
+  field-more k = sum-more (l .width) k
+
+  pub field-rises : (k j : ℕ) → j ≤ k → startOf l j ≤ startOf l k
+  field-rises zero j h =
+      let e : j ≡ 0 = omega arith in
+      rw e (omega arith)
+  field-rises (suc k) j h = go (decLt k j) (field-rises k j)
+    where
+      more : startOf l (suc k) ≡ startOf l k + l .width k
+      more = rw add-one at (field-more k)
+
+      go : Dec (k < j) → (j ≤ k → startOf l j ≤ startOf l k) → startOf l j ≤ startOf l (suc k)
+      go (yes m) ih =
+          let e : j ≡ suc k = omega arith in
+          rw e (omega arith)
+      go (no m) ih = omega (arith, ih (omega arith), more)
+
+-- fields of the same widths start at the same places
+pub field-cong : (l m : Layout) (k : ℕ) → ((j : ℕ) → j < k → l .width j ≡ m .width j) → startOf l k ≡ startOf m k
+unfolding startOf
+field-cong l m k h = sum-cong (l .width) (m .width) k h
+
+module _ (l : Layout) (bytes : List ℕ) where
+  -- a field that does not stop is in the file, and not refused
+  pub field-held : (k : ℕ) → stops l bytes k ≡ false → (startOf l (k + 1) ≤ length bytes) × (l .refusal k ≡ 0)
+  field-held k e =
+      let n = neither (cutOff l bytes k) (not (eqb (l .refusal k) 0)) e in
+      (ltb-false _ _ (n .0), eqb-true _ _ (not-false _ (n .1)))
+
+  -- what comes after fields that do not stop starts in the file
+  pub fields-held : (k : ℕ) → Passed (stops l bytes) k → startOf l k ≤ length bytes
+  fields-held zero h = omega (arith, field-none l)
+  fields-held (suc k) h = rw add-one at (field-held k (h .fails k (omega arith)) .0)
+
+  -- the header's answer, where the first k fields do not stop
+  module _ (k : ℕ) (h : Passed (stops l bytes) k) where
+    pub field-passed : startOf l (k + 1) ≤ length bytes → l .refusal k ≡ 0 → Passed (stops l bytes) (k + 1)
+    field-passed e z = passed-more h (simp (le-ltb (length bytes) (startOf l (k + 1)) e, eq-eqb (l .refusal k) 0 z))
+
+    module _ (c : k < l .count) where
+      here : stops l bytes k ≡ true → firstStop l bytes ≡ k
+      unfolding firstStop
+      here t = first-at (stops l bytes) (l .count) k c t (h .fails)
+
+      pub head-cut : length bytes < startOf l (k + 1) → only 12 ≡ headAnswer l bytes
+      unfolding headAnswer
+      head-cut e =
+          let cut : cutOff l bytes k ≡ true = lt-ltb (length bytes) (startOf l (k + 1)) e in
+          simp (here (simp cut), lt-ltb k (l .count) c, cut)
+
+      pub head-refused : startOf l (k + 1) ≤ length bytes → (l .refusal k ≡ 0 → ⊥) → only (l .refusal k) ≡ headAnswer l bytes
+      unfolding headAnswer
+      head-refused e z =
+          let read : cutOff l bytes k ≡ false = le-ltb (length bytes) (startOf l (k + 1)) e in
+          simp (here (simp (read, ne-eqb (l .refusal k) 0 z)), lt-ltb k (l .count) c, read)
+
+  pub head-fine : Passed (stops l bytes) (l .count) → only 0 ≡ headAnswer l bytes
+  unfolding headAnswer firstStop
+  head-fine h = simp (first-fails (stops l bytes) (l .count) (h .fails), le-ltb (l .count) (l .count) (omega arith))

@@ -1,0 +1,5 @@
+pub mod Bytes
+pub mod Header
+pub mod Days
+pub mod Driven
+pub mod Fed
