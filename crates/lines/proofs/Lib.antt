@@ -1,0 +1,5 @@
+pub mod Text
+pub mod Figures
+pub mod Runs
+pub mod Only
+pub mod Cases

@@ -1,0 +1,44 @@
+-- Nothing else meets the promises of `figures_text`, `refused_text` and `windows_text`, and 0 is answered exactly where the buffer is too
+-- short, since no text is empty.
+-- Assumes nothing.
+use mathlib.Core.Path.{_≡_, sym}
+use mathlib.Core.List.{List}
+use mathlib.Core.Bool.{Bool}
+use mathlib.Core.Logic.{_↔_}
+use Prim.Native.Nat.{ℕ, _<_}
+use native.Mathlib.Decide.{decLt}
+use native.Mathlib.Omega.{arith}
+use borrow.Author.Tests.{le-leb}
+use lib.ListN.{length}
+use Rattle.answers.proofs.Laws.{one-answer}
+use Rattle.lines.specs.Text.{lengthIn, putIn}
+use Rattle.lines.specs.Figures.{figuresLine, refusedLine}
+use Rattle.lines.specs.Runs.{windowsText}
+use Rattle.lines.proofs.Text.{short}
+use Rattle.lines.proofs.Figures.{figures-long, refused-long, head-long}
+use Rattle.lines.proofs.Runs.{windows-long}
+
+pub text-only :
+    (text buffer : List ℕ) {r s : ℕ} {after later : List ℕ}
+    → (r ≡ lengthIn text buffer) × (after ≡ putIn text buffer)
+    → (s ≡ lengthIn text buffer) × (later ≡ putIn text buffer)
+    → (r ≡ s) × (after ≡ later)
+text-only text buffer p q = (one-answer (p .0) (q .0), one-answer (p .1) (q .1))
+
+-- 0 exactly where the buffer is too short
+pub nothing : (text buffer : List ℕ) → 0 < length text → (lengthIn text buffer ≡ 0) ↔ (length buffer < length text)
+unfolding lengthIn
+nothing text buffer some = (λ e. go (decLt (length buffer) (length text)) e, λ l. sym (short text buffer l .0))
+  where
+    go : Dec (length buffer < length text) → lengthIn text buffer ≡ 0 → length buffer < length text
+    go (yes l) e = l
+    go (no l) e = absurd (omega (arith, rw (le-leb (length text) (length buffer) (omega arith)) at e))
+
+pub some-figures : (figures : List ℕ) → 0 < length (figuresLine figures)
+some-figures figures = omega (arith, figures-long figures)
+
+pub some-refused : (figures : List ℕ) → 0 < length (refusedLine figures)
+some-refused figures = omega (arith, refused-long figures)
+
+pub some-windows : (year level : ℕ) (windows : List Bool) → 0 < length (windowsText year level windows)
+some-windows year level windows = omega (arith, windows-long year level windows, head-long year level)
