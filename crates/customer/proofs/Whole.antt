@@ -13,11 +13,11 @@ use Rattle.answers.specs.Ruling.{customerMost}
 use Rattle.answers.specs.Said.{Said, only, badPlace}
 use Rattle.dates.specs.Dates.{yearDays}
 use Rattle.readings.specs.declared.Run.{Run}
-use Rattle.readings.specs.Runs.{runDays, dayLen, dayStart, reading}
+use Rattle.readings.specs.Runs.{dayLen, reading}
 use Rattle.readings.specs.Days.{seriesAnswer, nextAnswer, offered, takenReadings, BadThere}
-use Rattle.readings.proofs.Runs.{len-most, run-all, year-run}
-use Rattle.readings.proofs.Days.{Read, reading-le, same-before, same-day, series-bad, series-legal}
-use Rattle.readings.proofs.Machines.{Machine, Holds, holds-none, holds-days, same-bad}
+use Rattle.readings.proofs.Runs.{len-most, year-run}
+use Rattle.readings.proofs.Days.{Read, reading-le, same-before, same-day, series-bad}
+use Rattle.readings.proofs.Machines.{Machine, Full, all-taken, same-bad}
 use Rattle.sheet.specs.Bytes.{sheetIn}
 use Rattle.tariff.specs.declared.Prices.{Prices}
 use Rattle.tariff.specs.declared.Figures.{Figures}
@@ -103,24 +103,13 @@ module _ (t : Terms) where
     abbrev series : List ℕ
     series = takenReadings dayAnswer dayCustomer (opened t) days
 
-    holds : Holds machine series state
-    holds = holds-days machine days [] (opened t) (rw opens-holding (holds-none machine))
-
     module _ (full : state .seen ≡ yearDays (t .year)) where
-      all-in : holds .days ≡ yearDays (t .year)
-      all-in = sym (ap (λ (c : Customer). c .seen) (holds .is)) ∙ full
-
-      state-is : state ≡ holding series (yearDays (t .year))
-      state-is = holds .is ∙ ap (holding series) all-in
-
-      legal : only 0 ≡ seriesAnswer run customerMost series
-      legal =
-          let n : holds .days ≡ runDays run = all-in ∙ sym (year-run (t .year)) in
-          series-legal run customerMost series (holds .read .long ∙ ap (dayStart run) n ∙ run-all run) (rw n at (holds .read .legal))
+      all-in : Full machine series state
+      all-in = all-taken machine (λ c. c .seen) (λ xs n. refl) (opened t) opens-holding days (full ∙ sym (year-run (t .year)))
 
       pub closes-whole : closeAnswer state ≡ wholeAnswer t series
       closes-whole =
-          ap closeAnswer state-is ∙ sym (close-judged (holding series (yearDays (t .year))) refl refl) ∙ whole-judged t series legal
+          ap closeAnswer (all-in .whole ∙ ap (holding series) (year-run (t .year))) ∙ sym (close-judged (holding series (yearDays (t .year))) refl refl) ∙ whole-judged t series (all-in .legal)
 
 -- an accepted opening
 module _ (b hs : List ℕ) (p : Prices) (option : Bool) (o : openAnswer b hs p ≡ only 0) where

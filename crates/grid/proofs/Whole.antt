@@ -13,11 +13,11 @@ use Rattle.answers.specs.Ruling.{gridMost, dayQuarters}
 use Rattle.answers.specs.Said.{Said, only, badPlace}
 use Rattle.answers.proofs.Laws.{charge-year, level-of, done-hands}
 use Rattle.dates.specs.Period.{periodDays}
-use Rattle.readings.specs.Runs.{runDays, dayStart}
+use Rattle.readings.specs.Runs.{dayStart}
 use Rattle.readings.specs.Days.{seriesAnswer, offered, takenReadings, BadThere}
-use Rattle.readings.proofs.Runs.{run-all, period-run}
-use Rattle.readings.proofs.Days.{Read, same-before, same-day, series-bad, series-legal}
-use Rattle.readings.proofs.Machines.{Machine, Holds, holds-none, holds-days, same-bad}
+use Rattle.readings.proofs.Runs.{period-run}
+use Rattle.readings.proofs.Days.{Read, same-before, same-day, series-bad}
+use Rattle.readings.proofs.Machines.{Machine, Full, all-taken, same-bad}
 use Rattle.sheet.specs.Bytes.{sheetSize}
 use Rattle.sheet.specs.Windows.{places}
 use Rattle.grid.specs.declared.Grid.{Grid}
@@ -74,9 +74,6 @@ module _ (y level : ℕ) (o : openAnswer y level ≡ only 0) where
     abbrev series : List ℕ
     series = takenReadings dayAnswer dayGrid (openGrid y level) days
 
-    holds : Holds (machine y level) series state
-    holds = holds-days (machine y level) days [] (openGrid y level) (rw opens-empty (holds-none (machine y level)))
-
     -- the two answers, each with its buffer
     abbrev pub Same : Type 0
     Same = (closeAnswer state (length out) ≡ windowsAnswer y level series (length out)) × (closeBuffer state out ≡ windowsBuffer y level series out)
@@ -85,17 +82,8 @@ module _ (y level : ℕ) (o : openAnswer y level ≡ only 0) where
       abbrev whole : Grid
       whole = holding y level series (periodDays y)
 
-      all-in : holds .days ≡ periodDays y
-      all-in = sym (ap (λ (g : Grid). g .seen) (holds .is)) ∙ full
-
-      state-is : state ≡ whole
-      state-is = holds .is ∙ ap (holding y level series) all-in
-
-      legal : only 0 ≡ seriesAnswer (periodRun y) gridMost series
-      legal =
-          let n : holds .days ≡ runDays (periodRun y) = all-in ∙ sym (period-run y) in
-          series-legal (periodRun y) gridMost series (holds .read .long ∙ ap (dayStart (periodRun y)) n ∙ run-all (periodRun y))
-          (rw n at (holds .read .legal))
+      all-in : Full (machine y level) series state
+      all-in = all-taken (machine y level) (λ g. g .seen) (λ xs n. refl) (openGrid y level) opens-empty days (full ∙ sym (period-run y))
 
       -- closing the state that holds all days
       same-whole : (closeAnswer whole (length out) ≡ windowsAnswer y level series (length out)) × (closeBuffer whole out ≡ windowsBuffer y level series out)
@@ -108,10 +96,10 @@ module _ (y level : ℕ) (o : openAnswer y level ≡ only 0) where
               (sym (c .0) ∙ w .0, sym (c .1) ∙ w .1)
           go (no h) =
               let c = close-finish whole out (omega arith) refl (refl, refl) in
-              whole-finish y level series out (omega arith) (sym o) legal refl (sym (c .0), sym (c .1))
+              whole-finish y level series out (omega arith) (sym o) (all-in .legal) refl (sym (c .0), sym (c .1))
 
       pub days-whole : Same
-      days-whole = rw state-is same-whole
+      days-whole = rw (all-in .whole ∙ ap (holding y level series) (period-run y)) same-whole
 
 -- where the whole call answers 5 at a day and a position, the days before are taken, and that day answers the same
 module _ (y level : ℕ) (xs out : List ℕ) (d q : ℕ) where

@@ -19,7 +19,7 @@ use Rattle.readings.specs.Runs.{runDays, dayLen, dayStart, runReadings}
 use Rattle.readings.specs.Legal.{illegal, highestOf, firstAbove, dayPeak, peakOf, badIn, badAt, badDay, firstIllegal}
 use Rattle.readings.specs.Part.{dayPart}
 use Rattle.readings.specs.Days.{seriesAnswer, nextAnswer, offered, takenReadings, daysOf, BadThere}
-use Rattle.readings.proofs.Runs.{run-held}
+use Rattle.readings.proofs.Runs.{run-all, run-held}
 use Rattle.readings.proofs.Legal.{peak-illegal, illegal-at, bad-peak}
 use Rattle.readings.proofs.Part.{length-part, part-at}
 use Rattle.readings.proofs.Days.{series-length, series-bad, series-legal, next-out, next-length, next-bad, next-taken, Read, read-none, read-more}
@@ -38,10 +38,10 @@ pub record Machine {S : Type 0} (run : Run) (limit : ℕ) (answer : S → List �
 
 module _ {S : Type 0} {run : Run} {limit : ℕ} {answer : S → List ℕ → Said} {step : S → List ℕ → S} {holding : List ℕ → ℕ → S} (m : Machine run limit answer step holding) where
   -- a state that holds exactly these readings
-  pub record Holds (xs : List ℕ) (s : S) : Type 0 where
-    pub days : ℕ
-    pub read : Read run limit xs days
-    pub is : s ≡ holding xs days
+  record Holds (xs : List ℕ) (s : S) : Type 0 where
+    days : ℕ
+    read : Read run limit xs days
+    is : s ≡ holding xs days
 
   moved : {xs zs : List ℕ} {s : S} → xs ≡ zs → Holds xs s → Holds zs s
   moved e h = rw e at h
@@ -72,19 +72,45 @@ module _ {S : Type 0} {run : Run} {limit : ℕ} {answer : S → List ℕ → Sai
         go (yes h) (yes l) (yes v) = kept _ refl (next-bad run limit n day h l v refl)
         go (yes h) (yes l) (no v) = added l (omega arith) (next-taken run limit n day h l (omega arith))
 
-  pub holds-none : Holds [] (holding [] 0)
+  holds-none : Holds [] (holding [] 0)
   holds-none = record { days = 0; read = read-none run limit; is = refl }
 
   holds-day : (xs : List ℕ) (s : S) → Holds xs s → (day : List ℕ) → Holds (xs ++ after (answer s day) day []) (step s day)
   holds-day xs s h day = rw (h .is) (holds-next xs (h .days) (h .read) day)
 
   -- the state after offered days holds the readings of the taken ones
-  pub holds-days : (days : List (List ℕ)) (xs : List ℕ) (s : S) → Holds xs s → Holds (xs ++ takenReadings answer step s days) (offered step s days)
+  holds-days : (days : List (List ℕ)) (xs : List ℕ) (s : S) → Holds xs s → Holds (xs ++ takenReadings answer step s days) (offered step s days)
   unfolding offered takenReadings
   holds-days [] xs s h = moved (sym (append-nil xs)) h
   holds-days (day ∷ days) xs s h =
       moved (append-assoc xs (after (answer s day) day []) (takenReadings answer step (step s day) days))
       (holds-days days (xs ++ after (answer s day) day []) (step s day) (holds-day xs s h day))
+
+  -- a state that has all days: it holds a complete legal series
+  pub record Full (xs : List ℕ) (s : S) : Type 0 where
+    pub whole : s ≡ holding xs (runDays run)
+    pub legal : only 0 ≡ seriesAnswer run limit xs
+
+  full-holds : (xs : List ℕ) (s : S) (h : Holds xs s) → h .days ≡ runDays run → Full xs s
+  full-holds xs s h n =
+      record {
+        whole = h .is ∙ ap (holding xs) n;
+        legal = series-legal run limit xs (h .read .long ∙ ap (dayStart run) n ∙ run-all run) (rw n at (h .read .legal));
+      }
+
+  -- days that are offered from the start, refused ones among them, until all are in
+  pub all-taken :
+      (seen : S → ℕ)
+      → ((xs : List ℕ) (n : ℕ) → seen (holding xs n) ≡ n)
+      → (start : S)
+      → start ≡ holding [] 0
+      → (days : List (List ℕ))
+      → seen (offered step start days) ≡ runDays run
+      → Full (takenReadings answer step start days) (offered step start days)
+  all-taken seen counts start e days full =
+      let h = holds-days days [] start (rw e holds-none) in
+      full-holds (takenReadings answer step start days) (offered step start days) h
+      (sym (counts (takenReadings answer step start days) (h .days)) ∙ sym (ap seen (h .is)) ∙ full)
 
   -- days after days
   offered-more : (days : List (List ℕ)) (s : S) (day : List ℕ) → offered step s (days ++ (day ∷ [])) ≡ step (offered step s days) day
