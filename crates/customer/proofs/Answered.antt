@@ -2,7 +2,7 @@
 -- Assumes nothing.
 use mathlib.Core.Path.{_≡_, refl, sym, ap, _∙_}
 use mathlib.Core.Bool.{Bool, true, false}
-use mathlib.Core.List.{List}
+use mathlib.Core.List.{List, [], _∷_}
 use Prim.Native.Nat.{ℕ, _≤_, _<_}
 use native.Mathlib.Omega.{arith}
 use borrow.Author.Tests.{eq-eqb, ne-eqb}
@@ -126,6 +126,10 @@ module _ (b hs : List ℕ) (p : Prices) (option : Bool) (xs : List ℕ) where
 
   pub decide-under : {t : Terms} {a : Said} → only 0 ≡ openAnswer b hs p → t ≡ termsOf (sheetIn b) hs p option → a ≡ wholeAnswer t xs → a ≡ decideAnswer b hs p option xs
   decide-under e k w = w ∙ ap (λ (u : Terms). wholeAnswer u xs) k ∙ decide-whole e
+
+-- the places of the enum's cases, without that of `Taken`, which is 2
+abbrev pub others : List ℕ
+others = 0 ∷ 1 ∷ 3 ∷ 4 ∷ 5 ∷ 6 ∷ 7 ∷ 8 ∷ 9 ∷ 10 ∷ 11 ∷ 12 ∷ 13 ∷ 14 ∷ []
 
 -- an answer that is not `Taken` is a refusal, where 0 carries nothing
 pub untaken : {d : Decision} {said : Said} → saidOf d ≡ said → (said .number ≡ 0 → only 0 ≡ said) → (d ≡ Taken → ⊥) → eqb (saidOf d .number) 0 ≡ false

@@ -1,8 +1,6 @@
 -- `customer::decide` meets its contract, a law for each return; the peak tells whether a reading is illegal, so the series is read once.
 -- Assumes nothing.
 use mathlib.Core.Path.{_≡_, refl, sym, ap, _∙_}
-use mathlib.Core.List.{List, [], _∷_}
-use Prim.Native.Nat.{ℕ}
 use native.Mathlib.Omega.{arith}
 use borrow.Author.Needs.{needs}
 use types.Run.{miss}
@@ -16,13 +14,9 @@ use Rattle.customer.specs.declared.Customer.{Customer}
 use Rattle.customer.specs.Counts.{yearRun}
 use Rattle.customer.specs.Answers.{termsOf, openAnswer}
 use Rattle.customer.proofs.Exactly.{open-zero}
-use Rattle.customer.proofs.Answered.{open-taken, untaken, whole-series, whole-bad, whole-legal, decide-open, decide-under}
+use Rattle.customer.proofs.Answered.{open-taken, others, untaken, whole-series, whole-bad, whole-legal, decide-open, decide-under}
 use Rattle.customer.proofs.decide.Statement.{statement}
 use Rattle.customer.proofs.decide.Tie as tie
-
--- the places of the enum's cases, without that of `Taken`, which is 2
-abbrev others : List ℕ
-others = 0 ∷ 1 ∷ 3 ∷ 4 ∷ 5 ∷ 6 ∷ 7 ∷ 8 ∷ 9 ∷ 10 ∷ 11 ∷ 12 ∷ 13 ∷ 14 ∷ []
 
 -- the opening is accepted, and hands over the terms
 opens-at : (e : tie.After-enum-told) → let a = e .before .before .before .before .before .before .args in only 0 ≡ openAnswer (a .sheet .now) (a .holidays .now) (a .prices)

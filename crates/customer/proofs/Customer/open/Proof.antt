@@ -1,8 +1,6 @@
 -- `customer::Customer::open` meets its contract, a law for each return.
 -- Assumes nothing.
 use mathlib.Core.Path.{_≡_, refl, sym, ap, _∙_}
-use mathlib.Core.List.{List, [], _∷_}
-use Prim.Native.Nat.{ℕ}
 use borrow.Author.Needs.{needs}
 use types.Run.{miss}
 use Rattle.answers.specs.Said.{Said, only}
@@ -16,13 +14,9 @@ use Rattle.sheet.proofs.Exactly.{read-zero, read-never}
 use Rattle.tariff.specs.Answers.{saidOf}
 use Rattle.customer.specs.declared.Customer.{Customer}
 use Rattle.customer.specs.Answers.{termsOf, opened}
-use Rattle.customer.proofs.Answered.{open-read, open-holidays, open-prices, open-done, open-refused, open-taken, untaken}
+use Rattle.customer.proofs.Answered.{open-read, open-holidays, open-prices, open-done, open-refused, open-taken, others, untaken}
 use Rattle.customer.proofs.Customer.open.Statement.{statement}
 use Rattle.customer.proofs.Customer.open.Tie as tie
-
--- the places of the enum's cases, without that of `Taken`, which is 2
-abbrev others : List ℕ
-others = 0 ∷ 1 ∷ 3 ∷ 4 ∷ 5 ∷ 6 ∷ 7 ∷ 8 ∷ 9 ∷ 10 ∷ 11 ∷ 12 ∷ 13 ∷ 14 ∷ []
 
 -- what reading the sheet says
 said-at : (e : tie.After-read) → saidOfSheet (e .read .result .answer) ≡ readAnswer (e .before .before .before .args .sheet .now)
