@@ -13,14 +13,13 @@ import random
 import struct
 
 from kept import keep
+from recipes import MOST, Patch, any_places, offered, series_of
 from year import LIMITS, MISSING, READING_MOST, SEASON, SHARE, USUAL, YEARS, Days, Terms, carrying_by_weeks, date, days_of, nationwide, opening
 from year import sheet_bytes, whole, yday
 
-MOST = 35_500  # readings that the program has room for
 ALL = (1, 2, 3, 4)
 EVENING = {s: list(range(68, 76)) for s in ALL}
 MORNINGS = {1: [10], 2: [30], 3: [50], 4: [70]}  # another quarter in each season
-Patch = collections.namedtuple("Patch", "first count step value spread seed", defaults=(0, 0))
 bad_sheets = {  # what makes a legal sheet one that is malformed
     "none": lambda s: b"", "one": lambda s: s[:1], "head": lambda s: s[:8], "short": lambda s: s[:55],
     "long": lambda s: s + b"\0", "longer": lambda s: s + b"\0" * 4,
@@ -31,17 +30,6 @@ bad_sheets = {  # what makes a legal sheet one that is malformed
 
 
 # Records
-
-def spread_over(length, base, patches):
-    series = [base] * MOST
-    for p in patches:
-        x, at = p.seed, p.first
-        for _ in range(p.count):
-            if at < MOST:
-                series[at] = max(p.value - x % (p.spread + 1), 0)
-            x, at = (75 * x + 74) % 65537, at + p.step
-    return series[:length]
-
 
 def call_bytes(call):
     kind, *rest = call
@@ -54,23 +42,13 @@ def call_bytes(call):
     return b"A" + sheet + holidays + struct.pack(">4I?", *terms.prices, terms.option)
 
 
-def offer(days, series, first, count):
-    """Days until one is refused; a day that the series does not hold is empty, and so is day 0."""
-    for k in range(count):
-        day = first + k
-        answer = days.day(series[96 * (day - 1):96 * day] if 1 <= day <= len(series) // 96 else [])
-        if answer != (0,):
-            return (k, *answer)
-    return count, 0
-
-
 def answered(days, series, call):
     """The lines of a call."""
     kind, *rest = call
     if kind == "A":
         return [("W", *whole(rest[0], series)), ("O", *days.open(rest[0]))]
     if kind == "D":
-        return [("D", *offer(days, series, *rest))]
+        return [("D", *offered(days, series, *rest))]
     if kind == "P":
         return [("P", *days.day(series[rest[0]:rest[0] + rest[1]]))]
     return [("C", *days.close())]
@@ -80,7 +58,7 @@ def record(length, base, patches, calls):
     assert len(patches) < 256 and len(calls) < 256
     data = b"S" + struct.pack(">HIBB", length, base, len(patches), len(calls))
     data += b"".join(struct.pack(">HHHIHH", *p) for p in patches) + b"".join(map(call_bytes, calls))
-    series, days = spread_over(length, base, patches), Days()
+    series, days = series_of(length, base, patches), Days()
     lines = [("S", length)] + [line for call in calls for line in answered(days, series, call)]
     return data, [" ".join(map(str, line)) for line in lines]
 
@@ -125,7 +103,7 @@ def runs_of(year, season):
 def figures_of(case):
     """What the first call's decision over the whole series answers, for the checks below."""
     length, base, patches, calls = case
-    return whole(calls[0][1], spread_over(length, base, patches))
+    return whole(calls[0][1], series_of(length, base, patches))
 
 
 # Kinds: whole years
@@ -218,7 +196,7 @@ def holidays_move():
     lists += [[first_may, bridge, tuesday], [first_may, monday, thursday], [first_may, friday]]
     lists += [[first_may, bridge, monday, tuesday, thursday, friday]]
     case = all_terms(2025, 100_000, patches, [asked(2025, 5, EVENING, numbers) for numbers in lists], 2)
-    series = spread_over(*case[:3])
+    series = series_of(*case[:3])
     got = [whole(asked(2025, 5, EVENING, numbers), series)[-3:] for numbers in lists]
     assert got[0] == (900_000, first_may, 70) and got[1] == (700_000, monday, 72)
     # case 14: Monday free, Friday carries windows
@@ -369,7 +347,7 @@ def bad_readings():
         for at in (0, 70, 95, 96, 96 * 91 + 70, 17_000, last - 95, last):
             for value in (READING_MOST + 1, MISSING):
                 length, base, patches, calls = both(asked(year), 1_000, [Patch(at, 1, 1, value)], year)
-                assert whole(calls[0][1], spread_over(length, base, patches)) == (5, at // 96 + 1, at % 96)
+                assert whole(calls[0][1], series_of(length, base, patches)) == (5, at // 96 + 1, at % 96)
                 # the bad day again, then another in its place, then the rest
                 day = at // 96 + 1
                 other = 96 if day == 1 else 0
@@ -522,13 +500,7 @@ def any_windows(rng):
 
 
 def any_patch(rng, n, peak):
-    day, quarter = rng.randrange(n), rng.randrange(96)
-    first, count, step = rng.choice([
-        (96 * day, 96, 1),  # a whole day
-        (96 * day + quarter, rng.randint(1, n), 96),  # a quarter, for many days
-        (96 * day + quarter, rng.randint(1, 40), rng.randint(1, 5)),  # part of a day, every few quarters
-        (96 * day + quarter, rng.randint(1, 2000), rng.randint(1, 200)),
-    ])
+    first, count, step = any_places(rng, n)
     spread = rng.choice([0, 3, peak // 40, peak // 2])
     return Patch(first, count, step, rng.choice([peak, peak // 2, rng.randint(0, peak)]), min(spread, 65535), rng.randrange(65536))
 

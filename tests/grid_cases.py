@@ -8,17 +8,16 @@ It knows nothing of the code under test. The windows are worked out in two ways 
 `whole` gathers each season's days of a whole series and sorts, `Days` goes day by day with running maxima and throws quarters away.
 Where all days were taken, the two are held against each other.
 """
-import collections
 import datetime
 import fractions
 import random
 import struct
 
 from kept import keep
+from recipes import MOST, Patch, any_places, offered, series_of
 
 FILL = 170  # what the lent bytes hold before a call
 ROOM = 64
-MOST = 35_500  # readings that the program has room for
 LIMIT = 200_000_000
 MISSING = 4_294_967_295
 SEASON = {12: 1, 1: 1, 2: 1, 3: 2, 4: 2, 5: 2, 6: 3, 7: 3, 8: 3, 9: 4, 10: 4, 11: 4}
@@ -127,35 +126,6 @@ class Days:
 
 
 # Records
-
-Patch = collections.namedtuple("Patch", "first count step value spread seed", defaults=(0, 0))
-
-
-def series_of(length, base, patches):
-    readings = [base] * MOST
-    for patch in patches:
-        x = patch.seed
-        for k in range(patch.count):
-            at = patch.first + k * patch.step
-            if at < MOST:
-                readings[at] = max(patch.value - x % (patch.spread + 1), 0)
-            x = (75 * x + 74) % 65537
-    return readings[:length]
-
-
-def day_part(series, day):
-    """Empty for day 0 and for a day that the series does not wholly hold."""
-    part = series[96 * (day - 1):96 * day] if day else []
-    return part if len(part) == 96 else []
-
-
-def offered(days, series, first, count):
-    for k in range(count):
-        answer = days.day(day_part(series, first + k))
-        if answer != (0,):
-            return (k,) + answer
-    return (count, 0)
-
 
 WIDTHS = {"W": ">HBB", "O": ">HB", "D": ">HH", "P": ">HH", "C": ">B"}
 
@@ -457,13 +427,7 @@ def twice():
 
 
 def any_patch(rng, n, peak):
-    day, quarter = rng.randrange(n), rng.randrange(96)
-    first, count, step = rng.choice([
-        (96 * day, 96, 1),  # a whole day
-        (96 * day + quarter, rng.randint(1, n), 96),  # a quarter, for many days
-        (96 * day + quarter, rng.randint(1, 40), rng.randint(1, 5)),  # part of a day, every few quarters
-        (96 * day + quarter, rng.randint(1, 2000), rng.randint(1, 200)),
-    ])
+    first, count, step = any_places(rng, n)
     value = rng.choice([peak, 19 * peak // 20, 19 * peak // 20 + 1, rng.randint(0, peak)])
     spread = rng.choice([0, 3, peak // 40, peak // 15, peak // 2])
     return Patch(first, count, step, value, min(spread, 65535), rng.randrange(65536))
