@@ -26,10 +26,10 @@ use Rattle.fields.specs.File.{fileAnswer, part, driven}
 use Rattle.fields.proofs.Header.{field-none, field-more, fields-held, field-passed, head-cut, head-refused, head-fine}
 use Rattle.fields.proofs.Days.{day-next, dayIn, day-bad, day-fine, days-bad, days-short, days-left, days-done}
 
-module _ {S : Type 0} (wanted : S → ℕ) (fed : S → List ℕ → S) (said : S → Said) where
-  -- a machine that has ended, with its answer
+module _ {S X : Type 0} (wanted : S → ℕ) (fed : S → List ℕ → S) (said : S → X) (shown : Said → X) where
+  -- a machine that has ended, with its answer as it is shown
   pub record Stopped (s : S) (x : Said) : Type 0 where
-    pub says : said s ≡ x
+    pub says : said s ≡ shown x
     pub stays : (b : List ℕ) → fed s b ≡ s
 
   turn : (n : ℕ) (s : S) (bytes : List ℕ) → driven wanted fed (suc n) s bytes ≡ driven wanted fed n (fed s (take (wanted s) bytes)) (drop (wanted s) bytes)
@@ -56,15 +56,15 @@ module _ {S : Type 0} (wanted : S → ℕ) (fed : S → List ℕ → S) (said : 
           ∙ ap (λ (k : ℕ). driven wanted fed n (fed s (take k (drop at bytes))) (drop k (drop at bytes))) w
           ∙ ap (λ (r : List ℕ). driven wanted fed n (fed s (part bytes at size)) r) (drop-drop size at bytes)
 
-      ends : {x y : Said} → Stopped (fed s (part bytes at size)) x → x ≡ y → said (driven wanted fed (suc n) s (drop at bytes)) ≡ y
-      ends h e = ap said (handed ∙ driven-stays n _ (h .stays) _) ∙ h .says ∙ e
+      ends : {x y : Said} → Stopped (fed s (part bytes at size)) x → x ≡ y → said (driven wanted fed (suc n) s (drop at bytes)) ≡ shown y
+      ends h e = ap said (handed ∙ driven-stays n _ (h .stays) _) ∙ h .says ∙ ap shown e
 
       goes-on :
           {t : S} {next : ℕ} {x : Said}
           → fed s (part bytes at size) ≡ t
           → at + size ≡ next
-          → said (driven wanted fed n t (drop next bytes)) ≡ x
-          → said (driven wanted fed (suc n) s (drop at bytes)) ≡ x
+          → said (driven wanted fed n t (drop next bytes)) ≡ shown x
+          → said (driven wanted fed (suc n) s (drop at bytes)) ≡ shown x
       goes-on {t} {next} e f h =
           ap said
           (handed
@@ -88,10 +88,10 @@ module _ {S : Type 0} (wanted : S → ℕ) (fed : S → List ℕ → S) (said : 
           (fields : (k : ℕ) → k < l .count → Passed (stops l bytes) k → TakesField k)
           (n : ℕ)
           (x : Said)
-          (after : Passed (stops l bytes) (l .count) → said (driven wanted fed n (inHead (l .count)) (drop (headSize l) bytes)) ≡ x)
+          (after : Passed (stops l bytes) (l .count) → said (driven wanted fed n (inHead (l .count)) (drop (headSize l) bytes)) ≡ shown x)
         where
           abbrev from : ℕ → ℕ → Type 0
-          from t k = said (driven wanted fed t (inHead k) (drop (startOf l k) bytes)) ≡ orElse (headAnswer l bytes) x
+          from t k = said (driven wanted fed t (inHead k) (drop (startOf l k) bytes)) ≡ shown (orElse (headAnswer l bytes) x)
 
           stands : {r : ℕ} → (r ≡ 0 → ⊥) → only r ≡ headAnswer l bytes → only r ≡ orElse (headAnswer l bytes) x
           stands {r} z e = simp (← e, ne-eqb r 0 z)
@@ -157,7 +157,7 @@ module _ {S : Type 0} (wanted : S → ℕ) (fed : S → List ℕ → S) (said : 
           (n : ℕ)
         where
           abbrev over : ℕ → ℕ → Type 0
-          over t d = said (driven wanted fed t (inDays d) (drop (dayAt run h d) bytes)) ≡ daysAnswer run limit h done bytes
+          over t d = said (driven wanted fed t (inDays d) (drop (dayAt run h d) bytes)) ≡ shown (daysAnswer run limit h done bytes)
 
           through : (d : ℕ) → d ≡ runDays run → fileSize run h ≤ length bytes → Passed bad d → over (suc n) d
           through d e w c = rw (e, run-all run) (go (ℕ-discrete (length bytes) (fileSize run h)))
@@ -168,7 +168,7 @@ module _ {S : Type 0} (wanted : S → ℕ) (fed : S → List ℕ → S) (said : 
               t : TakesEnd done
               t = last w all
 
-              go : Dec (length bytes ≡ fileSize run h) → said (driven wanted fed (suc n) (inDays (runDays run)) (drop (fileSize run h) bytes)) ≡ daysAnswer run limit h done bytes
+              go : Dec (length bytes ≡ fileSize run h) → said (driven wanted fed (suc n) (inDays (runDays run)) (drop (fileSize run h) bytes)) ≡ shown (daysAnswer run limit h done bytes)
               go (yes z) = ends n (inDays (runDays run)) (fileSize run h) 1 (t .size) (t .closed z) (days-done run h bytes limit done (runDays run) all refl z)
               go (no z) =
                   ends n (inDays (runDays run)) (fileSize run h) 1 (t .size) (t .left (omega arith))
@@ -209,8 +209,8 @@ module _ {S : Type 0} (wanted : S → ℕ) (fed : S → List ℕ → S) (said : 
                   (ih (omega arith) (passed-more c b)))
 
 -- what a machine does that takes a file: `inHead k` is its state after k fields, and `inDays d` after d days
-pub record FileMachine {S : Type 0} (wanted : S → ℕ) (fed : S → List ℕ → S) (said : S → Said) (l : Layout) (run : Run) (limit : ℕ) (done : Said) (bytes : List ℕ) (inHead inDays : ℕ → S) : Type 0 where
-  pub fields : (k : ℕ) → k < l .count → Passed (stops l bytes) k → TakesField wanted fed said bytes l inHead k
+pub record FileMachine {S X : Type 0} (wanted : S → ℕ) (fed : S → List ℕ → S) (said : S → X) (shown : Said → X) (l : Layout) (run : Run) (limit : ℕ) (done : Said) (bytes : List ℕ) (inHead inDays : ℕ → S) : Type 0 where
+  pub fields : (k : ℕ) → k < l .count → Passed (stops l bytes) k → TakesField wanted fed said shown bytes l inHead k
   pub opened : Passed (stops l bytes) (l .count) → inHead (l .count) ≡ inDays 0
   pub days :
       Passed (stops l bytes) (l .count)
@@ -218,30 +218,30 @@ pub record FileMachine {S : Type 0} (wanted : S → ℕ) (fed : S → List ℕ �
       → d < runDays run
       → dayAt run (headSize l) d ≤ length bytes
       → Passed (badIn run limit (seriesIn bytes (headSize l))) d
-      → TakesDay wanted fed said bytes run limit (headSize l) inDays d
+      → TakesDay wanted fed said shown bytes run limit (headSize l) inDays d
   pub last :
       Passed (stops l bytes) (l .count)
       → fileSize run (headSize l) ≤ length bytes
       → Passed (badIn run limit (seriesIn bytes (headSize l))) (runDays run)
-      → TakesEnd wanted fed said bytes run limit (headSize l) inDays done
+      → TakesEnd wanted fed said shown bytes run limit (headSize l) inDays done
 
-module _ {S : Type 0} {wanted : S → ℕ} {fed : S → List ℕ → S} {said : S → Said} {l : Layout} {run : Run} {limit : ℕ} {done : Said} {bytes : List ℕ} {inHead inDays : ℕ → S} (m : FileMachine wanted fed said l run limit done bytes inHead inDays) where
-  by-turns : (n : ℕ) → said (driven wanted fed (l .count + (runDays run + suc n)) (inHead 0) bytes) ≡ fileAnswer l run limit done bytes
+module _ {S X : Type 0} {wanted : S → ℕ} {fed : S → List ℕ → S} {said : S → X} {shown : Said → X} {l : Layout} {run : Run} {limit : ℕ} {done : Said} {bytes : List ℕ} {inHead inDays : ℕ → S} (m : FileMachine wanted fed said shown l run limit done bytes inHead inDays) where
+  by-turns : (n : ℕ) → said (driven wanted fed (l .count + (runDays run + suc n)) (inHead 0) bytes) ≡ shown (fileAnswer l run limit done bytes)
   by-turns n =
       ap (λ (k : ℕ). said (driven wanted fed (l .count + (runDays run + suc n)) (inHead 0) (drop k bytes))) (sym (field-none l))
-      ∙ head-driven wanted fed said bytes l inHead (m .fields) (runDays run + suc n) _ after (l .count) 0 (omega arith) passed-none
+      ∙ head-driven wanted fed said shown bytes l inHead (m .fields) (runDays run + suc n) _ after (l .count) 0 (omega arith) passed-none
     where
-      after : Passed (stops l bytes) (l .count) → said (driven wanted fed (runDays run + suc n) (inHead (l .count)) (drop (headSize l) bytes)) ≡ daysAnswer run limit (headSize l) done bytes
+      after : Passed (stops l bytes) (l .count) → said (driven wanted fed (runDays run + suc n) (inHead (l .count)) (drop (headSize l) bytes)) ≡ shown (daysAnswer run limit (headSize l) done bytes)
       after c =
           let first : headSize l ≡ dayAt run (headSize l) 0 = omega (arith, start-none run) in
           ap (λ (s : S). said (driven wanted fed (runDays run + suc n) s (drop (headSize l) bytes))) (m .opened c)
           ∙ ap (λ (k : ℕ). said (driven wanted fed (runDays run + suc n) (inDays 0) (drop k bytes))) first
-          ∙ days-driven wanted fed said bytes run limit (headSize l) inDays done (m .days c) (m .last c) n (runDays run) 0 (omega arith)
+          ∙ days-driven wanted fed said shown bytes run limit (headSize l) inDays done (m .days c) (m .last c) n (runDays run) 0 (omega arith)
           (omega (arith, start-none run, fields-held l bytes (l .count) c))
           passed-none
 
   -- with enough turns, what the machine says is what the file's bytes are answered
-  pub file-driven : (turns : ℕ) → l .count + runDays run < turns → said (driven wanted fed turns (inHead 0) bytes) ≡ fileAnswer l run limit done bytes
+  pub file-driven : (turns : ℕ) → l .count + runDays run < turns → said (driven wanted fed turns (inHead 0) bytes) ≡ shown (fileAnswer l run limit done bytes)
   file-driven turns h =
       let e : l .count + (runDays run + suc (turns - (l .count + runDays run + 1))) ≡ turns = omega arith in
       ap (λ (t : ℕ). said (driven wanted fed t (inHead 0) bytes)) (sym e) ∙ by-turns (turns - (l .count + runDays run + 1))

@@ -38,15 +38,15 @@ pub record LooksBack (layout : List ℕ → Layout) (bytes : List ℕ) : Type 0 
   pub refusals : (k : ℕ) → k < layout bytes .count → (b : List ℕ) → Same (startOf (layout bytes) (k + 1)) b bytes → layout b .refusal k ≡ layout bytes .refusal k
 
 -- `inHead k buffer` is the state after k fields; what it does with the bytes of field k
-pub record FeedsField {S : Type 0} (wanted : S → ℕ) (fed : S → List ℕ → S) (said : S → Said) (layout : List ℕ → Layout) (inHead : ℕ → List ℕ → S) (k : ℕ) (buffer : List ℕ) : Type 0 where
+pub record FeedsField {S X : Type 0} (wanted : S → ℕ) (fed : S → List ℕ → S) (said : S → X) (shown : Said → X) (layout : List ℕ → Layout) (inHead : ℕ → List ℕ → S) (k : ℕ) (buffer : List ℕ) : Type 0 where
   pub size : wanted (inHead k buffer) ≡ layout buffer .width k
-  pub cut : (b : List ℕ) → length b < layout buffer .width k → Stopped wanted fed said (fed (inHead k buffer) b) (only 12)
+  pub cut : (b : List ℕ) → length b < layout buffer .width k → Stopped wanted fed said shown (fed (inHead k buffer) b) (only 12)
   pub refused :
       (b next : List ℕ)
       → length b ≡ layout buffer .width k
       → next ≡ paste buffer (startOf (layout buffer) k) b (layout buffer .width k)
       → (layout next .refusal k ≡ 0 → ⊥)
-      → Stopped wanted fed said (fed (inHead k buffer) b) (only (layout next .refusal k))
+      → Stopped wanted fed said shown (fed (inHead k buffer) b) (only (layout next .refusal k))
   pub taken :
       (b next : List ℕ)
       → length b ≡ layout buffer .width k
@@ -54,7 +54,7 @@ pub record FeedsField {S : Type 0} (wanted : S → ℕ) (fed : S → List ℕ �
       → layout next .refusal k ≡ 0
       → fed (inHead k buffer) b ≡ inHead (k + 1) next
 
-module _ {S : Type 0} (wanted : S → ℕ) (fed : S → List ℕ → S) (said : S → Said) (layout : List ℕ → Layout) (inHead : ℕ → List ℕ → S) (blank bytes : List ℕ) (r : LooksBack layout bytes) where
+module _ {S X : Type 0} (wanted : S → ℕ) (fed : S → List ℕ → S) (said : S → X) (shown : Said → X) (layout : List ℕ → Layout) (inHead : ℕ → List ℕ → S) (blank bytes : List ℕ) (r : LooksBack layout bytes) where
   abbrev l : Layout
   l = layout bytes
 
@@ -101,7 +101,7 @@ module _ {S : Type 0} (wanted : S → ℕ) (fed : S → List ℕ → S) (said : 
         let more = field-more l k in
         omega (arith, width-is, part-short bytes (startOf l k) (l .width k) (omega arith) (omega (arith, fields-held l bytes k h)))
 
-    pub feeds-field : (k < layout (held k) .count → FeedsField wanted fed said layout inHead k (held k)) → TakesField wanted fed said bytes l (λ j. inHead j (held j)) k
+    pub feeds-field : (k < layout (held k) .count → FeedsField wanted fed said shown layout inHead k (held k)) → TakesField wanted fed said shown bytes l (λ j. inHead j (held j)) k
     feeds-field feeds = record {
       size = f .size ∙ width-is;
       cut = λ o. f .cut b (short o);
@@ -109,7 +109,7 @@ module _ {S : Type 0} (wanted : S → ℕ) (fed : S → List ℕ → S) (said : 
       taken = λ o z. f .taken b (held (k + 1)) (long o) (next-is o) (number-is o ∙ z);
     }
       where
-        f : FeedsField wanted fed said layout inHead k (held k)
+        f : FeedsField wanted fed said shown layout inHead k (held k)
         f = feeds count-is
 
 -- a machine of days after the first d days of a file
@@ -117,17 +117,17 @@ abbrev pub heldAfter : {T : Type 0} → Run → (List ℕ → ℕ → T) → ℕ
 heldAfter run holding h bytes d = holding (take (dayStart run d) (seriesIn bytes h)) d
 
 -- `inside t` is the state whose machine of days stands at t; what it does with the bytes of day d there
-pub record FeedsDay {S T : Type 0} (wanted : S → ℕ) (fed : S → List ℕ → S) (said : S → Said) (run : Run) (answer : T → List ℕ → Said) (step : T → List ℕ → T) (inside : T → S) (t : T) (d : ℕ) : Type 0 where
+pub record FeedsDay {S T X : Type 0} (wanted : S → ℕ) (fed : S → List ℕ → S) (said : S → X) (shown : Said → X) (run : Run) (answer : T → List ℕ → Said) (step : T → List ℕ → T) (inside : T → S) (t : T) (d : ℕ) : Type 0 where
   pub size : wanted (inside t) ≡ daySize run d
-  pub cut : (b : List ℕ) → length b < daySize run d → Stopped wanted fed said (fed (inside t) b) (only 4)
+  pub cut : (b : List ℕ) → length b < daySize run d → Stopped wanted fed said shown (fed (inside t) b) (only 4)
   pub refused :
       (b : List ℕ)
       → length b ≡ daySize run d
       → eqb (answer t (readingsOf b) .number) 0 ≡ false
-      → Stopped wanted fed said (fed (inside t) b) (answer t (readingsOf b))
+      → Stopped wanted fed said shown (fed (inside t) b) (answer t (readingsOf b))
   pub taken : (b : List ℕ) → length b ≡ daySize run d → answer t (readingsOf b) ≡ only 0 → fed (inside t) b ≡ inside (step t (readingsOf b))
 
-module _ {S T : Type 0} (wanted : S → ℕ) (fed : S → List ℕ → S) (said : S → Said) {run : Run} {limit : ℕ} {answer : T → List ℕ → Said} {step : T → List ℕ → T} {holding : List ℕ → ℕ → T} (m : Machine run limit answer step holding) (inside : T → S) (h : ℕ) (bytes : List ℕ) where
+module _ {S T X : Type 0} (wanted : S → ℕ) (fed : S → List ℕ → S) (said : S → X) (shown : Said → X) {run : Run} {limit : ℕ} {answer : T → List ℕ → Said} {step : T → List ℕ → T} {holding : List ℕ → ℕ → T} (m : Machine run limit answer step holding) (inside : T → S) (h : ℕ) (bytes : List ℕ) where
   abbrev after : ℕ → T
   after d = heldAfter run holding h bytes d
 
@@ -135,8 +135,8 @@ module _ {S T : Type 0} (wanted : S → ℕ) (fed : S → List ℕ → S) (said 
       (d : ℕ)
       → dayAt run h d ≤ length bytes
       → Passed (badIn run limit (seriesIn bytes h)) d
-      → FeedsDay wanted fed said run answer step inside (after d) d
-      → TakesDay wanted fed said bytes run limit h (λ k. inside (after k)) d
+      → FeedsDay wanted fed said shown run answer step inside (after d) d
+      → TakesDay wanted fed said shown bytes run limit h (λ k. inside (after k)) d
   feeds-takes d w c f = record {
     size = f .size;
     cut = λ o. f .cut b (part-short bytes (dayAt run h d) (daySize run d) (omega (arith, day-next run h d)) (omega (arith, day-next run h d)));

@@ -4,15 +4,38 @@ use mathlib.Core.Bool.{Bool, cond, not, _||_}
 use mathlib.Core.List.{List}
 use Prim.Native.Nat.{ℕ, _+_}
 use lib.Dec.{ltb, eqb}
-use lib.ListN.{length}
+use lib.ListN.{length, getD}
 use Rattle.over.specs.Over.{sumOver, firstOver}
 use Rattle.answers.specs.Said.{Said, only}
+
+-- a field: the bytes that it takes, and the number that refuses it where it starts at a place, 0 where none does
+pub record Field : Type 0 where
+  pub width : ℕ
+  pub refusal : ℕ → ℕ
 
 -- how many fields; the bytes that each takes; the number that refuses it, 0 where none does
 pub record Layout : Type 0 where
   pub count : ℕ
   pub width : ℕ → ℕ
   pub refusal : ℕ → ℕ
+
+-- the layout that lists these fields, one after the other
+abbrev pub noField : Field
+noField = record { width = 0; refusal = λ i. 0 }
+
+abbrev pub fieldAt : List Field → ℕ → Field
+fieldAt fs k = getD fs k noField
+
+abbrev pub widthAt : List Field → ℕ → ℕ
+widthAt fs k = fieldAt fs k .width
+
+unfoldable pub layoutOf : List Field → Layout
+layoutOf fs =
+    record {
+      count = length fs;
+      width = widthAt fs;
+      refusal = λ k. fieldAt fs k .refusal (sumOver (widthAt fs) k);
+    }
 
 -- a field starts where the ones before it end
 unfoldable pub startOf : Layout → ℕ → ℕ

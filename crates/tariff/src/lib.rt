@@ -11,9 +11,9 @@ ghost use Rattle.tariff.specs.Decision.{noWindow, moved, shareShort, eli
 use answers::Place;
 
 // Document 01, Numbers: the highest capacity price, cent per kW and year, and energy price, thousandth of a cent per kWh.
-const CAPACITY_MOST: u32 = 100_000;
+pub const CAPACITY_MOST: u32 = 100_000;
 
-const ENERGY_MOST: u32 = 50_000;
+pub const ENERGY_MOST: u32 = 50_000;
 
 // The share that each level code, from 1, asks for, in percent: a constant table, as document 01 names it.
 const SHARES: [u8; 7] = [5, 10, 10, 20, 20, 30, 30];

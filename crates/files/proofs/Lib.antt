@@ -1,0 +1,4 @@
+pub mod Fields
+pub mod GridLayout
+pub mod GridCases
+pub mod GridClosed

@@ -1,0 +1,4 @@
+pub mod Head
+pub mod Grid
+pub mod Machine
+pub mod GridMachine
