@@ -4,125 +4,47 @@
 Run at the project's root:  tests/grid_cases.py          writes crates/grid_cases/stdin and stdout, and says how many records of each kind
                             tests/grid_cases.py --check  says whether the two files are what it would write
 
-It knows nothing of the code under test. The windows are worked out in two ways that share the calendar and the sheet's bytes alone:
-`whole` gathers each season's days of a whole series and sorts, `Days` goes day by day with running maxima and throws quarters away.
-Where all days were taken, the two are held against each other.
+It knows nothing of the code under test. tests/grid.py works the windows out in two ways, from a whole series and along the days; where all
+days were taken, the two are held against each other.
 """
-import datetime
-import fractions
 import random
 import struct
 
+import grid
+from grid import GRID_MOST as LIMIT, Days, kept_of, period, place
 from kept import keep
 from recipes import MOST, Patch, any_places, offered, series_of
+from year import YEARS, sheet_bytes
 
 FILL = 170  # what the lent bytes hold before a call
 ROOM = 64
-LIMIT = 200_000_000
 MISSING = 4_294_967_295
-SEASON = {12: 1, 1: 1, 2: 1, 3: 2, 4: 2, 5: 2, 6: 3, 7: 3, 8: 3, 9: 4, 10: 4, 11: 4}
-YEARS = range(2014, 2029)
 
 
-# The paper
-
-def period(year):
-    """The dates of the grid series of a charge year."""
-    first, last = datetime.date(year - 2, 9, 1), datetime.date(year - 1, 8, 31)
-    return [first + datetime.timedelta(days=k) for k in range((last - first).days + 1)]
-
-
-def sheet_bytes(year, level, windows):
-    """windows: season 1 to 4 to the quarters that it keeps."""
-    text = "".join("1" if q in windows[s] else "0" for s in (1, 2, 3, 4) for q in range(96))
-    return b"HLZ" + struct.pack(">HHB", 1, year, level) + int(text, 2).to_bytes(48, "big")
-
+# The lent buffer
 
 def lent(sheet=b""):
     """The 64 bytes after a call: those of the sheet, and then what they held."""
     return (sheet + bytes([FILL] * ROOM)[len(sheet):]).hex()
 
 
-def kept_of(curve, peak):
-    above = [q for q in range(96) if 20 * curve[q] > 19 * peak]
-    return sorted(above, key=lambda q: (-curve[q], q))[:40]
+def filled(year, level, answer):
+    """The number with its figures, and the 64 bytes: the sheet's for 0."""
+    said, windows = answer
+    return said, lent(sheet_bytes(year, level, windows) if windows is not None else b"")
 
 
 def whole(year, level, series, room):
-    """The number with its figures, and the 64 bytes: 14, 1, 2, 4, 5, 7 in this order."""
+    """14 comes before all else."""
+    return ((14,), lent()) if room < 56 else filled(year, level, grid.whole(year, level, series))
+
+
+def closed(days, room):
+    """Before an accepted opening there is no year and no level, and nothing to fill."""
     if room < 56:
         return (14,), lent()
-    if not 2014 <= year <= 2028:
-        return (1,), lent()
-    if not 1 <= level <= 7:
-        return (2,), lent()
-    dates = period(year)
-    if len(series) != 96 * len(dates):
-        return (4,), lent()
-    bad = next((i for i, reading in enumerate(series) if reading > LIMIT), None)
-    if bad is not None:
-        return (5, bad // 96 + 1, bad % 96), lent()
-    peak = max(series)
-    if peak == 0:
-        return (7,), lent()
-    windows = {}
-    for season in (1, 2, 3, 4):
-        rows = [series[96 * k:96 * k + 96] for k, date in enumerate(dates) if SEASON[date.month] == season]
-        windows[season] = kept_of([max(column) for column in zip(*rows)], peak)
-    return (0,), lent(sheet_bytes(year, level, windows))
-
-
-class Days:
-    """A series that is given day by day. Before an accepted opening it is the state of a refused one."""
-
-    def __init__(self):
-        self.left = None
-
-    def open(self, year, level):
-        self.left = None
-        if not 2014 <= year <= 2028:
-            return (1,)
-        if not 1 <= level <= 7:
-            return (2,)
-        self.year, self.level, self.left, self.given = year, level, period(year), []
-        self.high = {season: [0] * 96 for season in (1, 2, 3, 4)}
-        return (0,)
-
-    def day(self, day):
-        if not self.left:
-            return (13,)
-        if len(day) != 96:
-            return (4,)
-        bad = [q for q, reading in enumerate(day) if reading > LIMIT]
-        if bad:
-            return (5, len(self.given) // 96 + 1, bad[0])
-        curve = self.high[SEASON[self.left.pop(0).month]]
-        curve[:] = map(max, curve, day)
-        self.given += day
-        return (0,)
-
-    def keep(self, season, peak):
-        """Quarters above the line; while there are more than forty, the lowest goes, and of the lowest the latest."""
-        curve = self.high[season]
-        quarters = [q for q in range(96) if fractions.Fraction(curve[q], peak) > fractions.Fraction(19, 20)]
-        while len(quarters) > 40:
-            lowest = min(curve[q] for q in quarters)
-            quarters.remove(max(q for q in quarters if curve[q] == lowest))
-        return quarters
-
-    def close(self, room):
-        if room < 56:
-            return (14,), lent()
-        if self.left is None or self.left:
-            return (13,), lent()
-        peak = max(max(curve) for curve in self.high.values())
-        if peak == 0:
-            answer = (7,), lent()
-        else:
-            answer = (0,), lent(sheet_bytes(self.year, self.level, {s: self.keep(s, peak) for s in (1, 2, 3, 4)}))
-        # "Closing after all days answers as the whole series does"
-        assert answer == whole(self.year, self.level, self.given, room)
-        return answer
+    said, windows = days.close()
+    return filled(days.year, days.level, (said, windows)) if said == (0,) else (said, lent())
 
 
 # Records
@@ -150,7 +72,7 @@ def record(length, base, patches, calls):
         elif kind == "P":
             said = days.day(series[words[0]:words[0] + words[1]])
         else:
-            answer, after = days.close(*words)
+            answer, after = closed(days, *words)
             said = answer + (after,)
         lines.append(" ".join([kind, *map(str, said)]))
     return data, lines
@@ -166,12 +88,6 @@ def both(year, level, base, patches, length=None, room=60):
     days = count_of(year)
     calls = [("W", year, level, room), ("O", year, level), ("D", 1, days), ("C", room)]
     return (96 * days if length is None else length), base, patches, calls
-
-
-def place(year, month, day, quarter):
-    """Of a date's quarter in the series of a charge year; September and later are in the first of its two years."""
-    date = datetime.date(year - (2 if month >= 9 else 1), month, day)
-    return 96 * (date - period(year)[0]).days + quarter
 
 
 def one(year, month, day, quarter, value):
