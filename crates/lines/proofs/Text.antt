@@ -147,6 +147,17 @@ pub short : (t d : List ℕ) → length d < length t → (0 ≡ lengthIn t d) ×
 unfolding lengthIn putIn
 short t d l = rw (lt-leb (length t) (length d) l) (refl, refl)
 
+-- what a call answers ends within the buffer that it wrote, so that the text can be taken out of it
+pub within : (t d : List ℕ) {e : List ℕ} {r : ℕ} → (r ≡ lengthIn t d) × (e ≡ putIn t d) → r ≤ length e
+unfolding lengthIn putIn
+within t d {e} {r} h = go (decLt (length d) (length t)) (h .0) (h .1)
+  where
+    go : Dec (length d < length t) → r ≡ lengthIn t d → e ≡ putIn t d → r ≤ length e
+    go (yes l) x y = omega (arith, rw (lt-leb (length t) (length d) l) at x)
+    go (no l) x y =
+        let fit = le-leb (length t) (length d) (omega arith) in
+        omega (arith, rw fit at x, ap length (rw fit at y) ∙ length-append t (drop (length t) d))
+
 -- what was written at a buffer's start is its first part
 pub taken : {t d e : List ℕ} {r : ℕ} → Wrote d 0 t e r → take r e ≡ t
 taken {t} {d} {e} {r} h =
