@@ -2,7 +2,9 @@
 // them, fewer where the file has ended, and `text` is what the program prints. Each field and each day is tested as soon as it is fed.
 // Main theorem: driven over any bytes, a machine prints what the file's bytes are answered (room `printed`).
 pub mod grid_file;
+pub mod customer_file;
 mod head;
+mod customer_head;
 
 use answers::Place;
 

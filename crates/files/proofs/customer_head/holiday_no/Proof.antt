@@ -1,0 +1,33 @@
+-- `files::customer_head::holiday_no` meets its contract, the test of an entry of the list.
+-- Assumes nothing.
+use mathlib.Core.Path.{ap, _∙_}
+use mathlib.Core.Bool.{_||_}
+use native.Mathlib.Omega.{arith}
+use borrow.Author.Needs.{needs}
+use lib.Dec.{leb, ltb}
+use Rattle.over.specs.Over.{counted}
+use Rattle.dates.specs.Dates.{yearDays}
+use Rattle.files.proofs.CustomerLayout.{holiday-is}
+use Rattle.files.proofs.customer_head.holiday_no.Statement.{statement}
+use Rattle.files.proofs.customer_head.holiday_no.Tie as tie
+
+returns : tie.Need-returns
+returns c =
+    let a = c .before .before .before .before .before .before .args in
+    let day = c .before .before .before .before .two-at .ensures ∙ holiday-is (a .head .now) (a .j) (omega arith) in
+    let last = c .before .before .before .holiday-before .ensures in
+    let days = c .before .year-days .ensures ∙ ap yearDays (c .before .before .two-at2 .ensures) in
+    c .when .ensures ∙ (λ i. counted (leb (day i) (last i) || ltb (days i) (day i)) 3)
+
+pub holiday-no-spec : {M : Type 1} → statement M
+holiday-no-spec =
+    tie.close
+    (tie.spec
+    (λ c. search needs)  -- mul-two-at
+    (λ c. search needs)  -- add-two-at
+    (λ c κs. search needs)  -- two-at-requires
+    (λ c κs. search needs)  -- holiday-before-requires
+    (λ c κs. search needs)  -- two-at-requires-2
+    (λ c κs. search needs)  -- year-days-requires
+    (λ c κs. search needs)  -- when-requires
+    returns)
