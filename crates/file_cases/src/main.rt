@@ -1,0 +1,106 @@
+// Reads each file that the arguments name as the two programs read their input, and prints its name in a line and then its text. A file whose
+// name begins with g goes to the window program's machine, any other one to the statement program's; nothing here is decided or proved of them.
+// tests/file_cases.py makes the files, and what must come of them from document 01.
+use files::customer_file::CustomerFile;
+use files::grid_file::GridFile;
+use libc::STDOUT_FILENO;
+
+// Bytes that a field or a day has at most.
+const PART_MOST: usize = 400;
+
+// Enough for every text.
+const TEXT_MOST: usize = 5425;
+
+// Parts that any file has at most: 16 fields, 40 holidays, 366 days, and what is left over after them.
+const PARTS: u32 = 423;
+
+// Hands the machine what came: fewer bytes than the part has where the file ends.
+fn feed_grid(fd: i32, file: GridFile, part: &mut [u8]) -> GridFile {
+    let n = io::read_full(fd, part);
+    file.feed(&part[0..n])
+}
+
+fn next_grid(fd: i32, file: GridFile) -> GridFile {
+    let mut part = [0u8; PART_MOST];
+    let want = file.want();
+    feed_grid(fd, file, &mut part[..want])
+}
+
+fn run_grid(fd: i32) -> GridFile {
+    let mut file = GridFile::start();
+    let mut left = PARTS;
+    while left > 0 {
+        if file.want() == 0 {
+            return file;
+        }
+        file = next_grid(fd, file);
+        left -= 1;
+    }
+    file
+}
+
+fn print_windows(fd: i32) {
+    let mut text = [0u8; TEXT_MOST];
+    let n = run_grid(fd).text(&mut text);
+    io::write_all(STDOUT_FILENO, &text[0..n]);
+}
+
+fn feed_customer(fd: i32, file: CustomerFile, part: &mut [u8]) -> CustomerFile {
+    let n = io::read_full(fd, part);
+    file.feed(&part[0..n])
+}
+
+fn next_customer(fd: i32, file: CustomerFile) -> CustomerFile {
+    let mut part = [0u8; PART_MOST];
+    let want = file.want();
+    feed_customer(fd, file, &mut part[..want])
+}
+
+fn run_customer(fd: i32) -> CustomerFile {
+    let mut file = CustomerFile::start();
+    let mut left = PARTS;
+    while left > 0 {
+        if file.want() == 0 {
+            return file;
+        }
+        file = next_customer(fd, file);
+        left -= 1;
+    }
+    file
+}
+
+fn print_statement(fd: i32) {
+    let mut text = [0u8; TEXT_MOST];
+    let n = run_customer(fd).text(&mut text);
+    io::write_all(STDOUT_FILENO, &text[0..n]);
+}
+
+fn print_file(kind: u8, fd: i32) {
+    if kind == b'g' {
+        print_windows(fd);
+    } else {
+        print_statement(fd);
+    }
+}
+
+// Argument i: a file that cannot be opened is told on standard error, and its lines are missing.
+fn one(i: usize) {
+    let mut name = io::buffer();
+    let n = os::arg(i, &mut name);
+    let fd = os::open_read(&name[..n]);
+    if fd < 0 {
+        os::fail(&name[..n]);
+        return;
+    }
+    io::write_all(STDOUT_FILENO, &name[..n]);
+    io::write_all(STDOUT_FILENO, b"\n");
+    print_file(name[0], fd);
+    libc::close(fd);
+}
+
+fn main() {
+    let count = os::arg_count();
+    for i in 1..count {
+        one(i);
+    }
+}
