@@ -13,7 +13,7 @@ use Rattle.answers.specs.Ruling.{customerMost}
 use Rattle.answers.specs.Said.{Said, only, badPlace}
 use Rattle.dates.specs.Dates.{yearDays}
 use Rattle.readings.specs.declared.Run.{Run}
-use Rattle.readings.specs.Runs.{dayLen, reading}
+use Rattle.readings.specs.Runs.{runDays, dayLen, reading}
 use Rattle.readings.specs.Days.{seriesAnswer, nextAnswer, offered, takenReadings, BadThere}
 use Rattle.readings.proofs.Runs.{len-most, year-run}
 use Rattle.readings.proofs.Days.{Read, reading-le, same-before, same-day, series-bad}
@@ -53,7 +53,7 @@ module _ (t : Terms) where
   abbrev pub holding : List ℕ → ℕ → Customer
   holding xs n = record { terms = t; seen = n; figures = figuresUnder t xs n }
 
-  opens-holding : opened t ≡ holding [] 0
+  pub opens-holding : opened t ≡ holding [] 0
   opens-holding = λ i. record { terms = t; seen = 0; figures = figures-none run (counts t) [] i }
 
   -- one day more
@@ -75,6 +75,11 @@ module _ (t : Terms) where
         keeps = λ xs n day z. sym (day-refused (holding xs n) day _ z refl .1);
         takes = λ xs n r day l e. sym (day-taken (holding xs n) day (sym e) refl .1) ∙ (λ i. record { terms = t; seen = n + 1; figures = taken-next xs n r day i });
       }
+
+  -- the state that holds all days of a legal series closes as the whole series
+  pub closes-holding : (xs : List ℕ) → only 0 ≡ seriesAnswer run customerMost xs → closeAnswer (holding xs (runDays run)) ≡ wholeAnswer t xs
+  closes-holding xs e =
+      ap (λ (n : ℕ). closeAnswer (holding xs n)) (year-run (t .year)) ∙ sym (close-judged (holding xs (yearDays (t .year))) refl refl) ∙ whole-judged t xs e
 
   -- the decision over figures never answers 5
   judge-five : {f : Figures} {n : ℕ} → JudgeRow f (t .level) (t .prices) (t .option) n → n ≡ 5 → ⊥
@@ -108,8 +113,7 @@ module _ (t : Terms) where
       all-in = all-taken machine (λ c. c .seen) (λ xs n. refl) (opened t) opens-holding days (full ∙ sym (year-run (t .year)))
 
       pub closes-whole : closeAnswer state ≡ wholeAnswer t series
-      closes-whole =
-          ap closeAnswer (all-in .whole ∙ ap (holding series) (year-run (t .year))) ∙ sym (close-judged (holding series (yearDays (t .year))) refl refl) ∙ whole-judged t series (all-in .legal)
+      closes-whole = ap closeAnswer (all-in .whole) ∙ closes-holding series (all-in .legal)
 
 -- an accepted opening
 module _ (b hs : List ℕ) (p : Prices) (option : Bool) (o : openAnswer b hs p ≡ only 0) where

@@ -145,23 +145,27 @@ module _ (s : CustomerFile) where
         end-fed b = rw (g, le-ltb (s .field) (customerLayout (s .head) .count) l, le-ltb (s .customer .seen) (yearDays (s .customer .terms .year)) m)
 
 -- what a day is answered: 13, 4, 5 with its place, or 0, which carries nothing
-abbrev answered : Bool → Bool → Bool → Bool → Place → Said
-answered over out wrong bad place = cond over (only 13) (cond out (only 13) (cond wrong (only 4) (cond bad (badPlace place) (only 0))))
+module _ (P : Said → Type 0) (thirteen : P (only 13)) (four : P (only 4)) (five : (place : Place) → P (badPlace place)) (taken : P (only 0)) where
+  by-tests :
+      (over out wrong bad : Bool) (place : Place)
+      → P (cond over (only 13) (cond out (only 13) (cond wrong (only 4) (cond bad (badPlace place) (only 0)))))
+  by-tests true out wrong bad place = thirteen
+  by-tests false true wrong bad place = thirteen
+  by-tests false false true bad place = four
+  by-tests false false false true place = five place
+  by-tests false false false false place = taken
 
-zero-alone : (over out wrong bad : Bool) (place : Place) → answered over out wrong bad place .number ≡ 0 → only 0 ≡ answered over out wrong bad place
-zero-alone true out wrong bad place e = absurd (omega arith)
-zero-alone false true wrong bad place e = absurd (omega arith)
-zero-alone false false true bad place e = absurd (omega arith)
-zero-alone false false false true place e = absurd (omega arith)
-zero-alone false false false false place e = refl
+  pub day-cases : (c : Customer) (day : List ℕ) → P (dayAnswer c day)
+  unfolding dayAnswer nextAnswer
+  day-cases c day =
+      let run = yearRun (c .terms .year) in
+      let first = firstAbove customerMost day in
+      by-tests (overfull c) (leb (runDays run) (c .seen)) (not (eqb (length day) (dayLen run (c .seen)))) (ltb first (length day))
+      (record { day = c .seen + 1; position = first })
 
 pub day-zero : (c : Customer) (day : List ℕ) → dayAnswer c day .number ≡ 0 → only 0 ≡ dayAnswer c day
-unfolding dayAnswer nextAnswer
-day-zero c day =
-    let run = yearRun (c .terms .year) in
-    let first = firstAbove customerMost day in
-    zero-alone (overfull c) (leb (runDays run) (c .seen)) (not (eqb (length day) (dayLen run (c .seen)))) (ltb first (length day))
-    (record { day = c .seen + 1; position = first })
+day-zero =
+    day-cases (λ x. x .number ≡ 0 → only 0 ≡ x) (λ e. absurd (omega arith)) (λ e. absurd (omega arith)) (λ place e. absurd (omega arith)) (λ e. refl)
 
 -- the places of the enum's cases, without that of `BadReading`, which is 7
 abbrev pub others : List ℕ

@@ -2,13 +2,12 @@
 -- is and where it starts, and the number that refuses it.
 -- Assumes nothing.
 use mathlib.Core.Path.{_≡_, refl, sym, ap, _∙_}
-use mathlib.Core.Bool.{Bool, true}
 use mathlib.Core.List.{List, [], _∷_, _++_}
 use Prim.Native.Nat.{ℕ, zero, suc, _+_, _-_, _*_, _≤_, _<_}
 use native.Mathlib.Omega.{arith}
 use borrow.Author.Tests.{eqb-true, leb-true}
 use lib.Dec.{leb, eqb}
-use lib.ListN.{length, getD, length-append, List·getD-append, List·getD-map}
+use lib.ListN.{getD, length-append, List·getD-append, List·getD-map}
 use lib.Seq.{getD-append-add}
 use Rattle.over.specs.Over.{joined, sumOver, allOver, counted, table}
 use Rattle.over.proofs.Sums.{sum-none, sum-suc, sum-add, sum-cong}

@@ -3,7 +3,7 @@
 use mathlib.Core.Path.{_≡_, refl, sym, ap, _∙_}
 use mathlib.Core.Bool.{Bool, true, false, not, _||_}
 use mathlib.Core.List.{List}
-use Prim.Native.Nat.{ℕ, _+_, _*_, _/_, _≤_, _<_}
+use Prim.Native.Nat.{ℕ, suc, _+_, _*_, _/_, _≤_, _<_}
 use native.Mathlib.Nat.{add-zero}
 use native.Mathlib.Numerals.{add-one}
 use native.Mathlib.Omega.{arith}
@@ -15,6 +15,7 @@ use Rattle.over.proofs.Tables.{Filled, is-table}
 use Rattle.over.proofs.Tests.{any-cong}
 use Rattle.answers.specs.Ruling.{yearOut, levelOut}
 use Rattle.sheet.specs.Bytes.{sheetVersion, twoAt}
+use Rattle.fields.specs.Layout.{Field}
 use Rattle.fields.specs.Series.{readingBytes, fourAt, readingsOf}
 use Rattle.fields.proofs.Bytes.{number-same}
 use Rattle.files.specs.Head.{markSize, unlike, markField, versionField, yearField, levelField}
@@ -70,30 +71,39 @@ pub unlike-by :
 unfolding unlike anyOver joined
 unlike-by mark b i = rw (ap (λ (k : ℕ). getD b k 0) (add-zero i)) refl
 
--- each kind of field looks at its own bytes only
-module _ (a b : List ℕ) (i : ℕ) where
-  pub two-same : ((k : ℕ) → k < i + 2 → getD a k 0 ≡ getD b k 0) → twoAt a i ≡ twoAt b i
+-- a field of w bytes that looks at no other byte
+abbrev pub Own : (List ℕ → Field) → ℕ → Type 0
+Own f w = (b c : List ℕ) (i : ℕ) → ((j : ℕ) → j < w → getD b (i + j) 0 ≡ getD c (i + j) 0) → f b .refusal i ≡ f c .refusal i
+
+module _ (b c : List ℕ) (i : ℕ) where
+  pub one-same : ((j : ℕ) → j < 1 → getD b (i + j) 0 ≡ getD c (i + j) 0) → getD b i 0 ≡ getD c i 0
+  one-same h = rw (add-zero i) at (h 0 (omega arith))
+
+  pub two-same : ((j : ℕ) → j < 2 → getD b (i + j) 0 ≡ getD c (i + j) 0) → twoAt b i ≡ twoAt c i
   unfolding twoAt
-  two-same h = number-same a b i i 2 (λ k l. h (i + k) (omega arith))
+  two-same h = number-same b c i i 2 h
 
-  pub mark-same : (mark : List ℕ) → ((k : ℕ) → k < i + 3 → getD a k 0 ≡ getD b k 0) → markField mark a .refusal i ≡ markField mark b .refusal i
-  unfolding markField unlike
-  mark-same mark h =
-      ap (λ (t : Bool). counted t 12) (any-cong _ _ markSize (λ k l. ap (λ (x : ℕ). not (eqb x (getD mark k 0))) (h (i + k) (omega arith))))
+  pub four-same : ((j : ℕ) → j < 4 → getD b (i + j) 0 ≡ getD c (i + j) 0) → fourAt b i ≡ fourAt c i
+  unfolding fourAt
+  four-same h = number-same b c i i 4 h
 
-  pub version-same : ((k : ℕ) → k < i + 2 → getD a k 0 ≡ getD b k 0) → versionField a .refusal i ≡ versionField b .refusal i
-  unfolding versionField
-  version-same h = ap (λ (x : ℕ). counted (not (eqb x sheetVersion)) 12) (two-same h)
+pub mark-own : (m : List ℕ) → Own (markField m) markSize
+unfolding markField unlike
+mark-own m b c i h = ap (λ (t : Bool). counted t 12) (any-cong _ _ markSize (λ k l. ap (λ (x : ℕ). not (eqb x (getD m k 0))) (h k l)))
 
-  pub year-same : ((k : ℕ) → k < i + 2 → getD a k 0 ≡ getD b k 0) → yearField a .refusal i ≡ yearField b .refusal i
-  unfolding yearField
-  year-same h = ap (λ (x : ℕ). counted (yearOut x) 1) (two-same h)
+pub version-own : Own versionField 2
+unfolding versionField
+version-own b c i h = ap (λ (x : ℕ). counted (not (eqb x sheetVersion)) 12) (two-same b c i h)
 
-  pub level-same : ((k : ℕ) → k < i + 1 → getD a k 0 ≡ getD b k 0) → levelField a .refusal i ≡ levelField b .refusal i
-  unfolding levelField
-  level-same h = ap (λ (x : ℕ). counted (levelOut x) 2) (h i (omega arith))
+pub year-own : Own yearField 2
+unfolding yearField
+year-own b c i h = ap (λ (x : ℕ). counted (yearOut x) 1) (two-same b c i h)
+
+pub level-own : Own levelField 1
+unfolding levelField
+level-own b c i h = ap (λ (x : ℕ). counted (levelOut x) 2) (one-same b c i h)
 
 -- a field that is not refused has passed its test
-pub uncounted : (t : Bool) {n : ℕ} → counted t n ≡ 0 → (n ≡ 0 → ⊥) → t ≡ false
-uncounted true e z = absurd (z e)
-uncounted false e z = refl
+pub unrefused : (t : Bool) (n : ℕ) → counted t (suc n) ≡ 0 → t ≡ false
+unrefused true n e = absurd (omega arith)
+unrefused false n e = refl

@@ -43,7 +43,7 @@ use Rattle.files.specs.Head.{yearField, levelField}
 use Rattle.files.specs.Grid.{gridMark, gridLayout, gridYear, gridLevel, blankSheet, withSheet, wholeGrid, gridAnswer, windowLines, windowsPrinted}
 use Rattle.files.specs.Machine.{stageOf}
 use Rattle.files.specs.GridMachine.{gridHead, gridStart, gridEnded, gridWants, gridFed, closedGrid, gridText}
-use Rattle.files.proofs.Fields.{two-same, mark-same, version-same, year-same, level-same, uncounted}
+use Rattle.files.proofs.Fields.{two-same, mark-own, version-own, year-own, level-own, unrefused}
 use Rattle.files.proofs.GridLayout.{grid-count, grid-width, grid-start, grid-size, refuses-mark, refuses-version, refuses-year, refuses-level}
 use Rattle.files.proofs.GridCases.{wants-field, wants-day, wants-end, fed-none, fed-field, fed-day, fed-end, field-cut, field-refused, field-taken, day-cut, day-refused, day-taken, end-left, end-none}
 
@@ -58,13 +58,13 @@ looks-back bytes =
   where
     numbers : (b : List ℕ) (k : ℕ) → k < 4 → Same (startOf (gridLayout bytes) (k + 1)) b bytes → gridLayout b .refusal k ≡ gridLayout bytes .refusal k
     numbers b zero h e =
-        sym (refuses-mark b) ∙ mark-same b bytes 0 gridMark (λ i l. e i (omega (arith, grid-start bytes 1 (omega arith)))) ∙ refuses-mark bytes
+        sym (refuses-mark b) ∙ mark-own gridMark b bytes 0 (λ i l. e (0 + i) (omega (arith, grid-start bytes 1 (omega arith)))) ∙ refuses-mark bytes
     numbers b (suc zero) h e =
-        sym (refuses-version b) ∙ version-same b bytes 3 (λ i l. e i (omega (arith, grid-start bytes 2 (omega arith)))) ∙ refuses-version bytes
+        sym (refuses-version b) ∙ version-own b bytes 3 (λ i l. e (3 + i) (omega (arith, grid-start bytes 2 (omega arith)))) ∙ refuses-version bytes
     numbers b (suc (suc zero)) h e =
-        sym (refuses-year b) ∙ year-same b bytes 5 (λ i l. e i (omega (arith, grid-start bytes 3 (omega arith)))) ∙ refuses-year bytes
+        sym (refuses-year b) ∙ year-own b bytes 5 (λ i l. e (5 + i) (omega (arith, grid-start bytes 3 (omega arith)))) ∙ refuses-year bytes
     numbers b (suc (suc (suc zero))) h e =
-        sym (refuses-level b) ∙ level-same b bytes 7 (λ i l. e i (omega (arith, grid-size bytes))) ∙ refuses-level bytes
+        sym (refuses-level b) ∙ level-own b bytes 7 (λ i l. e (7 + i) (omega (arith, grid-size bytes))) ∙ refuses-level bytes
     numbers b (suc (suc (suc (suc k)))) h e = absurd (omega arith)
 
 -- a machine that has ended with a number, and its line
@@ -128,11 +128,11 @@ module _ (bytes : List ℕ) where
 
     year-legal : yearOut y ≡ false
     unfolding yearField
-    year-legal = uncounted (yearOut y) (refuses-year bytes ∙ passed 2 (omega arith)) (omega arith)
+    year-legal = unrefused (yearOut y) 0 (refuses-year bytes ∙ passed 2 (omega arith))
 
     level-legal : levelOut level ≡ false
     unfolding levelField
-    level-legal = uncounted (levelOut level) (refuses-level bytes ∙ passed 3 (omega arith)) (omega arith)
+    level-legal = unrefused (levelOut level) 1 (refuses-level bytes ∙ passed 3 (omega arith))
 
     opens : openAnswer y level ≡ only 0
     opens = sym (open-done y level year-legal level-legal .0)
@@ -143,7 +143,7 @@ module _ (bytes : List ℕ) where
     opened : gridHead 4 (held 4) ≡ inside (heldAfter run (holding y level) (headSize l) bytes 0)
     opened =
         ap inside
-        (ap (λ (k : ℕ). openGrid k (gridLevel (held 4))) (two-same (held 4) bytes 5 (λ i m. same-head i (omega arith)))
+        (ap (λ (k : ℕ). openGrid k (gridLevel (held 4))) (two-same (held 4) bytes 5 (λ i m. same-head (5 + i) (omega arith)))
         ∙ ap (openGrid y) (same-head 7 (omega arith))
         ∙ opens-empty y level opens
         ∙ ap (λ (n : ℕ). holding y level (take n xs) 0) (sym (start-none run)))

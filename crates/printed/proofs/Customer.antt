@@ -1,0 +1,224 @@
+-- What the statement program prints is what its file's bytes are answered: the machine of a customer file, driven over any bytes, prints the line of
+-- the answer that document 01 gives for them.
+-- Assumes nothing.
+use mathlib.Core.Path.{_≡_, refl, sym, ap, _∙_}
+use mathlib.Core.Bool.{false}
+use mathlib.Core.List.{List}
+use Prim.Native.Nat.{ℕ, _+_, _≤_, _<_}
+use native.Mathlib.Omega.{arith}
+use borrow.Author.Tests.{lt-ltb, le-ltb, ltb-false}
+use lib.Dec.{eqb}
+use lib.ListN.{length, take, drop, replicate, length-append}
+use lib.Seq.{take-all, length-take-le}
+use Rattle.over.proofs.Tests.{Passed, passed-all}
+use Rattle.answers.specs.Ruling.{customerMost}
+use Rattle.answers.specs.Said.{Said}
+use Rattle.dates.specs.Dates.{yearDays}
+use Rattle.readings.specs.declared.Run.{Run}
+use Rattle.readings.specs.Runs.{runDays}
+use Rattle.readings.specs.Legal.{badIn}
+use Rattle.readings.proofs.Runs.{start-none, days-year, year-run}
+use Rattle.readings.proofs.Legal.{bad-run}
+use Rattle.readings.proofs.Days.{series-legal}
+use Rattle.sheet.specs.Bytes.{sheetIn}
+use Rattle.customer.specs.declared.Terms.{Terms}
+use Rattle.customer.specs.declared.Customer.{Customer}
+use Rattle.customer.specs.Counts.{yearRun}
+use Rattle.customer.specs.Answers.{termsOf, opened, shut, dayAnswer, dayCustomer, closeAnswer, decideAnswer}
+use Rattle.customer.proofs.Answered.{open-taken, decide-whole}
+use Rattle.customer.proofs.Whole.{holding, opens-holding, machine, closes-holding}
+use Rattle.fields.specs.Layout.{Layout, startOf, headSize, stops}
+use Rattle.fields.specs.Series.{readingsOf, seriesIn, daySize, fileSize}
+use Rattle.fields.specs.File.{fileAnswer, part, driven}
+use Rattle.fields.proofs.Bytes.{part-long, part-none, buffer-same}
+use Rattle.fields.proofs.Header.{field-none, fields-held}
+use Rattle.fields.proofs.Days.{series-long, series-all}
+use Rattle.fields.proofs.Driven.{Stopped, TakesEnd, FileMachine, file-driven}
+use Rattle.fields.proofs.Fed.{heldIn, FeedsField, head-over, feeds-field, heldAfter, FeedsDay, feeds-takes}
+use Rattle.lines.specs.Figures.{statementLine}
+use Rattle.files.specs.declared.Stage.the-variants.{Going, Refused, Complete}
+use Rattle.files.specs.declared.customer_file.CustomerFile.{CustomerFile}
+use Rattle.files.specs.Machine.{going, stageOf, saidOfStage}
+use Rattle.files.specs.Customer.{sheetPart, optionOf, holidaysOf, pricesOf, customerLayout, customerAnswer, statementPrinted}
+use Rattle.files.specs.CustomerMachine.{openedIn, openedWith, customerHead, customerStart, customerEnded, customerWants, customerFed, customerText}
+use Rattle.files.proofs.CustomerLayout.{count-few, count-is}
+use Rattle.files.proofs.CustomerCases.{day-cases, field-cut, field-refused, field-taken, day-cut, day-refused, day-taken, end-left, end-done, field-wants, field-fed, day-wants, day-fed, end-wants, end-fed, ended-fed}
+use Rattle.printed.proofs.CustomerHeader.{looks-back, opened-same, year-is, opens}
+
+abbrev Halted : CustomerFile → Said → Type 0
+Halted s x = Stopped customerWants customerFed customerText statementLine s x
+
+-- a machine that has ended stays, and prints its answer
+halted : {s : CustomerFile} {x : Said} (t : CustomerFile) → t ≡ s → going (t .stage) ≡ false → saidOfStage (t .stage) (closeAnswer (t .customer)) ≡ x → Halted s x
+halted t e g x = rw (← e) (record { says = ap statementLine x; stays = λ b. sym (ended-fed t b g) })
+
+-- a day's refusal says what the machine of days answers
+day-ends : (closing : Said) (c : Customer) (day : List ℕ) → (going (stageOf (dayAnswer c day)) ≡ false) × (saidOfStage (stageOf (dayAnswer c day)) closing ≡ dayAnswer c day)
+unfolding stageOf
+day-ends closing = day-cases (λ x. (going (stageOf x) ≡ false) × (saidOfStage (stageOf x) closing ≡ x)) (refl, refl) (refl, refl) (λ place. (refl, refl)) (refl, refl)
+
+-- the year is not opened before the header's end
+unopened : (head : List ℕ) (k : ℕ) → k < customerLayout head .count → openedWith shut head k ≡ shut
+unfolding openedWith
+unopened head k l = rw (lt-ltb k (customerLayout head .count) l)
+
+open-now : (head : List ℕ) (k : ℕ) → customerLayout head .count ≤ k → openedWith shut head k ≡ openedIn head
+unfolding openedWith
+open-now head k l = rw (le-ltb k (customerLayout head .count) l)
+
+-- a field
+feeds-head : (k : ℕ) (buffer : List ℕ) → k < customerLayout buffer .count → FeedsField customerWants customerFed customerText statementLine customerLayout (customerHead shut) k buffer
+feeds-head k buffer l =
+    record {
+      size = sym (field-wants s refl l);
+      cut = λ b m. halted (customerEnded s (Refused 12)) (field-cut s b m ∙ field-fed s refl l b) refl refl;
+      refused = λ b next m e z. halted (customerEnded s (Refused (customerLayout next .refusal k))) (field-refused s b (omega arith) e z ∙ field-fed s refl l b) refl refl;
+      taken = λ b next m e z.
+          sym (field-taken s b (omega arith) e z ∙ field-fed s refl l b)
+          ∙ ap (λ (c : Customer). customerHead c (k + 1) next) (unopened buffer k l);
+    }
+  where
+    s : CustomerFile
+    s = customerHead shut k buffer
+
+module _ (bytes : List ℕ) where
+  abbrev l : Layout
+  l = customerLayout bytes
+
+  abbrev h : ℕ
+  h = headSize l
+
+  abbrev blank : List ℕ
+  blank = replicate 159 0
+
+  abbrev held : ℕ → List ℕ
+  held k = heldIn blank bytes (startOf l k)
+
+  abbrev xs : List ℕ
+  xs = seriesIn bytes h
+
+  abbrev terms : Terms
+  terms = termsOf (sheetIn (sheetPart bytes)) (holidaysOf bytes) (pricesOf bytes) (optionOf bytes)
+
+  abbrev run : Run
+  run = yearRun (terms .year)
+
+  abbrev done : Said
+  done = decideAnswer (sheetPart bytes) (holidaysOf bytes) (pricesOf bytes) (optionOf bytes) xs
+
+  abbrev inHead : ℕ → CustomerFile
+  inHead k = customerHead shut k (held k)
+
+  -- the machine stands behind the header, with a state of the machine of days
+  abbrev inside : Customer → CustomerFile
+  inside c = record { field = l .count; head = held (l .count); customer = c; stage = Going }
+
+  abbrev inDays : ℕ → CustomerFile
+  inDays d = inside (heldAfter run (holding terms) h bytes d)
+
+  -- before the first byte
+  starts : customerStart ≡ inHead 0
+  starts =
+      ap (λ (c : Customer). record { field = 0; head = blank; customer = c; stage = Going }) (sym (unopened blank 0 (omega (arith, count-is blank))))
+      ∙ ap (λ (n : ℕ). customerHead shut 0 (heldIn blank bytes n)) (sym (field-none l))
+
+  module _ (passed : Passed (stops l bytes) (l .count)) where
+    over : customerLayout (held (l .count)) .count ≤ l .count
+    over = head-over customerWants customerFed customerText statementLine customerLayout (customerHead shut) blank bytes (looks-back bytes) passed
+
+    -- the header's end opens the year
+    year-opened : openedIn bytes ≡ opened terms
+    unfolding openedIn
+    year-opened = sym (open-taken (sheetPart bytes) (holidaysOf bytes) (pricesOf bytes) (optionOf bytes) (sym (opens bytes passed)))
+
+    inside-file : h ≤ length bytes
+    inside-file = fields-held l bytes (l .count) passed
+
+    inside-buffer : h ≤ length (held (l .count))
+    inside-buffer = omega (arith, length-append (take h bytes) (drop h blank), length-take-le h bytes inside-file)
+
+    opens-days : inHead (l .count) ≡ inDays 0
+    opens-days =
+        ap inside
+        (open-now (held (l .count)) (l .count) over
+        ∙ opened-same (held (l .count)) bytes (buffer-same blank bytes h inside-file) inside-buffer inside-file
+        ∙ year-opened
+        ∙ opens-holding terms
+        ∙ ap (λ (n : ℕ). holding terms (take n xs) 0) (sym (start-none run)))
+
+    -- a day
+    feeds-day : (d : ℕ) → d < runDays run → FeedsDay customerWants customerFed customerText statementLine run dayAnswer dayCustomer inside (heldAfter run (holding terms) h bytes d) d
+    feeds-day d m =
+        record {
+          size = sym (day-wants s refl over left);
+          cut = λ b o. halted (customerEnded s (Refused 4)) (day-cut s b o ∙ day-fed s refl over left b) refl refl;
+          refused = λ b o z.
+              halted (customerEnded s (stageOf (dayAnswer c (readingsOf b))))
+              (ap (λ (day : List ℕ). customerEnded s (stageOf (dayAnswer c day))) (sym (all b o))
+              ∙ day-refused s b (omega arith) (ap (λ (day : List ℕ). eqb (dayAnswer c day .number) 0) (all b o) ∙ z)
+              ∙ day-fed s refl over left b)
+              (day-ends (closeAnswer c) c (readingsOf b) .0)
+              (day-ends (closeAnswer c) c (readingsOf b) .1);
+          taken = λ b o e.
+              sym (day-taken s b (omega arith) (sym (ap (dayAnswer c) (all b o) ∙ e)) ∙ day-fed s refl over left b)
+              ∙ ap (λ (day : List ℕ). inside (dayCustomer c day)) (all b o);
+        }
+      where
+        c : Customer
+        c = heldAfter run (holding terms) h bytes d
+
+        s : CustomerFile
+        s = inside c
+
+        left : d < yearDays (terms .year)
+        left = omega (arith, year-run (terms .year))
+
+        all : (b : List ℕ) → length b ≡ daySize run d → readingsOf (take (daySize run d) b) ≡ readingsOf b
+        all b o = ap readingsOf (take-all (daySize run d) b (omega arith))
+
+    -- the end: what closing says is what the whole series is answered
+    closes : Passed (badIn run customerMost xs) (runDays run) → length bytes ≡ fileSize run h → closeAnswer (inDays (runDays run) .customer) ≡ done
+    closes c z =
+        ap (λ (ys : List ℕ). closeAnswer (holding terms ys (runDays run))) (series-all run h bytes z)
+        ∙ closes-holding terms xs
+        (series-legal run customerMost xs (series-long run h bytes z)
+        (ltb-false _ _ (sym (bad-run run customerMost xs) ∙ passed-all (badIn run customerMost xs) (runDays run) c)))
+        ∙ decide-whole (sheetPart bytes) (holidaysOf bytes) (pricesOf bytes) (optionOf bytes) xs (sym (opens bytes passed))
+
+    takes-end : Passed (badIn run customerMost xs) (runDays run) → TakesEnd customerWants customerFed customerText statementLine bytes run customerMost h inDays done
+    takes-end c =
+        record {
+          size = sym (end-wants s refl over none);
+          left = λ o. halted (customerEnded s (Refused 4)) (end-left s p (omega (arith, part-long bytes (fileSize run h) 1 (omega arith))) ∙ end-fed s refl over none p) refl refl;
+          closed = λ z. halted (customerEnded s Complete) (end-done s p (part-none bytes (fileSize run h) 1 (omega arith)) ∙ end-fed s refl over none p) refl (closes c z);
+        }
+      where
+        s : CustomerFile
+        s = inDays (runDays run)
+
+        p : List ℕ
+        p = part bytes (fileSize run h) 1
+
+        none : yearDays (terms .year) ≤ runDays run
+        none = omega (arith, year-run (terms .year))
+
+  file : FileMachine customerWants customerFed customerText statementLine l run customerMost done bytes inHead inDays
+  file =
+      record {
+        fields = λ k c p.
+            feeds-field customerWants customerFed customerText statementLine customerLayout (customerHead shut) blank bytes (looks-back bytes) k c p (feeds-head k (held k));
+        opened = opens-days;
+        days = λ p d m w c. feeds-takes customerWants customerFed customerText statementLine (machine terms) inside h bytes d w c (feeds-day p d m);
+        last = λ p w c. takes-end p c;
+      }
+
+  answer-is : fileAnswer l run customerMost done bytes ≡ customerAnswer bytes
+  unfolding customerAnswer
+  answer-is = ap (λ (y : ℕ). fileAnswer l (yearRun y) customerMost done bytes) (year-is bytes)
+
+-- 423 turns are enough for every file: at most 56 fields, 366 days, and one for what comes after them
+pub statement-printed : (bytes : List ℕ) (turns : ℕ) → 423 ≤ turns → customerText (driven customerWants customerFed turns customerStart bytes) ≡ statementPrinted bytes
+statement-printed bytes turns t =
+    ap (λ (s : CustomerFile). customerText (driven customerWants customerFed turns s bytes)) (starts bytes)
+    ∙ file-driven (file bytes) turns (omega (arith, count-is bytes, count-few bytes, days-year (run bytes) refl refl))
+    ∙ ap statementLine (answer-is bytes)
