@@ -31,7 +31,7 @@ use Rattle.files.specs.declared.Stage.the-variants as Stage
 use Rattle.files.specs.declared.customer_file.CustomerFile.{CustomerFile}
 use Rattle.files.specs.Machine.{going, stageOf}
 use Rattle.files.specs.Customer.{countPlace, customerLayout}
-use Rattle.files.specs.CustomerMachine.{customerHead, customerEnded, customerRun, customerWants, headWith, fieldFed, dayOf, dayFed, endFed, customerFed}
+use Rattle.files.specs.CustomerMachine.{customerHead, customerEnded, customerRun, customerWants, headWith, fieldFed, dayOf, dayGiven, dayFed, endFed, customerFed}
 use Rattle.files.proofs.CustomerLayout.{count-is, start-holiday}
 
 -- the count of holidays stands before every field that it governs: a field that is laid into the header leaves itself a field
@@ -85,6 +85,10 @@ module _ (s : CustomerFile) (b : List ℕ) where
   day-cut l = rw (lt-ltb (length b) (daySize (customerRun s) (s .customer .seen)) l)
 
   module _ (l : daySize (customerRun s) (s .customer .seen) ≤ length b) where
+    pub day-held : dayGiven s (dayOf s b) ≡ dayFed s b
+    unfolding dayFed
+    day-held = rw (le-ltb (length b) (daySize (customerRun s) (s .customer .seen)) l)
+
     pub day-refused : eqb (dayAnswer (s .customer) (dayOf s b) .number) 0 ≡ false → customerEnded s (stageOf (dayAnswer (s .customer) (dayOf s b))) ≡ dayFed s b
     unfolding dayFed
     day-refused z = rw (le-ltb (length b) (daySize (customerRun s) (s .customer .seen)) l, z)
@@ -189,3 +193,11 @@ stage-number (MoveShort a) n = refl
 stage-number (ReductionShort a) n = refl
 stage-number Malformed n = refl
 stage-number DayOut n = refl
+
+-- a day's readings, given to the machine of days
+module _ (s : CustomerFile) (day : List ℕ) where
+  pub given-refused : eqb (dayAnswer (s .customer) day .number) 0 ≡ false → customerEnded s (stageOf (dayAnswer (s .customer) day)) ≡ dayGiven s day
+  given-refused z = rw z
+
+  pub given-taken : eqb (dayAnswer (s .customer) day .number) 0 ≡ true → _≡_ {A = CustomerFile} (record { field = s .field; head = s .head; customer = dayCustomer (s .customer) day; stage = Stage.Going }) (dayGiven s day)
+  given-taken z = rw z

@@ -20,7 +20,7 @@ use Rattle.files.specs.declared.Stage.the-variants.{Going, Refused, Comp
 use Rattle.files.specs.declared.grid_file.GridFile.{GridFile}
 use Rattle.files.specs.Grid.{gridLayout}
 use Rattle.files.specs.Machine.{going, stageOf}
-use Rattle.files.specs.GridMachine.{gridHead, gridEnded, gridRun, gridWants, headWith, fieldFed, dayOf, dayFed, endFed, gridFed}
+use Rattle.files.specs.GridMachine.{gridHead, gridEnded, gridRun, gridWants, headWith, fieldFed, dayOf, dayGiven, dayFed, endFed, gridFed}
 use Rattle.files.proofs.GridLayout.{grid-count}
 
 module _ (s : GridFile) where
@@ -99,6 +99,10 @@ module _ (s : GridFile) where
     unfolding dayFed
     day-cut h = simp (lt-ltb (length b) size h)
 
+    pub day-held : size ≤ length b → dayGiven s (dayOf s b) ≡ dayFed s b
+    unfolding dayFed
+    day-held h = simp (le-ltb (length b) size h)
+
     module _ (h : size ≤ length b) {day : List ℕ} (e : day ≡ dayOf s b) where
       pub day-refused : eqb (dayAnswer (s .grid) day .number) 0 ≡ false → gridEnded s (stageOf (dayAnswer (s .grid) day)) ≡ dayFed s b
       unfolding dayFed
@@ -139,3 +143,11 @@ not-five (BadReading place) h = absurd (h place refl)
 not-five NoPeak h = refl
 not-five Malformed h = refl
 not-five DayOut h = refl
+
+-- a day's readings, given to the machine of days
+module _ (s : GridFile) (day : List ℕ) where
+  pub given-refused : eqb (dayAnswer (s .grid) day .number) 0 ≡ false → gridEnded s (stageOf (dayAnswer (s .grid) day)) ≡ dayGiven s day
+  given-refused z = rw z
+
+  pub given-taken : eqb (dayAnswer (s .grid) day .number) 0 ≡ true → _≡_ {A = GridFile} (record { field = s .field; head = s .head; grid = dayGrid (s .grid) day; stage = Going }) (dayGiven s day)
+  given-taken z = rw z

@@ -1,11 +1,13 @@
 -- The machine that the statement program drives: what it wants next, what it does with the bytes b that came (fewer than it wanted where the file
 -- has ended), and what it prints. It goes by the fields of the layout, over the header's bytes that it holds.
+use mathlib.Core.Path.{_≡_}
 use mathlib.Core.Bool.{cond}
 use mathlib.Core.List.{List}
-use Prim.Native.Nat.{ℕ, _+_}
+use Prim.Native.Nat.{ℕ, _+_, _≤_}
 use lib.Dec.{ltb, eqb}
 use lib.ListN.{length, take, replicate}
 use lib.Seq.{paste}
+use Rattle.answers.specs.Said.{Said}
 use Rattle.dates.specs.Dates.{yearDays}
 use Rattle.readings.specs.declared.Run.{Run}
 use Rattle.customer.specs.declared.Customer.{Customer}
@@ -13,10 +15,11 @@ use Rattle.customer.specs.Counts.{yearRun}
 use Rattle.customer.specs.Answers.{shut, openCustomer, dayAnswer, dayCustomer, closeAnswer}
 use Rattle.fields.specs.Layout.{startOf}
 use Rattle.fields.specs.Series.{readingsOf, daySize}
-use Rattle.lines.specs.Figures.{statementLine}
+use Rattle.lines.specs.Figures.{figuresIn, statementLine}
 use Rattle.files.specs.declared.Stage.{Stage}
 use Rattle.files.specs.declared.Stage.the-variants.{Going, Refused, Complete}
 use Rattle.files.specs.declared.customer_file.CustomerFile.{CustomerFile}
+use Rattle.files.specs.declared.customer_file.Figured.{Figured}
 use Rattle.files.specs.Machine.{going, stageOf, saidOfStage}
 use Rattle.files.specs.Customer.{customerLayout, sheetPart, holidaysOf, pricesOf, optionOf}
 
@@ -63,12 +66,14 @@ fieldFed s b =
 abbrev pub dayOf : CustomerFile → List ℕ → List ℕ
 dayOf s b = readingsOf (take (daySize (customerRun s) (s .customer .seen)) b)
 
+abbrev pub dayGiven : CustomerFile → List ℕ → CustomerFile
+dayGiven s day =
+    cond (eqb (dayAnswer (s .customer) day .number) 0)
+    (record { field = s .field; head = s .head; customer = dayCustomer (s .customer) day; stage = Going })
+    (customerEnded s (stageOf (dayAnswer (s .customer) day)))
+
 unfoldable pub dayFed : CustomerFile → List ℕ → CustomerFile
-dayFed s b =
-    cond (ltb (length b) (daySize (customerRun s) (s .customer .seen))) (customerEnded s (Refused 4))
-    (cond (eqb (dayAnswer (s .customer) (dayOf s b) .number) 0)
-    (record { field = s .field; head = s .head; customer = dayCustomer (s .customer) (dayOf s b); stage = Going })
-    (customerEnded s (stageOf (dayAnswer (s .customer) (dayOf s b)))))
+dayFed s b = cond (ltb (length b) (daySize (customerRun s) (s .customer .seen))) (customerEnded s (Refused 4)) (dayGiven s (dayOf s b))
 
 -- bytes left over are 4
 unfoldable pub endFed : CustomerFile → List ℕ → CustomerFile
@@ -85,3 +90,8 @@ customerFed s b =
 -- what it prints
 abbrev pub customerText : CustomerFile → List ℕ
 customerText s = statementLine (saidOfStage (s .stage) (closeAnswer (s .customer)))
+
+-- the list that an answer's line is made of: "the number and its carried figures in the table's order"
+pub record Lists (r : Figured) (said : Said) : Type 0 where
+  pub few : r .count ≤ 8
+  pub are : take (r .count) (r .figures) ≡ figuresIn said

@@ -58,12 +58,14 @@ fieldFed s b =
 abbrev pub dayOf : GridFile → List ℕ → List ℕ
 dayOf s b = readingsOf (take (daySize (gridRun s) (s .grid .seen)) b)
 
+abbrev pub dayGiven : GridFile → List ℕ → GridFile
+dayGiven s day =
+    cond (eqb (dayAnswer (s .grid) day .number) 0)
+    (record { field = s .field; head = s .head; grid = dayGrid (s .grid) day; stage = Going })
+    (gridEnded s (stageOf (dayAnswer (s .grid) day)))
+
 unfoldable pub dayFed : GridFile → List ℕ → GridFile
-dayFed s b =
-    cond (ltb (length b) (daySize (gridRun s) (s .grid .seen))) (gridEnded s (Refused 4))
-    (cond (eqb (dayAnswer (s .grid) (dayOf s b) .number) 0)
-    (record { field = s .field; head = s .head; grid = dayGrid (s .grid) (dayOf s b); stage = Going })
-    (gridEnded s (stageOf (dayAnswer (s .grid) (dayOf s b)))))
+dayFed s b = cond (ltb (length b) (daySize (gridRun s) (s .grid .seen))) (gridEnded s (Refused 4)) (dayGiven s (dayOf s b))
 
 -- bytes left over are 4
 unfoldable pub endFed : GridFile → List ℕ → GridFile

@@ -1,16 +1,14 @@
 // The customer file: its header, then the readings of the charge year. Document 01, Two programs.
 ghost use mathlib.Core.Path.{_≡_};
 ghost use mathlib.Core.Bool.{true};
-ghost use mathlib.Core.List.{[], _∷_};
 ghost use Prim.Native.Nat.{_≤_, _<_};
-ghost use Rattle.answers.specs.Said.{badPlace, yesNo};
+ghost use Rattle.answers.specs.Said.{only, badPlace, yesNo};
 ghost use Rattle.tariff.specs.Answers.{saidOf, withCharge, withPlain, withPeaks};
-ghost use Rattle.customer.specs.Answers.{shut};
+ghost use Rattle.customer.specs.Answers.{shut, closeAnswer};
 ghost use Rattle.lines.specs.Text.{lengthIn, putIn};
-ghost use Rattle.lines.specs.Figures.{figuresLine, statementLine};
 ghost use Rattle.files.specs.Customer.{customerLayout};
-ghost use Rattle.files.specs.Machine.{stageOf};
-ghost use Rattle.files.specs.CustomerMachine.{customerStart, customerEnded, customerWants, fieldFed, dayFed, endFed, customerFed, customerText};
+ghost use Rattle.files.specs.Machine.{stageOf, saidOfStage};
+ghost use Rattle.files.specs.CustomerMachine.{Lists, customerStart, customerEnded, customerWants, fieldFed, dayGiven, dayFed, endFed, customerFed, customerText};
 use crate::Stage;
 use crate::customer_head;
 use crate::customer_head::HEAD_MOST;
@@ -24,6 +22,12 @@ use tariff::Peaks;
 use tariff::Plain;
 use tariff::Prices;
 use tariff::Row;
+
+// An answer as a line lists it: its number and its figures, and how many there are.
+struct Figured {
+    figures: [u64; 8],
+    count: usize,
+}
 
 // A customer file that is read: the fields taken so far, the header's bytes, the days taken so far, and where it stands.
 pub struct CustomerFile {
@@ -65,88 +69,101 @@ fn stage_of(decision: Decision) -> Stage
     Stage::BadReading(place)
 }
 
-// A line of a number alone; of 5 with its place; of 9, 10 or 11 with their figures.
-fn stated(number: u8, out: &mut [u8]) -> usize
-    ensures { λ r. ⌜ (r ≡ lengthIn (figuresLine (number ∷ [])) (now (out .entry))) × (now (out .exit) ≡ putIn (figuresLine (number ∷ [])) (now (out .entry))) ⌝ }
+// The figures of a number alone; of 5 with its place; of 8; of 9, 10 or 11; of 0 with the charge; of 0 with yes.
+fn bare(number: u8) -> Figured
+    ensures { λ r. ⌜ Lists r (only number) ⌝ }
 {
-    let figures = [number as u64];
-    lines::figures_text(&figures, out)
+    Figured {
+        figures: [number as u64, 0, 0, 0, 0, 0, 0, 0],
+        count: 1,
+    }
 }
 
-fn stated_at(place: Place, out: &mut [u8]) -> usize
-    ensures { λ r. ⌜ (r ≡ lengthIn (statementLine (badPlace place)) (now (out .entry))) × (now (out .exit) ≡ putIn (statementLine (badPlace place)) (now (out .entry))) ⌝ }
+fn placed(place: Place) -> Figured
+    ensures { λ r. ⌜ Lists r (badPlace place) ⌝ }
 {
-    let figures = [5, place.day as u64, place.position as u64];
-    lines::figures_text(&figures, out)
+    let day = place.day as u64;
+    let position = place.position as u64;
+    Figured {
+        figures: [5, day, position, 0, 0, 0, 0, 0],
+        count: 3,
+    }
 }
 
-fn stated_with(number: u8, a: Peaks, out: &mut [u8]) -> usize
-    ensures { λ r. ⌜ (r ≡ lengthIn (statementLine (withPeaks number a)) (now (out .entry))) × (now (out .exit) ≡ putIn (statementLine (withPeaks number a)) (now (out .entry))) ⌝ }
+fn plain(a: Plain) -> Figured
+    ensures { λ r. ⌜ Lists r (withPlain a) ⌝ }
 {
+    let peak = a.peak as u64;
+    Figured {
+        figures: [8, a.general, peak, a.sum, 0, 0, 0, 0],
+        count: 4,
+    }
+}
+
+fn peaks(number: u8, a: Peaks) -> Figured
+    ensures { λ r. ⌜ Lists r (withPeaks number a) ⌝ }
+{
+    let p = a.plain;
     let figures = [
         number as u64,
-        a.plain.general,
-        a.plain.peak as u64,
-        a.plain.sum,
+        p.general,
+        p.peak as u64,
+        p.sum,
         a.high as u64,
         a.day as u64,
         a.quarter as u64,
+        0,
     ];
-    lines::figures_text(&figures, out)
+    Figured { figures, count: 7 }
 }
 
-// The line of 0 with the charge, and of 8.
-fn charged(a: Charged, out: &mut [u8]) -> usize
-    ensures { λ r. ⌜ (r ≡ lengthIn (statementLine (withCharge a)) (now (out .entry))) × (now (out .exit) ≡ putIn (statementLine (withCharge a)) (now (out .entry))) ⌝ }
+fn charged(a: Charged) -> Figured
+    ensures { λ r. ⌜ Lists r (withCharge a) ⌝ }
 {
-    let peaks = a.peaks;
+    let b = a.peaks;
+    let p = b.plain;
     let figures = [
         0,
         a.charge,
-        peaks.plain.general,
-        peaks.plain.peak as u64,
-        peaks.plain.sum,
-        peaks.high as u64,
-        peaks.day as u64,
-        peaks.quarter as u64,
+        p.general,
+        p.peak as u64,
+        p.sum,
+        b.high as u64,
+        b.day as u64,
+        b.quarter as u64,
     ];
-    lines::figures_text(&figures, out)
+    Figured { figures, count: 8 }
 }
 
-fn stated_plain(a: Plain, out: &mut [u8]) -> usize
-    ensures { λ r. ⌜ (r ≡ lengthIn (statementLine (withPlain a)) (now (out .entry))) × (now (out .exit) ≡ putIn (statementLine (withPlain a)) (now (out .entry))) ⌝ }
+fn yes() -> Figured
+    ensures { λ r. ⌜ Lists r (yesNo true) ⌝ }
 {
-    let figures = [8, a.general, a.peak as u64, a.sum];
-    lines::figures_text(&figures, out)
+    Figured {
+        figures: [0, 1, 0, 0, 0, 0, 0, 0],
+        count: 2,
+    }
 }
 
-fn yes(out: &mut [u8]) -> usize
-    ensures { λ r. ⌜ (r ≡ lengthIn (statementLine (yesNo true)) (now (out .entry))) × (now (out .exit) ≡ putIn (statementLine (yesNo true)) (now (out .entry))) ⌝ }
-{
-    let figures = [0, 1];
-    lines::figures_text(&figures, out)
-}
-
-// A decision's line: its number and its figures in the table's order.
-fn decided(decision: Decision, out: &mut [u8]) -> usize
-    ensures { λ r. ⌜ (r ≡ lengthIn (statementLine (saidOf decision)) (now (out .entry))) × (now (out .exit) ≡ putIn (statementLine (saidOf decision)) (now (out .entry))) ⌝ }
+// A decision's number and figures, in the table's order.
+fn figures_of(decision: Decision) -> Figured
+    ensures { λ r. ⌜ Lists r (saidOf decision) ⌝ }
 {
     match decision {
-        Decision::Accepted(a) => charged(a, out),
-        Decision::Eligible => yes(out),
-        Decision::Taken => stated(0, out),
-        Decision::YearOut => stated(1, out),
-        Decision::LevelOut => stated(2, out),
-        Decision::BadHolidays => stated(3, out),
-        Decision::WrongLength => stated(4, out),
-        Decision::BadReading(place) => stated_at(place, out),
-        Decision::PriceOut => stated(6, out),
-        Decision::NoWindow(a) => stated_plain(a, out),
-        Decision::ShareShort(a) => stated_with(9, a, out),
-        Decision::MoveShort(a) => stated_with(10, a, out),
-        Decision::ReductionShort(a) => stated_with(11, a, out),
-        Decision::Malformed => stated(12, out),
-        Decision::DayOut => stated(13, out),
+        Decision::Accepted(a) => charged(a),
+        Decision::Eligible => yes(),
+        Decision::Taken => bare(0),
+        Decision::YearOut => bare(1),
+        Decision::LevelOut => bare(2),
+        Decision::BadHolidays => bare(3),
+        Decision::WrongLength => bare(4),
+        Decision::BadReading(place) => placed(place),
+        Decision::PriceOut => bare(6),
+        Decision::NoWindow(a) => plain(a),
+        Decision::ShareShort(a) => peaks(9, a),
+        Decision::MoveShort(a) => peaks(10, a),
+        Decision::ReductionShort(a) => peaks(11, a),
+        Decision::Malformed => bare(12),
+        Decision::DayOut => bare(13),
     }
 }
 
@@ -250,26 +267,15 @@ impl CustomerFile {
         }
     }
 
-    fn take_day(self, b: &[u8]) -> CustomerFile
-        ensures { λ r. ⌜ r ≡ dayFed self (now (b .entry)) ⌝ }
+    // A day's readings are given to the customer's year.
+    fn give_day(self, day: &[u32]) -> CustomerFile
+        ensures { λ r. ⌜ r ≡ dayGiven self (now (day .entry)) ⌝ }
     {
-        let customer = self.customer;
-        let n = readings::day_len(
-            Run {
-                year: customer.terms.year,
-                period: false,
-            },
-            customer.seen,
-        );
-        if b.len() < head::READING_BYTES * n {
-            return self.ended(Stage::Refused(4));
-        }
-        let readings = head::readings_in(b, n);
-        let step = customer.day(&readings[..n]);
+        let step = self.customer.day(day);
         let answer = step.answer;
-        let Decision::Taken = answer else {
+        if number_of(answer) != 0 {
             return self.ended(stage_of(answer));
-        };
+        }
         let head = self.head;
         let next = step.customer;
         CustomerFile {
@@ -278,6 +284,23 @@ impl CustomerFile {
             customer: next,
             stage: Stage::Going,
         }
+    }
+
+    fn take_day(self, b: &[u8]) -> CustomerFile
+        ensures { λ r. ⌜ r ≡ dayFed self (now (b .entry)) ⌝ }
+    {
+        let n = readings::day_len(
+            Run {
+                year: self.customer.terms.year,
+                period: false,
+            },
+            self.customer.seen,
+        );
+        if b.len() < head::READING_BYTES * n {
+            return self.ended(Stage::Refused(4));
+        }
+        let readings = head::readings_in(b, n);
+        self.give_day(&readings[..n])
     }
 
     // After the last day: a byte that is left over is 4.
@@ -308,16 +331,26 @@ impl CustomerFile {
         self
     }
 
-    // What the statement program prints, at the start of a lent buffer, all or nothing; 13 while the machine goes on.
-    pub fn text(self, out: &mut [u8]) -> usize
-        ensures { λ r. ⌜ (r ≡ lengthIn (customerText self) (now (out .entry))) × (now (out .exit) ≡ putIn (customerText self) (now (out .entry))) ⌝ }
+    // What the file is answered; 13 while the machine goes on.
+    fn answer(self) -> Figured
+        ensures { λ r. ⌜ Lists r (saidOfStage (self .stage) (closeAnswer (self .customer))) ⌝ }
     {
         let stage = self.stage;
         match stage {
-            Stage::Going => stated(13, out),
-            Stage::Refused(number) => stated(number, out),
-            Stage::BadReading(place) => stated_at(place, out),
-            Stage::Complete => decided(self.customer.close(), out),
+            Stage::Going => bare(13),
+            Stage::Refused(number) => bare(number),
+            Stage::BadReading(place) => placed(place),
+            Stage::Complete => figures_of(self.customer.close()),
         }
+    }
+
+    // What the statement program prints, at the start of a lent buffer, all or nothing.
+    pub fn text(self, out: &mut [u8]) -> usize
+        ensures { λ r. ⌜ (r ≡ lengthIn (customerText self) (now (out .entry))) × (now (out .exit) ≡ putIn (customerText self) (now (out .entry))) ⌝ }
+    {
+        let list = self.answer();
+        let n = list.count;
+        let figures = list.figures;
+        lines::figures_text(&figures[..n], out)
     }
 }

@@ -10,7 +10,7 @@ ghost use Rattle.lines.specs.Text.{lengthIn, putIn};
 ghost use Rattle.lines.specs.Figures.{figuresIn, refusedLine};
 ghost use Rattle.files.specs.Grid.{gridLayout, windowLines};
 ghost use Rattle.files.specs.Machine.{stageOf};
-ghost use Rattle.files.specs.GridMachine.{gridStart, gridEnded, gridWants, fieldFed, dayFed, endFed, gridFed, closedGrid, gridText};
+ghost use Rattle.files.specs.GridMachine.{gridStart, gridEnded, gridWants, fieldFed, dayGiven, dayFed, endFed, gridFed, closedGrid, gridText};
 use crate::Stage;
 use crate::head;
 use answers::Place;
@@ -210,22 +210,11 @@ impl GridFile {
         }
     }
 
-    fn take_day(self, b: &[u8]) -> GridFile
-        ensures { λ r. ⌜ r ≡ dayFed self (now (b .entry)) ⌝ }
+    // A day's readings are given to the grid's series.
+    fn give_day(self, day: &[u32]) -> GridFile
+        ensures { λ r. ⌜ r ≡ dayGiven self (now (day .entry)) ⌝ }
     {
-        let grid = self.grid;
-        let n = readings::day_len(
-            Run {
-                year: grid.year,
-                period: true,
-            },
-            grid.seen,
-        );
-        if b.len() < head::READING_BYTES * n {
-            return self.ended(Stage::Refused(4));
-        }
-        let readings = head::readings_in(b, n);
-        let step = grid.day(&readings[..n]);
+        let step = self.grid.day(day);
         let answer = step.answer;
         if number_of(answer) != 0 {
             return self.ended(stage_of(answer));
@@ -238,6 +227,23 @@ impl GridFile {
             grid: next,
             stage: Stage::Going,
         }
+    }
+
+    fn take_day(self, b: &[u8]) -> GridFile
+        ensures { λ r. ⌜ r ≡ dayFed self (now (b .entry)) ⌝ }
+    {
+        let n = readings::day_len(
+            Run {
+                year: self.grid.year,
+                period: true,
+            },
+            self.grid.seen,
+        );
+        if b.len() < head::READING_BYTES * n {
+            return self.ended(Stage::Refused(4));
+        }
+        let readings = head::readings_in(b, n);
+        self.give_day(&readings[..n])
     }
 
     // After the last day: a byte that is left over is 4.

@@ -1,39 +1,35 @@
--- `files::customer_file::CustomerFile::text` meets its contract, a stage for each return.
+-- `files::customer_file::CustomerFile::text` meets its contract.
 -- Assumes nothing.
+use mathlib.Core.Path.{_≡_, sym}
+use native.Mathlib.Omega.{arith}
 use borrow.Author.Needs.{needs}
+use lib.Seq.{length-take-le}
+use lib.ListN.{length}
 use Rattle.files.proofs.customer_file.CustomerFile.text.Statement.{statement}
 use Rattle.files.proofs.customer_file.CustomerFile.text.Tie as tie
 
+array-share-prefix-figures : tie.Need-array-share-prefix-figures
+array-share-prefix-figures c =
+    let r = c .before .answer .result in
+    let h : length (r .figures) ≡ 8 = search needs in
+    omega (arith, c .before .answer .ensures .few)
+
+slice-aggregate-figures-text : tie.Need-slice-aggregate-figures-text
+slice-aggregate-figures-text c =
+    let r = c .before .before .answer .result in
+    let h : length (r .figures) ≡ 8 = search needs in
+    sym (length-take-le (r .count) (r .figures) (omega (arith, c .before .before .answer .ensures .few)))
+
 returns : tie.Need-returns
-returns c = rw (c .before .before .before .before .enum-told .given .1) (c .before .before .stated .ensures)
-
-returns-2 : tie.Need-returns-2
-returns-2 c = rw (c .before .before .before .before .before .stage .given .1) (c .before .before .stated2 .ensures)
-
-returns-3 : tie.Need-returns-3
-returns-3 c = rw (c .before .before .before .before .before .stage2 .given .1) (c .before .before .stated-at .ensures)
-
-returns-4 : tie.Need-returns-4
-returns-4 c = rw (c .before .before .before .before .before .enum-told2 .given .1, ← (c .before .before .before .before .close .ensures)) (c .before .before .decided .ensures)
+returns c = rw (c .before .before .before .before .before .before .answer .ensures .are) at (c .before .before .figures-text .ensures)
 
 pub text-spec : {M : Type 1} → statement M
 text-spec =
     tie.close
     (tie.spec
-    (λ c. search needs)  -- enum-told
-    (λ c κs. search needs)  -- stated-requires
-    (λ c. search needs)  -- enum-known-stage
-    (λ c κs. search needs)  -- stated-requires-2
-    (λ c. search needs)  -- enum-known-stage-2
-    (λ c κs. search needs)  -- stated-at-requires
-    (λ c. search needs)  -- enum-told-2
-    (λ c κs. search needs)  -- close-requires
-    (λ c κs. search needs)  -- decided-requires
+    (λ c κs. search needs)  -- answer-requires
+    array-share-prefix-figures
+    slice-aggregate-figures-text
+    (λ c κs. search needs)  -- figures-text-requires
     (λ c. search needs)  -- same-length
-    returns
-    (λ c. search needs)  -- same-length-2
-    returns-2
-    (λ c. search needs)  -- same-length-3
-    returns-3
-    (λ c. search needs)  -- same-length-4
-    returns-4)
+    returns)
