@@ -1,0 +1,133 @@
+-- Document 01, Figures on each side: "Cases with * are proved of the definitions by one statement over one list". The list is `cases`, the
+-- statement `AllHold`. "Prices unless said: low row 2,000 and 4,000, high row 10,000 and 800."
+use mathlib.Core.Path.{_≡_}
+use mathlib.Core.Bool.{Bool, true, false}
+use mathlib.Core.List.{List, [], _∷_, _++_}
+use Prim.Native.Nat.{ℕ}
+use lib.ListN.{replicate}
+use Rattle.answers.specs.Ruling.{dayQuarters}
+use Rattle.answers.specs.Said.{Said}
+use Rattle.dates.specs.Dates.{dayOf, weekdayOf, saturday}
+use Rattle.calendar.specs.Holidays.{listed}
+use Rattle.calendar.specs.Free.{bridge}
+use Rattle.sheet.specs.Bytes.{sheetBytes}
+use Rattle.windows.specs.Chosen.{aboveLine, keptOf}
+use Rattle.grid.specs.Answers.{sheetOf}
+use Rattle.tariff.specs.declared.Row.{Row}
+use Rattle.tariff.specs.declared.Prices.{Prices}
+use Rattle.tariff.specs.declared.Figures.{Figures}
+use Rattle.tariff.specs.Charges.{fewHours, rowOf, general, reduced}
+use Rattle.tariff.specs.Answers.{withPeaks, withCharge, peaksOf, chargedOf}
+use Rattle.tariff.specs.Decision.{judgeAnswer}
+
+-- what the definitions compute, and what the paper says: an answer, a number, a row of prices, a yes or no, a season's quarters, a sheet's bytes
+pub data Case : Type 0 where
+  answer : Said → Said → Case
+  number : ℕ → ℕ → Case
+  row : Row → Row → Case
+  test : Bool → Bool → Case
+  quarters : List Bool → List Bool → Case
+  bytes : List ℕ → List ℕ → Case
+
+-- a case holds where the two are the same
+abbrev pub Holds : Case → Type 0
+Holds (answer computed said) = computed ≡ said
+Holds (number computed said) = computed ≡ said
+Holds (row computed said) = computed ≡ said
+Holds (test computed said) = computed ≡ said
+Holds (quarters computed said) = computed ≡ said
+Holds (bytes computed said) = computed ≡ said
+
+-- every case of a list holds
+abbrev pub Hold : List Case → Type 0
+Hold [] = Unit {0}
+Hold (c ∷ cs) = Holds c × Hold cs
+
+-- a row of prices, and the price lists of the cases: capacity price, energy price
+abbrev pub priced : ℕ → ℕ → Row
+priced capacity energy = record { capacity = capacity; energy = energy }
+
+abbrev pub lowRow : Row
+lowRow = priced 2000 4000
+
+abbrev pub highRow : Row
+highRow = priced 10000 800
+
+abbrev pub withHigh : Row → Prices
+withHigh high = record { low = lowRow; high = high }
+
+abbrev pub prices : Prices
+prices = withHigh highRow
+
+-- weekdays count from 0, Monday
+abbrev pub thursday : ℕ
+thursday = 3
+
+-- the printed example: its curves, and its sheet
+abbrev pub exampleCurves : List ℕ
+exampleCurves = replicate 72 1000 ++ (2000 ∷ replicate 311 1000)
+
+abbrev pub exampleSheet : List ℕ
+exampleSheet = (0x48 ∷ 0x4c ∷ 0x5a ∷ 0x00 ∷ 0x01 ∷ 0x07 ∷ 0xe9 ∷ 0x05 ∷ []) ++ (replicate 9 0x00 ++ (0x80 ∷ replicate 38 0x00))
+
+-- what the cases leave open, so that they hold whatever it is: where H first occurs; the option, where hours of use are 2,500 and more; H
+-- in case 4
+pub record Unsaid : Type 0 where
+  pub day : ℕ
+  pub quarter : ℕ
+  pub option : Bool
+  pub high : ℕ
+
+module _ (u : Unsaid) where
+  -- a year with M, H and S
+  abbrev pub year : ℕ → ℕ → ℕ → Figures
+  year m h s = record { peak = m; sum = s; any = true; high = h; day = u .day; quarter = u .quarter }
+
+  -- a year f is answered 0 with g and c; or a refusal with g
+  abbrev pub charged : Figures → ℕ → Prices → Bool → ℕ → ℕ → Case
+  charged f level p option g c = answer (judgeAnswer f level p option) (withCharge (chargedOf f g c))
+
+  abbrev pub refused : Figures → ℕ → Prices → Bool → ℕ → ℕ → Case
+  refused f level p option n g = answer (judgeAnswer f level p option) (withPeaks n (peaksOf f g))
+
+  abbrev pub cases : List Case
+  cases =
+      -- 1. M 1,000,000, H 800,000, S 12,000,000,000, level 5: g 12,400,000, c 10,400,000.
+      charged (year 1000000 800000 12000000000) 5 prices (u .option) 12400000 10400000
+      -- 2. The same, H 800,001: 9.
+      ∷ refused (year 1000000 800001 12000000000) 5 prices (u .option) 9 12400000
+      -- 3. The same, H 0: r 2,400,000, c 2,480,000.
+      ∷ number (reduced (year 1000000 0 12000000000) prices (u .option)) 2400000
+      ∷ charged (year 1000000 0 12000000000) 5 prices (u .option) 12400000 2480000
+      -- 4. M 1,000,000, S 10,000,000,000: high row, g 12,000,000. S one less: low row. (Its g is the same to the cent, so the row is stated.)
+      ∷ row (rowOf prices (fewHours (year 1000000 (u .high) 10000000000))) highRow
+      ∷ number (general (year 1000000 (u .high) 10000000000) prices) 12000000
+      ∷ row (rowOf prices (fewHours (year 1000000 (u .high) 9999999999))) lowRow
+      -- 5. M 1,000,000, H 100,000, S 4,000,000,000, level 5: g 6,000,000; c 4,200,000, with the option 1,800,000.
+      ∷ charged (year 1000000 100000 4000000000) 5 prices false 6000000 4200000
+      ∷ charged (year 1000000 100000 4000000000) 5 prices true 6000000 1800000
+      -- 6. As 5 with the option, H 800,000: r 8,800,000, so 11 with g 6,000,000.
+      ∷ number (reduced (year 1000000 800000 4000000000) prices true) 8800000
+      ∷ refused (year 1000000 800000 4000000000) 5 prices true 11 6000000
+      -- 7. M 300,000, H 200,000, S 3,600,000,000, level 1, high row 500 and 800: g 870,000, c 820,000. Capacity price 499: 11.
+      ∷ charged (year 300000 200000 3600000000) 1 (withHigh (priced 500 800)) (u .option) 870000 820000
+      ∷ refused (year 300000 200000 3600000000) 1 (withHigh (priced 499 800)) (u .option) 11 869700
+      -- 8. As 7, H 200,001: 10.
+      ∷ refused (year 300000 200001 3600000000) 1 (withHigh (priced 500 800)) (u .option) 10 870000
+      -- 9. Grid peak 2,000: curve 1,900 is not above, 1,901 is.
+      ∷ test (aboveLine 2000 1900) false
+      ∷ test (aboveLine 2000 1901) true
+      -- 10. All 96 curve values equal the peak: quarters 0 to 39.
+      ∷ quarters (keptOf 2000 (replicate dayQuarters 2000)) (replicate 40 true ++ replicate 56 false)
+      -- 11. 2 March 2024 is a Saturday; 1 May 2025 a Thursday, so with it listed 2 May is a bridge day.
+      ∷ number (weekdayOf 2024 (dayOf 2024 3 2)) saturday
+      ∷ number (weekdayOf 2025 (dayOf 2025 5 1)) thursday
+      ∷ test (bridge 2025 (listed (dayOf 2025 5 1 ∷ [])) (dayOf 2025 5 2)) true
+      -- 12. The printed example's sheet: 48 4C 5A 00 01 07 E9 05, nine 00, 80, then thirty-eight 00. Its four curves are 1,000, but 2,000 in season 1
+      -- at quarter 72.
+      ∷ bytes (sheetBytes (sheetOf 2025 5 exampleCurves)) exampleSheet
+      ∷ []
+
+-- every case of the list holds
+abbrev pub AllHold : Type 0
+AllHold = (u : Unsaid) → Hold (cases u)
