@@ -46,7 +46,7 @@ module _ (k : Basis) where
   whole-one {xs} l =
       sym (decide-whole (k .sheet) (k .holidays) (k .prices) (k .option) xs (sym (l .opens))) ∙ sym (whole-judged terms xs (sym (l .series)))
 
-  given-one : {xs : List ℕ} {a : Said} → LegalYear k xs → Given k xs a → a ≡ judged terms (figures xs)
+  pub given-one : {xs : List ℕ} {a : Said} → LegalYear k xs → Given k xs a → a ≡ judged terms (figures xs)
   given-one l whole = whole-one l
   given-one l (days ds e full) =
       days-whole (k .sheet) (k .holidays) (k .prices) (k .option) (l .opens) ds full

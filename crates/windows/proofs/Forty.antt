@@ -116,7 +116,7 @@ module _ (curve : List ℕ) where
 
 -- the windows of any curves make a legal sheet
 module _ (peak : ℕ) (curves : List (List ℕ)) where
-  chosen-at : (s q : ℕ) → Within 1 seasons s → q < dayQuarters → getD (flatOf (chosenOf peak curves)) (placeOf s q) false ≡ kept peak (getD curves (s - 1) []) q
+  pub chosen-at : (s q : ℕ) → Within 1 seasons s → q < dayQuarters → getD (flatOf (chosenOf peak curves)) (placeOf s q) false ≡ kept peak (getD curves (s - 1) []) q
   unfolding chosenOf keptOf
   chosen-at s q h l =
       flat-at (chosenOf peak curves) s q h l
