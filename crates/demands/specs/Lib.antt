@@ -1,1 +1,3 @@
+pub mod Fair
+pub mod Refusals
 pub mod Cases

@@ -1,0 +1,57 @@
+-- Demand 3, over demand 2's definitions (document 01, How far a contract goes). What it speaks of stands in customer, specs/Demand: `Basis` (one
+-- sheet, holiday list, price list and option), `LegalYear`, `Given` (an answer to a year, whole or by days), `Agree` and `NoneHigher` (the in-window
+-- quarters of two years, each with the same quarter of the other).
+use mathlib.Core.Path.{_≡_}
+use mathlib.Core.Bool.{cond}
+use mathlib.Core.List.{List}
+use Prim.Native.Nat.{ℕ, _≤_}
+use lib.Dec.{eqb}
+use Rattle.answers.specs.Said.{Said}
+use Rattle.sheet.specs.Bytes.{sheetIn}
+use Rattle.tariff.specs.declared.Figures.{Figures}
+use Rattle.tariff.specs.declared.Charged.{Charged}
+use Rattle.tariff.specs.Charges.{general, charge}
+use Rattle.tariff.specs.Answers.{withCharge, payable}
+use Rattle.tariff.specs.Demand.{Fair}
+use Rattle.customer.specs.Answers.{termsOf, figuresUnder}
+use Rattle.customer.specs.Demand.{Basis, basisDays, LegalYear, Given, Alike, Agree, NoneHigher}
+
+-- "Two complete legal years under one sheet, holiday list, price list and option, with equal peak and energy", each with its answer, whole or by
+-- days
+pub record TwoYears (k : Basis) (xs ys : List ℕ) (a b : Said) : Type 0 where
+  pub first : LegalYear k xs
+  pub second : LegalYear k ys
+  pub alike : Alike k xs ys
+  pub first-given : Given k xs a
+  pub second-given : Given k ys b
+
+-- the figures of a year
+abbrev pub figuresIn : Basis → List ℕ → Figures
+figuresIn k xs = figuresUnder (termsOf (sheetIn (k .sheet)) (k .holidays) (k .prices) (k .option)) xs (basisDays k)
+
+-- an accepted answer: it carries a charge, which is fair
+pub record FairCharge (a : Said) : Type 0 where
+  pub charged : Charged
+  pub carried : a ≡ withCharge charged
+  pub fair : Fair charged
+
+pub record Fairness : Type 0 where
+  -- "if they agree in every in-window quarter, the whole answer is the same, whole or by days"
+  pub same-answer : (k : Basis) (xs ys : List ℕ) (a b : Said) → TwoYears k xs ys a b → Agree k xs ys → b ≡ a
+  -- "if no in-window reading of the second exceeds the first's in the same quarter, the second never pays more"
+  pub no-more : (k : Basis) (xs ys : List ℕ) (a b : Said) → TwoYears k xs ys a b → NoneHigher k xs ys → payable b ≤ payable a
+  -- "and an acceptance stays one"
+  pub stays-accepted :
+      (k : Basis) (xs ys : List ℕ) (a b : Said)
+      → TwoYears k xs ys a b
+      → NoneHigher k xs ys
+      → a .number ≡ 0
+      → b .number ≡ 0
+  -- "(a refused customer pays the general charge)": a legal year is payable by c where it is answered 0, else by g
+  pub pays :
+      (k : Basis) (xs : List ℕ) (a : Said)
+      → LegalYear k xs
+      → Given k xs a
+      → payable a ≡ cond (eqb (a .number) 0) (charge (figuresIn k xs) (k .prices) (k .option)) (general (figuresIn k xs) (k .prices))
+  -- "An accepted charge is at least a fifth of the general charge and at least 500 euro below it."
+  pub accepted-fair : (k : Basis) (xs : List ℕ) (a : Said) → LegalYear k xs → Given k xs a → a .number ≡ 0 → FairCharge a
