@@ -1,3 +1,4 @@
 pub mod Fair
 pub mod Refusals
+pub mod Answers
 pub mod Cases

@@ -1,0 +1,160 @@
+-- Demand 2, cited from the rooms below; and what a reader of the bytes has that an accepted series leaves.
+-- Assumes nothing.
+use mathlib.Core.Path.{_≡_, refl, sym, ap, _∙_}
+use mathlib.Core.Bool.{Bool, true, false, cond}
+use mathlib.Core.List.{List, [], _++_}
+use Prim.Native.Nat.{ℕ, _+_, _-_, _*_, _/_, _%_, _<_}
+use native.Mathlib.Decide.{ℕ-discrete}
+use native.Mathlib.Omega.{arith}
+use borrow.Author.Tests.{eq-eqb, ne-eqb}
+use lib.Dec.{ltb, eqb}
+use lib.ListN.{length, getD, take, drop}
+use lib.Seq.{drop-at}
+use Rattle.over.specs.Limits.{Within}
+use Rattle.over.proofs.Tables.{getD-table, table-cong}
+use Rattle.answers.specs.Ruling.{dayQuarters, gridMost}
+use Rattle.answers.specs.Said.{Said, only, after, orElse}
+use Rattle.dates.specs.Period.{periodDays}
+use Rattle.calendar.proofs.Answers.{exactly}
+use Rattle.readings.specs.Legal.{highestOf}
+use Rattle.readings.specs.Days.{seriesAnswer}
+use Rattle.readings.proofs.Days.{next-exactly}
+use Rattle.sheet.specs.declared.Sheet.{Sheet}
+use Rattle.sheet.specs.Windows.{seasons, places, isSet}
+use Rattle.sheet.specs.Bytes.{sheetSize, sheetBytes}
+use Rattle.sheet.specs.Answers.{SheetRead, readOf, writeAnswer, written}
+use Rattle.sheet.proofs.Windows.{set-at, length-flat}
+use Rattle.sheet.proofs.Bytes.{length-bytes}
+use Rattle.sheet.proofs.Exactly.{read-exactly, write-exactly}
+use Rattle.sheet.proofs.Back.{buffer-read, same-bytes}
+use Rattle.windows.specs.Chosen.{kept, curveOf, curvesOf}
+use Rattle.windows.proofs.Forty.{chosen-at}
+use Rattle.grid.specs.Curves.{periodRun, curveAt, flatCurves}
+use Rattle.grid.specs.Answers.{openAnswer, sheetOf, finishAnswer, finished, windowsAnswer, windowsBuffer}
+use Rattle.grid.specs.Rows.{periodPeak}
+use Rattle.grid.proofs.Curves.{peak-curves}
+use Rattle.grid.proofs.Exactly.{open-exactly, close-exactly, windows-exactly}
+use Rattle.grid.proofs.Whole.{days-whole as grid-days, same-place as grid-place}
+use Rattle.tariff.proofs.Answered.{number-is}
+use Rattle.tariff.proofs.Exactly.{eligible-exactly, charge-exactly, judge-exactly}
+use Rattle.customer.proofs.Exactly.{customer-open-exactly, customer-day-exactly, customer-close-exactly, decide-exactly}
+use Rattle.customer.proofs.Whole.{days-whole as customer-days, same-place as customer-place}
+use Rattle.demands.specs.Answers.{ExactlyWhen, Sheets, curveIn, ToTheQuarterHour, DaysAsWhole}
+
+pub exactly-when : ExactlyWhen
+exactly-when =
+    record {
+      calendar = exactly;
+      read = read-exactly;
+      write = write-exactly;
+      windows = windows-exactly;
+      grid-open = open-exactly;
+      grid-day = λ g day. next-exactly _ _ (g .seen) day;
+      grid-close = close-exactly;
+      eligible = eligible-exactly;
+      charge = charge-exactly;
+      judge = judge-exactly;
+      decide = decide-exactly;
+      customer-open = customer-open-exactly;
+      customer-day = customer-day-exactly;
+      customer-close = customer-close-exactly;
+    }
+
+-- what 0 hands over is the new value, and where a second answer behind a first is 0, it is the second
+handed : {A : Type 0} (a : Said) (new old : A) → a .number ≡ 0 → after a new old ≡ new
+handed a new old z = rw (eq-eqb _ _ z)
+
+second : (a b : Said) → orElse a b .number ≡ 0 → orElse a b ≡ b
+second a b z = go (ℕ-discrete (a .number) 0)
+  where
+    go : Dec (a .number ≡ 0) → orElse a b ≡ b
+    go (yes e) = rw (eq-eqb _ _ e)
+    go (no n) = absurd (n (rw (ne-eqb _ _ n) at z))
+
+otherwise : (t : Bool) (n : ℕ) (a : Said) → (n ≡ 0 → ⊥) → cond t (only n) a .number ≡ 0 → cond t (only n) a ≡ a
+otherwise true n a r z = absurd (r z)
+otherwise false n a r z = refl
+
+fills : (s : Sheet) (buffer : List ℕ) → writeAnswer s (length buffer) .number ≡ 0 → written s buffer ≡ sheetBytes s ++ drop sheetSize buffer
+unfolding written
+fills s buffer z = handed (writeAnswer s (length buffer)) _ _ z
+
+size : (s : Sheet) → length (sheetBytes s) ≡ sheetSize
+size s = length-bytes (s .year) (s .level) (s .windows)
+
+pub sheets : Sheets
+sheets = record { reads-back = buffer-read; same-bytes = same-bytes; fills = fills; size = size }
+
+pub days-as-whole : DaysAsWhole
+days-as-whole =
+    record {
+      grid = λ y level days buffer o full. grid-days y level o days buffer full;
+      grid-place = λ y level xs buffer d q e. grid-place y level xs buffer d q e;
+      customer = λ k days o full. customer-days (k .sheet) (k .holidays) (k .prices) (k .option) o days full;
+      customer-place = λ k xs d q o e. customer-place (k .sheet) (k .holidays) (k .prices) (k .option) o xs d q e;
+    }
+
+-- the curve of a season, out of the flat curves
+curve-is : (y : ℕ) (xs : List ℕ) (s : ℕ) → Within 1 seasons s → getD (curvesOf (flatCurves y xs (periodDays y))) (s - 1) [] ≡ curveIn y xs s
+unfolding curvesOf curveOf flatCurves
+curve-is y xs s h =
+    getD-table (curveOf (flatCurves y xs (periodDays y))) seasons (s - 1) [] (omega arith)
+    ∙ table-cong _ (curveAt y xs (periodDays y) s) dayQuarters (λ q l.
+    let a : (dayQuarters * (s - 1) + q) / dayQuarters + 1 ≡ s = omega arith in
+    let b : (dayQuarters * (s - 1) + q) % dayQuarters ≡ q = omega arith in
+    getD-table (λ i. curveAt y xs (periodDays y) (i / dayQuarters + 1) (i % dayQuarters)) places (dayQuarters * (s - 1) + q) 0 (omega arith) ∙ rw (a, b))
+
+-- an accepted series
+module _ (y level : ℕ) (xs buffer : List ℕ) (z : windowsAnswer y level xs (length buffer) .number ≡ 0) where
+  abbrev flat : List ℕ
+  flat = flatCurves y xs (periodDays y)
+
+  abbrev laid : Sheet
+  laid = sheetOf y level flat
+
+  finish-is : windowsAnswer y level xs (length buffer) ≡ finishAnswer y level flat (length buffer)
+  unfolding windowsAnswer
+  finish-is =
+      let a = otherwise (ltb (length buffer) sheetSize) 14 _ (omega arith) z in
+      let b = second (openAnswer y level) _ (sym (number-is a) ∙ z) in
+      let c = second (seriesAnswer (periodRun y) gridMost xs) _ (sym (number-is (a ∙ b)) ∙ z) in
+      a ∙ b ∙ c
+
+  write-is : finishAnswer y level flat (length buffer) ≡ writeAnswer laid (length buffer)
+  unfolding finishAnswer
+  write-is = otherwise (eqb (highestOf flat) 0) 7 _ (omega arith) (sym (number-is finish-is) ∙ z)
+
+  accepts : writeAnswer laid (length buffer) .number ≡ 0
+  accepts = sym (number-is (finish-is ∙ write-is)) ∙ z
+
+  buffer-is : windowsBuffer y level xs buffer ≡ written laid buffer
+  unfolding windowsBuffer finished
+  buffer-is =
+      handed (windowsAnswer y level xs (length buffer)) _ _ z
+      ∙ handed (finishAnswer y level flat (length buffer)) _ _ (sym (number-is finish-is) ∙ z)
+
+  reads : readOf (take sheetSize (windowsBuffer y level xs buffer)) ≡ record { answer = only 0; sheet = laid }
+  unfolding sheetOf
+  reads = ap (λ (b : List ℕ). readOf (take sheetSize b)) buffer-is ∙ buffer-read laid buffer (length-flat _) accepts
+
+  window-is : (s q : ℕ) → Within 1 seasons s → q < dayQuarters → isSet (laid .windows) s q ≡ kept (periodPeak y xs) (curveIn y xs s) q
+  unfolding sheetOf
+  window-is s q h l =
+      sym (set-at (laid .windows) s q h l)
+      ∙ chosen-at (highestOf flat) (curvesOf flat) s q h l
+      ∙ ap (λ (m : ℕ). kept m (getD (curvesOf flat) (s - 1) []) q) (peak-curves y xs (periodDays y))
+      ∙ ap (λ (curve : List ℕ). kept (periodPeak y xs) curve q) (curve-is y xs s h)
+
+pub to-the-quarter-hour : ToTheQuarterHour
+unfolding sheetOf
+to-the-quarter-hour y level xs buffer z =
+    let r = reads y level xs buffer z in
+    record {
+      accepted = ap (λ (x : SheetRead). x .answer) r;
+      year-is = ap (λ (x : SheetRead). x .sheet .year) r;
+      level-is = ap (λ (x : SheetRead). x .sheet .level) r;
+      windows-are = λ s q h l. ap (λ (x : SheetRead). isSet (x .sheet .windows) s q) r ∙ window-is y level xs buffer z s q h l;
+      rest-stays =
+          ap (drop sheetSize) (buffer-is y level xs buffer z ∙ fills (laid y level xs buffer z) buffer (accepts y level xs buffer z))
+          ∙ drop-at (sheetBytes (laid y level xs buffer z)) (drop sheetSize buffer) sheetSize (size (laid y level xs buffer z));
+    }
