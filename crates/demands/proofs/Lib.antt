@@ -1,4 +1,9 @@
-pub mod Fair
 pub mod Refusals
+pub mod Fair
 pub mod Answers
+pub mod Series
+pub mod WrongWindows
+pub mod WrongYears
+pub mod FirstDay
+pub mod Wrong
 pub mod Cases

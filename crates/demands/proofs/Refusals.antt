@@ -1,6 +1,6 @@
 -- Demand 1: a refusal leaves state and buffer, a refused opening hands back the fixed state, and each number carries what the table lists.
 -- Assumes nothing.
-use mathlib.Core.Path.{_≡_, refl, sym, _∙_}
+use mathlib.Core.Path.{_≡_, refl, sym, ap, _∙_}
 use mathlib.Core.Bool.{Bool, true, false, cond, not}
 use mathlib.Core.List.{List, [], _∷_}
 use Prim.Native.Nat.{ℕ, _+_}
@@ -43,7 +43,7 @@ use Rattle.customer.specs.Counts.{yearRun}
 use Rattle.customer.specs.Demand.{Basis, basisRun}
 use Rattle.customer.proofs.Exactly.{open-zero}
 use Rattle.customer.proofs.Only.{shut-day as customer-shut-day, shut-close as customer-shut-close}
-use Rattle.demands.specs.Fair.{figuresIn}
+use Rattle.demands.specs.Year.{decideFor, figuresIn}
 use Rattle.demands.specs.Refusals.{Refused, LeftAsBefore, FixedState, bare, withPlace, withFigures, yearColumn, Carries, Carried}
 
 -- what stands after a refusal stood before it
@@ -232,7 +232,7 @@ judged f level p option = judge-listed f p (yearColumn f p option) _ (λ n e. re
 
 decides :
     (k : Basis) (xs : List ℕ)
-    → Carries (decideAnswer (k .sheet) (k .holidays) (k .prices) (k .option) xs) (withPlace (firstIllegal (basisRun k) customerMost xs) (yearColumn (figuresIn k xs) (k .prices) (k .option)))
+    → Carries (decideFor k xs) (withPlace (firstIllegal (basisRun k) customerMost xs) (yearColumn (figuresIn k xs) (k .prices) (k .option)))
 unfolding decideAnswer wholeAnswer
 decides k xs =
     let place = firstIllegal (basisRun k) customerMost xs in
@@ -273,3 +273,9 @@ carried =
       customer-day = customer-days;
       customer-close = customer-closes;
     }
+
+-- so an answer is its number with what the column lists for it
+pub said-is : (a : Said) (column : ℕ → List ℕ) (n : ℕ) → Carries a column → a .number ≡ n → a ≡ record { number = n; carries = column n }
+said-is a column n c e =
+    let listed : a .carries ≡ column n = c .listed ∙ ap column e in
+    λ i. record { number = e i; carries = listed i }

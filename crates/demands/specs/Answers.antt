@@ -31,9 +31,10 @@ use Rattle.tariff.specs.declared.Figures.{Figures}
 use Rattle.tariff.specs.Decision.{eligibleAnswer, chargeAnswer, judgeAnswer}
 use Rattle.tariff.specs.Rows.{EligibleRow, ChargeRow, JudgeRow}
 use Rattle.customer.specs.declared.Customer.{Customer}
-use Rattle.customer.specs.Answers.{decideAnswer, openAnswer as customerOpens, openCustomer, dayAnswer as customerDay, dayCustomer, closeAnswer as customerCloses}
+use Rattle.customer.specs.Answers.{decideAnswer, openAnswer as customerOpens, dayAnswer as customerDay, dayCustomer, closeAnswer as customerCloses}
 use Rattle.customer.specs.Rows.{CustomerOpenRow, CustomerDayRow, CustomerCloseRow, DecideRow}
-use Rattle.customer.specs.Demand.{Basis, basisDays, stateAfter, seriesTaken}
+use Rattle.customer.specs.Demand.{Basis, basisDays}
+use Rattle.demands.specs.Year.{opensFor, openFor, decideFor}
 
 -- Numbered answers, "given exactly when": each call gives a number n exactly when its row holds and no number before it in the call's order is given
 pub record ExactlyWhen : Type 0 where
@@ -103,26 +104,33 @@ pub record SheetLaid (y level : ℕ) (xs buffer : List ℕ) : Type 0 where
 abbrev pub ToTheQuarterHour : Type 0
 ToTheQuarterHour = (y level : ℕ) (xs buffer : List ℕ) → windowsAnswer y level xs (length buffer) .number ≡ 0 → SheetLaid y level xs buffer
 
--- Numbered answers: "Closing after all days answers as the whole series does"; and a bad reading is found at the same place. Days are offered one by
--- one, refused ones among them; the series is that of the taken days.
+-- Numbered answers: "Closing after all days answers as the whole series does." Days are offered to a machine one by one, refused ones among them, until
+-- all are in; the series is that of the taken days. Equality with the whole series, for any step of days:
+abbrev pub GridAsWhole : (Grid → List ℕ → Grid) → Type 0
+GridAsWhole step =
+    (y level : ℕ) (days : List (List ℕ)) (buffer : List ℕ)
+    → gridOpens y level ≡ only 0
+    → offered step (openGrid y level) days .seen ≡ periodDays y
+    → (gridCloses (offered step (openGrid y level) days) (length buffer) ≡ windowsAnswer y level (takenReadings gridDay step (openGrid y level) days) (length buffer))
+    × (closeBuffer (offered step (openGrid y level) days) buffer ≡ windowsBuffer y level (takenReadings gridDay step (openGrid y level) days) buffer)
+
+abbrev pub CustomerAsWhole : (Customer → List ℕ → Customer) → Type 0
+CustomerAsWhole step =
+    (k : Basis) (days : List (List ℕ))
+    → opensFor k ≡ only 0
+    → offered step (openFor k) days .seen ≡ basisDays k
+    → customerCloses (offered step (openFor k) days) ≡ decideFor k (takenReadings customerDay step (openFor k) days)
+
 pub record DaysAsWhole : Type 0 where
-  pub grid :
-      (y level : ℕ) (days : List (List ℕ)) (buffer : List ℕ)
-      → gridOpens y level ≡ only 0
-      → offered dayGrid (openGrid y level) days .seen ≡ periodDays y
-      → (gridCloses (offered dayGrid (openGrid y level) days) (length buffer) ≡ windowsAnswer y level (takenReadings gridDay dayGrid (openGrid y level) days) (length buffer))
-      × (closeBuffer (offered dayGrid (openGrid y level) days) buffer ≡ windowsBuffer y level (takenReadings gridDay dayGrid (openGrid y level) days) buffer)
+  pub grid : GridAsWhole dayGrid
+  pub customer : CustomerAsWhole dayCustomer
+  -- where the whole series is answered 5, the days before are taken, and that day answers the same place
   pub grid-place :
       (y level : ℕ) (xs buffer : List ℕ) (d q : ℕ)
       → windowsAnswer y level xs (length buffer) ≡ badPlace (record { day = d + 1; position = q })
       → BadThere gridDay dayGrid (openGrid y level) xs d q
-  pub customer :
-      (k : Basis) (days : List (List ℕ))
-      → customerOpens (k .sheet) (k .holidays) (k .prices) ≡ only 0
-      → stateAfter k days .seen ≡ basisDays k
-      → customerCloses (stateAfter k days) ≡ decideAnswer (k .sheet) (k .holidays) (k .prices) (k .option) (seriesTaken k days)
   pub customer-place :
       (k : Basis) (xs : List ℕ) (d q : ℕ)
-      → customerOpens (k .sheet) (k .holidays) (k .prices) ≡ only 0
-      → decideAnswer (k .sheet) (k .holidays) (k .prices) (k .option) xs ≡ badPlace (record { day = d + 1; position = q })
-      → BadThere customerDay dayCustomer (openCustomer (k .sheet) (k .holidays) (k .prices) (k .option)) xs d q
+      → opensFor k ≡ only 0
+      → decideFor k xs ≡ badPlace (record { day = d + 1; position = q })
+      → BadThere customerDay dayCustomer (openFor k) xs d q

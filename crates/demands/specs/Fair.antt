@@ -3,18 +3,18 @@
 -- quarters of two years, each with the same quarter of the other).
 use mathlib.Core.Path.{_≡_}
 use mathlib.Core.Bool.{cond}
+use mathlib.Core.Logic.{_⊎_}
 use mathlib.Core.List.{List}
 use Prim.Native.Nat.{ℕ, _≤_}
 use lib.Dec.{eqb}
+use Rattle.over.specs.Limits.{Within}
 use Rattle.answers.specs.Said.{Said}
-use Rattle.sheet.specs.Bytes.{sheetIn}
-use Rattle.tariff.specs.declared.Figures.{Figures}
 use Rattle.tariff.specs.declared.Charged.{Charged}
 use Rattle.tariff.specs.Charges.{general, charge}
 use Rattle.tariff.specs.Answers.{withCharge, payable}
 use Rattle.tariff.specs.Demand.{Fair}
-use Rattle.customer.specs.Answers.{termsOf, figuresUnder}
-use Rattle.customer.specs.Demand.{Basis, basisDays, LegalYear, Given, Alike, Agree, NoneHigher}
+use Rattle.customer.specs.Demand.{Basis, LegalYear, Given, Alike, Agree, NoneHigher}
+use Rattle.demands.specs.Year.{figuresIn}
 
 -- "Two complete legal years under one sheet, holiday list, price list and option, with equal peak and energy", each with its answer, whole or by
 -- days
@@ -24,10 +24,6 @@ pub record TwoYears (k : Basis) (xs ys : List ℕ) (a b : Said) : Type 0 where
   pub alike : Alike k xs ys
   pub first-given : Given k xs a
   pub second-given : Given k ys b
-
--- the figures of a year
-abbrev pub figuresIn : Basis → List ℕ → Figures
-figuresIn k xs = figuresUnder (termsOf (sheetIn (k .sheet)) (k .holidays) (k .prices) (k .option)) xs (basisDays k)
 
 -- an accepted answer: it carries a charge, which is fair
 pub record FairCharge (a : Said) : Type 0 where
@@ -47,7 +43,8 @@ pub record Fairness : Type 0 where
       → NoneHigher k xs ys
       → a .number ≡ 0
       → b .number ≡ 0
-  -- "(a refused customer pays the general charge)": a legal year is payable by c where it is answered 0, else by g
+  -- "(a refused customer pays the general charge)": a legal year is answered 0 or 8 to 11, and what is payable is c for 0, g for 8 to 11
+  pub answered : (k : Basis) (xs : List ℕ) (a : Said) → LegalYear k xs → Given k xs a → (a .number ≡ 0) ⊎ Within 8 11 (a .number)
   pub pays :
       (k : Basis) (xs : List ℕ) (a : Said)
       → LegalYear k xs

@@ -27,9 +27,9 @@ use Rattle.tariff.specs.Charges.{general, charge}
 use Rattle.tariff.specs.Answers.{plainFigures, peaksFigures, chargedFigures, plainOf, peaksOf, chargedOf}
 use Rattle.tariff.specs.Decision.{eligibleAnswer, chargeAnswer, judgeAnswer}
 use Rattle.customer.specs.declared.Customer.{Customer}
-use Rattle.customer.specs.Answers.{decideAnswer, openAnswer as customerOpens, openCustomer, shut as customerShut, dayAnswer as customerDay, dayCustomer, closeAnswer as customerCloses}
+use Rattle.customer.specs.Answers.{openAnswer as customerOpens, openCustomer, shut as customerShut, dayAnswer as customerDay, dayCustomer, closeAnswer as customerCloses}
 use Rattle.customer.specs.Demand.{Basis, basisRun}
-use Rattle.demands.specs.Fair.{figuresIn}
+use Rattle.demands.specs.Year.{decideFor, figuresIn}
 
 -- a refusal is an answer with another number than 0
 abbrev pub Refused : Said → Type 0
@@ -100,7 +100,7 @@ pub record Carried : Type 0 where
   pub judge : (f : Figures) (level : ℕ) (p : Prices) (option : Bool) → Carries (judgeAnswer f level p option) (yearColumn f p option)
   pub decide :
       (k : Basis) (xs : List ℕ)
-      → Carries (decideAnswer (k .sheet) (k .holidays) (k .prices) (k .option) xs) (withPlace (firstIllegal (basisRun k) customerMost xs) (yearColumn (figuresIn k xs) (k .prices) (k .option)))
+      → Carries (decideFor k xs) (withPlace (firstIllegal (basisRun k) customerMost xs) (yearColumn (figuresIn k xs) (k .prices) (k .option)))
   pub customer-open : (b hs : List ℕ) (p : Prices) → Carries (customerOpens b hs p) (bare [])
   pub customer-day :
       (c : Customer) (day : List ℕ)

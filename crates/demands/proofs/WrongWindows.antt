@@ -1,0 +1,181 @@
+-- Calls for windows that do nothing, always refuse or lay one fixed sheet do not meet document 01's definition: two series of 2025 on which they say
+-- something else.
+-- Assumes nothing.
+use mathlib.Core.Path.{_≡_, refl, sym, ap, _∙_}
+use mathlib.Core.Bool.{Bool, true, false, _&&_, and-false}
+use mathlib.Core.List.{List}
+use Prim.Native.Nat.{ℕ, _*_, _≤_, _<_}
+use native.Mathlib.Decide.{decLt, ℕ-discrete}
+use native.Mathlib.Omega.{arith}
+use borrow.Author.Tests.{lt-ltb, le-ltb, eq-eqb, ne-eqb}
+use lib.Dec.{eqb}
+use lib.ListN.{length, getD, take, replicate, length-replicate}
+use Rattle.over.specs.Limits.{Within}
+use Rattle.over.specs.Over.{joined, sumOver, countOver, anyOver, largestOver, counted}
+use Rattle.over.proofs.Bools.{clash, pair}
+use Rattle.over.proofs.Largest.{largest-le}
+use Rattle.over.proofs.Tables.{getD-table}
+use Rattle.over.proofs.Tests.{count-fails}
+use Rattle.answers.specs.Ruling.{dayQuarters, lineParts, peakParts, windowsMost}
+use Rattle.answers.specs.Said.{only}
+use Rattle.dates.specs.Dates.{leap, leapDay, daysTo, monthOf, seasonOf}
+use Rattle.dates.specs.Period.{periodDays, periodDate, periodSeason}
+use Rattle.readings.specs.Runs.{runDays, dayLen, quarterOf, runReadings, reading}
+use Rattle.readings.proofs.Runs.{len-some, quarter-is, period-run}
+use Rattle.sheet.specs.Windows.{seasons, isSet}
+use Rattle.sheet.specs.Bytes.{sheetSize, unmarked}
+use Rattle.sheet.specs.Answers.{readAnswer, readSheet}
+use Rattle.windows.specs.Chosen.{aboveLine, comesBefore, rank, kept}
+use Rattle.grid.specs.Curves.{periodRun, inSeason, topOf, curveAt}
+use Rattle.grid.specs.Answers.{windowsAnswer, windowsBuffer}
+use Rattle.grid.specs.Rows.{periodPeak}
+use Rattle.grid.specs.Rows.WindowsRow.{zero}
+use Rattle.grid.proofs.Curves.{curve-le, in-curve}
+use Rattle.grid.proofs.Exactly.{windows-exactly}
+use Rattle.tariff.proofs.Answered.{number-is}
+use Rattle.demands.specs.Answers.{curveIn, SheetLaid}
+use Rattle.demands.specs.Wrong.{Laid, WindowsCall, MeetsWindows, DoesNothing, RefusesSeries, OneSheet}
+use Rattle.demands.proofs.Series.{everywhere, everywhere-long, everywhere-at, everywhere-peak, atStart, start-later, start-long, start-peak}
+use Rattle.demands.proofs.Answers.{to-the-quarter-hour}
+
+-- the reference period of 2025, and a buffer of 56 zeros
+pub days-2025 : periodDays 2025 ≡ 366
+unfolding periodDays daysTo leapDay leap sumOver joined
+days-2025 = refl
+
+some-2025 : 0 < runDays (periodRun 2025)
+some-2025 = omega (arith, period-run 2025, days-2025)
+
+abbrev pub blankBuffer : List ℕ
+blankBuffer = replicate sheetSize 0
+
+-- a complete series of 2025 with a peak of 1 is accepted at every level
+module _ (xs : List ℕ) (long : length xs ≡ runReadings (periodRun 2025)) (peak : periodPeak 2025 xs ≡ 1) where
+  accepted : windowsAnswer 2025 5 xs (length blankBuffer) .number ≡ 0
+  accepted =
+      windows-exactly 2025 5 xs blankBuffer 0 .1
+      (zero (record { enough = omega (arith, length-replicate {A = ℕ} sheetSize 0); legal-year = record { from = omega arith; to = omega arith }; legal-level = record { from = omega arith; to = omega arith }; long = long }) (omega arith) (omega arith))
+
+  laid : SheetLaid 2025 5 xs blankBuffer
+  laid = to-the-quarter-hour 2025 5 xs blankBuffer accepted
+
+-- the same reading everywhere, and one reading at the very start, 1 September
+abbrev same : List ℕ
+same = everywhere (periodRun 2025) 1
+
+same-peak : periodPeak 2025 same ≡ 1
+same-peak = rw (← period-run 2025) (everywhere-peak (periodRun 2025) 1 some-2025)
+
+abbrev first : List ℕ
+first = atStart (periodRun 2025) 1
+
+first-peak : periodPeak 2025 first ≡ 1
+first-peak = rw (← period-run 2025) (start-peak (periodRun 2025) 1 some-2025)
+
+same-laid : SheetLaid 2025 5 same blankBuffer
+same-laid = laid same (everywhere-long (periodRun 2025) 1) same-peak
+
+first-laid : SheetLaid 2025 5 first blankBuffer
+first-laid = laid first (start-long (periodRun 2025) 1 some-2025) first-peak
+
+-- 56 zeros are no sheet
+blank-read : readAnswer blankBuffer ≡ only 12
+unfolding readAnswer unmarked anyOver joined
+blank-read = refl
+
+-- quarter 0 is kept where it has the peak, and a quarter with curve value 0 never is
+kept-top : (peak : ℕ) (curve : List ℕ) → 0 < peak → getD curve 0 0 ≡ peak → ((p : ℕ) → p < dayQuarters → getD curve p 0 ≤ peak) → kept peak curve 0 ≡ true
+unfolding kept rank aboveLine comesBefore
+kept-top peak curve h e low =
+    let none = count-fails (λ p. aboveLine peak (getD curve p 0) && comesBefore curve p 0) dayQuarters (λ p l. no-one p (low p l)) in
+    pair (lt-ltb (lineParts * peak) (peakParts * getD curve 0 0) (omega arith)) (lt-ltb (countOver (λ p. aboveLine peak (getD curve p 0) && comesBefore curve p 0) dayQuarters) windowsMost (omega arith))
+  where
+    last : (p : ℕ) → getD curve p 0 ≤ peak → Dec (getD curve p 0 ≡ getD curve 0 0) → comesBefore curve p 0 ≡ false
+    last p l (yes q) = simp (eq-eqb _ _ q, le-ltb p 0 (omega arith))
+    last p l (no n) = simp (ne-eqb _ _ n, le-ltb (getD curve 0 0) (getD curve p 0) (omega arith))
+
+    no-one : (p : ℕ) → getD curve p 0 ≤ peak → (aboveLine peak (getD curve p 0) && comesBefore curve p 0) ≡ false
+    no-one p l = rw (last p l (ℕ-discrete (getD curve p 0) (getD curve 0 0))) (and-false (aboveLine peak (getD curve p 0)))
+
+kept-none : (peak : ℕ) (curve : List ℕ) (q : ℕ) → getD curve q 0 ≡ 0 → kept peak curve q ≡ false
+unfolding kept aboveLine
+kept-none peak curve q e = rw (le-ltb (lineParts * peak) (peakParts * getD curve q 0) (omega arith))
+
+-- summer, season 3: the last day of the period lies in it, and the first does not
+last-season : periodSeason 2025 366 ≡ 3
+unfolding periodSeason periodDate seasonOf monthOf daysTo leapDay leap countOver sumOver joined
+last-season = refl
+
+first-season : periodSeason 2025 1 ≡ 4
+unfolding periodSeason periodDate seasonOf monthOf daysTo leapDay leap countOver sumOver joined
+first-season = refl
+
+abbrev summerCurve : List ℕ → List ℕ
+summerCurve xs = curveIn 2025 xs 3
+
+value-is : (xs : List ℕ) (q : ℕ) → q < dayQuarters → getD (summerCurve xs) q 0 ≡ curveAt 2025 xs (periodDays 2025) 3 q
+value-is xs q l = getD-table (curveAt 2025 xs (periodDays 2025) 3) dayQuarters q 0 l
+
+same-low : (q : ℕ) → q < dayQuarters → getD (summerCurve same) q 0 ≤ 1
+same-low q l = omega (arith, value-is same q l, curve-le 2025 same (periodDays 2025) 3 q, same-peak)
+
+same-top : getD (summerCurve same) 0 0 ≡ 1
+same-top =
+    let d : 365 < periodDays 2025 = omega (arith, days-2025) in
+    let r = everywhere-at (periodRun 2025) 1 365 0 (omega (arith, period-run 2025)) (len-some (periodRun 2025) 365) in
+    let c = in-curve 2025 same (periodDays 2025) 365 0 d (len-some (periodRun 2025) 365) in
+    omega (arith, same-low 0 (omega arith), value-is same 0 (omega arith), rw (last-season, ← quarter-is (periodRun 2025) 365 0) at c)
+
+same-kept : kept (periodPeak 2025 same) (summerCurve same) 0 ≡ true
+same-kept = rw same-peak (kept-top 1 (summerCurve same) (omega arith) same-top same-low)
+
+counted-low : (b : Bool) {v w : ℕ} → v ≤ w → counted b v ≤ w
+counted-low true l = l
+counted-low false l = omega arith
+
+first-zero : curveAt 2025 first (periodDays 2025) 3 0 ≤ 0
+unfolding curveAt topOf
+first-zero = largest-le _ (periodDays 2025) 0 (λ d l. go d (decLt 0 d))
+  where
+    go : (d : ℕ) → Dec (0 < d) → counted (inSeason 2025 d 3) (largestOver (λ p. counted (eqb (quarterOf (periodRun 2025) d p) 0) (reading (periodRun 2025) first d p)) (dayLen (periodRun 2025) d)) ≤ 0
+    go d (yes l) =
+        counted-low (inSeason 2025 d 3)
+        (largest-le _ (dayLen (periodRun 2025) d) 0 (λ p m. counted-low (eqb (quarterOf (periodRun 2025) d p) 0) (omega (arith, start-later (periodRun 2025) 1 d p l))))
+    go d (no l) =
+        let e : d ≡ 0 = omega arith in
+        rw (e, first-season) (omega arith)
+
+first-kept : kept (periodPeak 2025 first) (summerCurve first) 0 ≡ false
+first-kept = kept-none (periodPeak 2025 first) (summerCurve first) 0 (omega (arith, value-is first 0 (omega arith), first-zero))
+
+-- a call that meets the definition
+module _ (call : WindowsCall) (meets : MeetsWindows call) where
+  answer-is : (xs : List ℕ) → call 2025 5 xs blankBuffer .answer ≡ windowsAnswer 2025 5 xs (length blankBuffer)
+  answer-is xs = ap (λ (l : Laid). l .answer) (meets 2025 5 xs blankBuffer)
+
+  buffer-is : (xs : List ℕ) → call 2025 5 xs blankBuffer .buffer ≡ windowsBuffer 2025 5 xs blankBuffer
+  buffer-is xs = ap (λ (l : Laid). l .buffer) (meets 2025 5 xs blankBuffer)
+
+  pub doing-nothing : DoesNothing call → ⊥
+  doing-nothing idle =
+      let stays : windowsBuffer 2025 5 same blankBuffer ≡ blankBuffer = sym (buffer-is same) ∙ idle 2025 5 same blankBuffer in
+      let read : only 12 ≡ only 0 = sym blank-read ∙ ap (λ (b : List ℕ). readAnswer (take sheetSize b)) (sym stays) ∙ same-laid .accepted in
+      omega (arith, number-is read)
+
+  pub refusing-series : RefusesSeries call → ⊥
+  refusing-series refuses =
+      refuses 2025 5 same blankBuffer (number-is (answer-is same) ∙ accepted same (everywhere-long (periodRun 2025) 1) same-peak)
+
+  -- quarter 0 of summer is a window of the one series and not of the other
+  pub one-sheet : (windows : List Bool) → OneSheet call windows → ⊥
+  one-sheet windows fixed =
+      let a = fixed 2025 5 same blankBuffer (number-is (answer-is same) ∙ accepted same (everywhere-long (periodRun 2025) 1) same-peak) in
+      let b = fixed 2025 5 first blankBuffer (number-is (answer-is first) ∙ accepted first (start-long (periodRun 2025) 1 some-2025) first-peak) in
+      let summer : Within 1 seasons 3 = record { from = omega arith; to = omega arith } in
+      let set : isSet windows 3 0 ≡ true = sym (shown same windows a) ∙ same-laid .windows-are 3 0 summer (omega arith) ∙ same-kept in
+      let clear : isSet windows 3 0 ≡ false = sym (shown first windows b) ∙ first-laid .windows-are 3 0 summer (omega arith) ∙ first-kept in
+      clash set clear
+    where
+      shown : (xs : List ℕ) (windows : List Bool) → readSheet (take sheetSize (call 2025 5 xs blankBuffer .buffer)) .windows ≡ windows → isSet (readSheet (take sheetSize (windowsBuffer 2025 5 xs blankBuffer)) .windows) 3 0 ≡ isSet windows 3 0
+      shown xs windows e =
+          ap (λ (b : List ℕ). isSet (readSheet (take sheetSize b) .windows) 3 0) (sym (buffer-is xs)) ∙ ap (λ (w : List Bool). isSet w 3 0) e

@@ -1,0 +1,215 @@
+-- Decisions that always refuse, give one fixed charge or a made-up S do not meet document 01's definition: a year that is accepted at every capacity
+-- price.
+-- Assumes nothing.
+use mathlib.Core.Path.{_≡_, refl, sym, ap, _∙_}
+use mathlib.Core.Bool.{Bool, true, false, cond}
+use mathlib.Core.List.{List, []}
+use Prim.Native.Nat.{ℕ, _+_, _*_, _≤_, _<_}
+use native.Mathlib.Decide.{decLt}
+use native.Mathlib.Omega.{arith}
+use lib.Dec.{eqb}
+use lib.ListN.{getD}
+use Rattle.over.specs.Over.{joined, sumOver, countOver, anyOver, table, inBase}
+use Rattle.over.proofs.Bools.{clash, both, pair}
+use Rattle.over.proofs.Tests.{any-at}
+use Rattle.over.proofs.Tables.{getD-table}
+use Rattle.answers.specs.Ruling.{capacityMost, customerMost, yearOut, levelOut, shareOf}
+use Rattle.answers.specs.Said.{Said, only}
+use Rattle.dates.specs.Dates.{leap, leapDay, daysTo, monthOf, seasonOf, weekdayOf, mostDays}
+use Rattle.calendar.specs.Holidays.{listed, badHolidays}
+use Rattle.calendar.specs.Free.{christmas, free, candidate, bridge, kindBy, carries, windowDays}
+use Rattle.readings.specs.Runs.{runDays, dayLen, quarterOf}
+use Rattle.readings.proofs.Runs.{len-is, year-run}
+use Rattle.readings.proofs.Days.{series-legal}
+use Rattle.sheet.specs.Windows.{isSet, setIn, tooFull}
+use Rattle.sheet.specs.Bytes.{twoAt, windowsIn, sheetIn, unmarked}
+use Rattle.sheet.specs.Answers.{readAnswer}
+use Rattle.tariff.specs.declared.Prices.{Prices}
+use Rattle.tariff.specs.declared.Figures.{Figures}
+use Rattle.tariff.specs.Decision.{judgeAnswer}
+use Rattle.tariff.specs.Charges.{rowOf, chargeFor, general, reduced, floorOf, charge}
+use Rattle.tariff.specs.Answers.{payable}
+use Rattle.tariff.specs.Rows.{Legal, JudgeRow}
+use Rattle.tariff.specs.Rows.JudgeRow.{two, six, eight, nine, ten, eleven, zero}
+use Rattle.tariff.proofs.Answered.{number-is}
+use Rattle.tariff.proofs.Exactly.{judge-exactly}
+use Rattle.tariff.proofs.Limits.{prices-legal}
+use Rattle.customer.specs.declared.Terms.{Terms}
+use Rattle.customer.specs.Counts.{setOn, counts}
+use Rattle.customer.specs.Answers.{termsOf, openAnswer}
+use Rattle.customer.specs.Demand.{Basis, basisRun, basisDays, LegalYear}
+use Rattle.customer.specs.Demand.Given.{whole}
+use Rattle.customer.proofs.Demand.{given-one}
+use Rattle.customer.proofs.Answered.{open-done}
+use Rattle.figures.specs.Figures.{sumOf, anyOn, figuresOf, FirstPlace}
+use Rattle.figures.proofs.Peak.{first-place}
+use Rattle.demands.specs.Cases.{priced, exampleSheet}
+use Rattle.demands.specs.Year.{decideFor, figuresIn}
+use Rattle.demands.specs.Refusals.{yearColumn}
+use Rattle.demands.specs.Wrong.{DecisionCall, MeetsDecision, RefusesYears, OneCharge, sumSaid, MadeUpSum}
+use Rattle.demands.proofs.Refusals.{carried, said-is}
+use Rattle.demands.proofs.Fair.{legal-basis, fairness}
+use Rattle.demands.proofs.Series.{atStart, start-later, start-long, start-peak}
+
+-- the printed example's sheet
+pub example : List ℕ
+example = exampleSheet
+
+example-read : readAnswer example ≡ only 0
+unfolding example readAnswer unmarked twoAt yearOut levelOut tooFull setIn windowsIn table inBase anyOver countOver sumOver joined
+example-read = refl
+
+example-year : sheetIn example .year ≡ 2025
+unfolding example twoAt inBase joined
+example-year = refl
+
+example-share : shareOf (sheetIn example .level) ≡ 20
+unfolding example shareOf
+example-share = refl
+
+-- with no holidays 1 January 2025 carries no windows and 2 January does; at quarter 72 it has one
+new-year : carries 2025 [] 1 ≡ false
+unfolding leap leapDay daysTo weekdayOf listed christmas free candidate bridge kindBy anyOver sumOver joined
+new-year = refl
+
+day-two : carries 2025 [] 2 ≡ true
+unfolding leap leapDay daysTo weekdayOf listed christmas free candidate bridge kindBy anyOver sumOver joined
+day-two = refl
+
+set-there : setOn 2025 (windowsIn example) 1 72 ≡ true
+unfolding example setOn isSet seasonOf monthOf daysTo leapDay leap quarterOf windowsIn table countOver sumOver joined
+set-there = refl
+
+-- a price for capacity alone, the same in both rows
+abbrev pub capacityOnly : ℕ → Prices
+capacityOnly price = record { low = priced price 0; high = priced price 0 }
+
+abbrev pub basis : ℕ → Basis
+basis price = record { sheet = example; holidays = []; prices = capacityOnly price; option = false }
+
+no-holidays : badHolidays (sheetIn example .year) [] ≡ false
+unfolding badHolidays anyOver joined
+no-holidays = refl
+
+module _ (price : ℕ) (least : 100 ≤ price) (most : price ≤ capacityMost) where
+  abbrev k : Basis
+  k = basis price
+
+  abbrev terms : Terms
+  terms = termsOf (sheetIn example) [] (capacityOnly price) false
+
+  pub opens : openAnswer example [] (capacityOnly price) ≡ only 0
+  opens =
+      sym (open-done example [] (capacityOnly price) (sym example-read) no-holidays
+      (prices-legal (capacityOnly price) .1 (record { low = record { capacity = most; energy = omega arith }; high = record { capacity = most; energy = omega arith } })))
+
+  some-days : 0 < runDays (basisRun k)
+  some-days = omega (arith, year-run (sheetIn example .year))
+
+  -- one reading of 1,000 kW, on 1 January
+  abbrev xs : List ℕ
+  xs = atStart (basisRun k) 1000000
+
+  pub legal : LegalYear k xs
+  legal =
+      record {
+        opens = opens;
+        series = sym (series-legal (basisRun k) customerMost xs (start-long (basisRun k) 1000000 some-days) (omega (arith, start-peak (basisRun k) 1000000 some-days)));
+      }
+
+  -- a day that carries windows, by the table
+  carrying : (d : ℕ) → d < mostDays → getD (windowDays (sheetIn example .year) []) d false ≡ carries 2025 [] (d + 1)
+  unfolding windowDays
+  carrying d l = rw example-year (getD-table (λ j. carries 2025 [] (j + 1)) mostDays d false l)
+
+  not-first : (p : ℕ) → counts terms 0 p ≡ true → ⊥
+  not-first p t = clash (both _ _ t .0) (carrying 0 (omega arith) ∙ new-year)
+
+  there : counts terms 1 72 ≡ true
+  there = pair (carrying 1 (omega arith) ∙ day-two) (rw example-year set-there)
+
+  any-there : figuresIn k xs .any ≡ true
+  unfolding figuresOf anyOn
+  any-there =
+      any-at _ (basisDays k) 1 (omega arith) (any-at (counts terms 1) (dayLen (basisRun k) 1) 72 (omega (arith, len-is (basisRun k) 1)) there)
+
+  peak-is : figuresIn k xs .peak ≡ 1000000
+  unfolding figuresOf
+  peak-is = rw (← year-run (sheetIn example .year)) (start-peak (basisRun k) 1000000 some-days)
+
+  high-is : figuresIn k xs .high ≡ 0
+  high-is = go (first-place (basisRun k) (counts terms) xs (basisDays k) any-there)
+    where
+      go : FirstPlace (basisRun k) (counts terms) xs (basisDays k) (figuresIn k xs) → figuresIn k xs .high ≡ 0
+      go f = at (decLt 0 (f .on))
+        where
+          at : Dec (0 < f .on) → figuresIn k xs .high ≡ 0
+          at (yes l) = sym (f .has) ∙ start-later (basisRun k) 1000000 (f .on) (f .at) l
+          at (no l) =
+              let e : f .on ≡ 0 = omega arith in
+              absurd (not-first (f .at) (rw e at (f .counts-there)))
+
+  -- its charges: 1,000 kW cost g, nothing in a window costs nothing, so c is the floor
+  row-is : (few : Bool) → rowOf (capacityOnly price) few ≡ priced price 0
+  row-is true = refl
+  row-is false = refl
+
+  general-is : general (figuresIn k xs) (capacityOnly price) ≡ 1000 * price
+  unfolding general chargeFor
+  general-is = rw (row-is _, peak-is) (omega arith)
+
+  charge-is : charge (figuresIn k xs) (capacityOnly price) false ≡ 200 * price
+  unfolding charge reduced floorOf chargeFor
+  charge-is = rw (general-is, row-is _, high-is) (omega arith)
+
+  row : JudgeRow (figuresIn k xs) (sheetIn example .level) (capacityOnly price) false 0
+  row =
+      zero (legal-basis k xs legal) (record { some = any-there; share = rw (example-share, peak-is, high-is) (omega arith) }) (omega (arith, peak-is, high-is)) (omega (arith, general-is, charge-is))
+
+  accepted : decideFor k xs .number ≡ 0
+  accepted = number-is (given-one k legal whole) ∙ judge-exactly (figuresIn k xs) _ (capacityOnly price) false 0 .1 row
+
+  pays : payable (decideFor k xs) ≡ 200 * price
+  pays = fairness .pays k xs (decideFor k xs) legal whole ∙ rw accepted charge-is
+
+-- the decision over figures carries their sum and their peak, whatever it answers
+abbrev pub peakSaid : Said → ℕ
+peakSaid a = getD (a .carries) (cond (eqb (a .number) 0) 2 1) 0
+
+module _ (f : Figures) (level : ℕ) (p : Prices) (option : Bool) (l : Legal level p) where
+  shows : {n : ℕ} → JudgeRow f level p option n → (show : Said → ℕ) → show (judgeAnswer f level p option) ≡ show (record { number = n; carries = yearColumn f p option n })
+  shows {n} r show =
+      ap show (said-is (judgeAnswer f level p option) (yearColumn f p option) n (carried .judge f level p option) (judge-exactly f level p option n .1 r))
+
+  pub figures-said : (sumSaid (judgeAnswer f level p option) ≡ f .sum) × (peakSaid (judgeAnswer f level p option) ≡ f .peak)
+  figures-said = go (judge-exactly f level p option _ .0 refl)
+    where
+      go : {n : ℕ} → JudgeRow f level p option n → (sumSaid (judgeAnswer f level p option) ≡ f .sum) × (peakSaid (judgeAnswer f level p option) ≡ f .peak)
+      go (two a) = absurd (a (l .legal-level))
+      go (six a b) = absurd (b (l .legal-prices))
+      go (eight h n) = (shows (eight h n) sumSaid, shows (eight h n) peakSaid)
+      go (nine h n s) = (shows (nine h n s) sumSaid, shows (nine h n s) peakSaid)
+      go (ten h s m) = (shows (ten h s m) sumSaid, shows (ten h s m) peakSaid)
+      go (eleven h s m r) = (shows (eleven h s m r) sumSaid, shows (eleven h s m r) peakSaid)
+      go (zero h s m r) = (shows (zero h s m r) sumSaid, shows (zero h s m r) peakSaid)
+
+sum-said : (k : Basis) (xs : List ℕ) → LegalYear k xs → sumSaid (decideFor k xs) ≡ sumOf (basisRun k) xs (basisDays k)
+unfolding figuresOf
+sum-said k xs l = ap sumSaid (given-one k l whole) ∙ figures-said (figuresIn k xs) _ _ _ (legal-basis k xs l) .0
+
+-- a call that meets the definition
+module _ (call : DecisionCall) (meets : MeetsDecision call) where
+  pub refusing-years : RefusesYears call → ⊥
+  refusing-years refuses =
+      refuses (basis 100) (xs 100 (omega arith) (omega arith)) (number-is (meets _ _) ∙ accepted 100 (omega arith) (omega arith))
+
+  pub one-charge : (c : ℕ) → OneCharge call c → ⊥
+  one-charge c fixed = omega (arith, at 100 (omega arith) (omega arith), at 200 (omega arith) (omega arith))
+    where
+      at : (price : ℕ) → 100 ≤ price → price ≤ capacityMost → 200 * price ≡ c
+      at price least most =
+          sym (pays price least most) ∙ ap payable (sym (meets _ _))
+          ∙ fixed (basis price) (xs price least most) (number-is (meets _ _) ∙ accepted price least most)
+
+  pub made-up-sum : MadeUpSum call → ⊥
+  made-up-sum m = m .made-up (ap sumSaid (meets _ _) ∙ sum-said (m .basis) (m .series) (m .legal))
