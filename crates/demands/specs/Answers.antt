@@ -48,7 +48,7 @@ pub record ExactlyWhen : Type 0 where
   pub windows :
       (y level : ℕ) (xs buffer : List ℕ) (n : ℕ)
       → (windowsAnswer y level xs (length buffer) .number ≡ n) ↔ WindowsRow y level xs (length buffer) n
-  -- 0, 1, 2; 0, 4, 5, 13; 0, 7, 13, 14
+  -- 0, 1, 2; 0, 4, 5, 13; 0, 7, 13, 14, and 1 or 2 only on a state that no opening handed back
   pub grid-open : (y level n : ℕ) → (gridOpens y level .number ≡ n) ↔ OpenRow y level n
   pub grid-day : (g : Grid) (day : List ℕ) (n : ℕ) → (gridDay g day .number ≡ n) ↔ NextRow (periodRun (g .year)) gridMost (g .seen) day n
   pub grid-close : (g : Grid) (buffer : List ℕ) (n : ℕ) → (gridCloses g (length buffer) .number ≡ n) ↔ CloseRow g (length buffer) n
@@ -62,12 +62,13 @@ pub record ExactlyWhen : Type 0 where
   pub decide :
       (b hs : List ℕ) (p : Prices) (option : Bool) (xs : List ℕ) (n : ℕ)
       → (decideAnswer b hs p option xs .number ≡ n) ↔ DecideRow b hs p option xs n
-  -- 0, 1, 2, 3, 6, 12; 0, 4, 5, 13; 0, 8 to 11, 13
+  -- 0, 1, 2, 3, 6, 12; 0, 4, 5, 13; 0, 8 to 11, 13, and 2 or 6 only on a state that no opening handed back
   pub customer-open : (b hs : List ℕ) (p : Prices) (n : ℕ) → (customerOpens b hs p .number ≡ n) ↔ CustomerOpenRow b hs p n
   pub customer-day : (c : Customer) (day : List ℕ) (n : ℕ) → (customerDay c day .number ≡ n) ↔ CustomerDayRow c day n
   pub customer-close : (c : Customer) (n : ℕ) → (customerCloses c .number ≡ n) ↔ CustomerCloseRow c n
 
--- "A sheet that we write reads back as the same windows; two sheets with one meaning have the same bytes." Any bytes are below 256.
+-- "A sheet that we write reads back as the same windows; two sheets with one meaning have the same bytes." A sheet's array of windows has
+-- 384 places, and a lent slice is of bytes: `AreBytes` says that each entry is below 256.
 pub record Sheets : Type 0 where
   pub reads-back :
       (s : Sheet) (buffer : List ℕ)
@@ -86,26 +87,30 @@ pub record Sheets : Type 0 where
   pub fills : (s : Sheet) (buffer : List ℕ) → writeAnswer s (length buffer) .number ≡ 0 → written s buffer ≡ sheetBytes s ++ drop sheetSize buffer
   pub size : (s : Sheet) → length (sheetBytes s) ≡ sheetSize
 
--- "Windows .. are those of document 01, to the quarter-hour": the curve of a season, and what a reader of the bytes has that an accepted series leaves
+-- "Windows .. are those of document 01, to the quarter-hour": the curve of a season, and the sheet that a reader of the first 56 bytes has which a series
+-- leaves in the buffer. Each quarter of each season is a window exactly when it is kept of its curve.
 abbrev pub curveIn : ℕ → List ℕ → ℕ → List ℕ
 curveIn y xs s = table (curveAt y xs (periodDays y) s) dayQuarters
 
+abbrev pub sheetShown : ℕ → ℕ → List ℕ → List ℕ → Sheet
+sheetShown y level xs buffer = readSheet (take sheetSize (windowsBuffer y level xs buffer))
+
 pub record SheetLaid (y level : ℕ) (xs buffer : List ℕ) : Type 0 where
   pub accepted : readAnswer (take sheetSize (windowsBuffer y level xs buffer)) ≡ only 0
-  pub year-is : readSheet (take sheetSize (windowsBuffer y level xs buffer)) .year ≡ y
-  pub level-is : readSheet (take sheetSize (windowsBuffer y level xs buffer)) .level ≡ level
+  pub year-is : sheetShown y level xs buffer .year ≡ y
+  pub level-is : sheetShown y level xs buffer .level ≡ level
   pub windows-are :
       (s q : ℕ)
       → Within 1 seasons s
       → q < dayQuarters
-      → isSet (readSheet (take sheetSize (windowsBuffer y level xs buffer)) .windows) s q ≡ kept (periodPeak y xs) (curveIn y xs s) q
+      → isSet (sheetShown y level xs buffer .windows) s q ≡ kept (periodPeak y xs) (curveIn y xs s) q
   pub rest-stays : drop sheetSize (windowsBuffer y level xs buffer) ≡ drop sheetSize buffer
 
 abbrev pub ToTheQuarterHour : Type 0
 ToTheQuarterHour = (y level : ℕ) (xs buffer : List ℕ) → windowsAnswer y level xs (length buffer) .number ≡ 0 → SheetLaid y level xs buffer
 
 -- Numbered answers: "Closing after all days answers as the whole series does." Days are offered to a machine one by one, refused ones among them, until
--- all are in; the series is that of the taken days. Equality with the whole series, for any step of days:
+-- all are in; the series is that of the taken days. Equality with the whole series is said of any step, ours or another's.
 abbrev pub GridAsWhole : (Grid → List ℕ → Grid) → Type 0
 GridAsWhole step =
     (y level : ℕ) (days : List (List ℕ)) (buffer : List ℕ)
