@@ -17,10 +17,9 @@ use Rattle.readings.specs.Days.{offered, takenReadings, BadThere}
 use Rattle.readings.specs.Rows.{NextRow}
 use Rattle.sheet.specs.declared.Sheet.{Sheet}
 use Rattle.sheet.specs.Windows.{seasons, places, isSet}
-use Rattle.sheet.specs.Bytes.{sheetSize, sheetBytes}
+use Rattle.sheet.specs.Bytes.{sheetSize, sheetBytes, AreBytes}
 use Rattle.sheet.specs.Answers.{readAnswer, readSheet, readOf, writeAnswer, written}
 use Rattle.sheet.specs.Rows.{ReadRow, WriteRow}
-use Rattle.sheet.proofs.Back.{AreBytes}
 use Rattle.windows.specs.Chosen.{kept}
 use Rattle.grid.specs.declared.Grid.{Grid}
 use Rattle.grid.specs.Curves.{periodRun, curveAt}

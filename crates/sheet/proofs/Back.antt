@@ -20,7 +20,7 @@ use Rattle.answers.specs.Said.{only}
 use Rattle.answers.proofs.Laws.{charge-year, level-of}
 use Rattle.sheet.specs.declared.Sheet.{Sheet}
 use Rattle.sheet.specs.Windows.{seasons, places, placeOf, setIn, Legal}
-use Rattle.sheet.specs.Bytes.{mark, versionAt, yearAt, levelAt, windowsAt, windowBytes, sheetSize, sheetVersion, twoAt, twoBytes, windowByte, bytesOf, byteAt, sheetBytes, bitOf, windowAt, windowsIn, sheetIn}
+use Rattle.sheet.specs.Bytes.{mark, versionAt, yearAt, levelAt, windowsAt, windowBytes, sheetSize, sheetVersion, twoAt, twoBytes, windowByte, bytesOf, byteAt, sheetBytes, bitOf, windowAt, windowsIn, sheetIn, AreBytes}
 use Rattle.sheet.specs.Rows.ReadRow.{zero}
 use Rattle.sheet.specs.Rows.WriteRow.{zero}
 use Rattle.sheet.specs.Rows.{Formed, ReadRow, WriteRow}
@@ -77,10 +77,6 @@ read-written s h =
 pub one-meaning : (s t : Sheet) → Legal s → Legal t → sheetBytes s ≡ sheetBytes t → s ≡ t
 one-meaning s t h g e =
     ap (λ (r : SheetRead). r .sheet) (sym (read-written s h) ∙ ap readOf e ∙ read-written t g)
-
--- Writing what was read. A list of bytes, as a lent slice of them is.
-abbrev pub AreBytes : List ℕ → Type 0
-AreBytes b = (i : ℕ) → getD b i 0 < 256
 
 module _ (b : List ℕ) (small : AreBytes b) (f : Formed b) where
   -- the windows' bytes, back from their bits

@@ -2,7 +2,7 @@
 -- bits), level (8 bits), then 12 bytes for each season 1 to 4; quarter 0 is the top bit of the first byte."
 use mathlib.Core.Bool.{Bool, false, cond, not}
 use mathlib.Core.List.{List, [], _∷_, _++_}
-use Prim.Native.Nat.{ℕ, _+_, _-_, _*_, _/_, _%_}
+use Prim.Native.Nat.{ℕ, _+_, _-_, _*_, _/_, _%_, _<_}
 use lib.Dec.{ltb, eqb}
 use lib.ListN.{getD}
 use Rattle.over.specs.Over.{bit, anyOver, table, inBase, digitOf}
@@ -76,3 +76,7 @@ unmarked b = anyOver (λ k. not (eqb (getD b k 0) (getD mark k 0))) versionAt
 
 abbrev pub versionOut : List ℕ → Bool
 versionOut b = not (eqb (twoAt b versionAt) sheetVersion)
+
+-- a list of bytes, as a lent slice of them is
+abbrev pub AreBytes : List ℕ → Type 0
+AreBytes b = (i : ℕ) → getD b i 0 < 256
