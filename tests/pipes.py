@@ -74,7 +74,14 @@ def any_sizes():
         yield rng.choice([1, 2, 3, 5, 100, 383, 384, 385, 3_000])
 
 
+def build():
+    """Both programs first, one after the other: a run that has to build would be taken for one that waits."""
+    for word, sample in (("windows", "samples/printed.grd"), ("statement", "samples/printed.cus")):
+        subprocess.run(["./run", word, sample], stdout=subprocess.DEVNULL, check=True)
+
+
 def main():
+    build()
     tried, wrong = 0, []
     for name, word, data, text, asked in cases():
         runs = [fed(word, data, ones()), fed(word, data, any_sizes())]
