@@ -1,0 +1,8 @@
+//! The window program as document 01 has it, of the independent implementation.
+use std::io::{self, Read, Write};
+
+fn main() -> io::Result<()> {
+    let mut file = Vec::new();
+    io::stdin().read_to_end(&mut file)?;
+    io::stdout().write_all(independent::files::window_program(&file).as_bytes())
+}

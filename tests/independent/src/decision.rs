@@ -1,0 +1,252 @@
+//! "Customer's year and decision": over a whole series, and day by day.
+
+use crate::calendar::{carrying_days, holidays_allowed, season_of_month, year_days, year_seasons, LONGEST_YEAR};
+use crate::sheet::Sheet;
+use crate::{first_above, Refusal, QUARTERS};
+
+/// W
+pub const CUSTOMER_LIMIT: u32 = 1_000_000_000;
+/// cent per kW and year
+pub const CAPACITY_LIMIT: u32 = 100_000;
+/// thousandth of a cent per kWh
+pub const ENERGY_LIMIT: u32 = 50_000;
+
+/// per cent of the annual peak, by level from 1
+const SHARES: [u64; 7] = [5, 10, 10, 20, 20, 30, 30];
+/// W
+const LEAST_MOVED: u64 = 100_000;
+/// cent
+const LEAST_REDUCTION: u64 = 50_000;
+/// 2,500 hours in quarters
+const LONG_USE: u64 = 10_000;
+
+#[derive(Clone, Copy, Debug, Default, PartialEq, Eq)]
+pub struct Row {
+    pub capacity: u32,
+    pub energy: u32,
+}
+
+impl Row {
+    pub fn allowed(self) -> bool {
+        self.capacity <= CAPACITY_LIMIT && self.energy <= ENERGY_LIMIT
+    }
+
+    /// Cent, rounded once, half a cent up.
+    fn charge(self, capacity_figure: u32, sum: u64) -> u64 {
+        let exact = 4_000 * capacity_figure as u64 * self.capacity as u64 + sum * self.energy as u64;
+        (exact + 2_000_000) / 4_000_000
+    }
+}
+
+#[derive(Clone, Copy, Debug, Default, PartialEq, Eq)]
+pub struct Prices {
+    pub low: Row,
+    pub high: Row,
+}
+
+/// The highest in-window reading, where it first occurs: day from 1, quarter from 0.
+#[derive(Clone, Copy, Debug, PartialEq, Eq)]
+pub struct InWindow {
+    pub reading: u32,
+    pub day: u16,
+    pub quarter: u8,
+}
+
+/// A year's figures: M, S, H with its place.
+#[derive(Clone, Copy, Debug, Default, PartialEq, Eq)]
+pub struct Figures {
+    pub peak: u32,
+    pub sum: u64,
+    pub in_window: Option<InWindow>,
+}
+
+#[derive(Clone, Copy, Debug, PartialEq, Eq)]
+pub enum Decision {
+    Accepted { charge: u64, general: u64, peak: u32, sum: u64, in_window: InWindow },
+    Refused(Refusal),
+    NoWindow { general: u64, peak: u32, sum: u64 },
+    ShareNotReached { general: u64, peak: u32, sum: u64, in_window: InWindow },
+    TooLittleMoved { general: u64, peak: u32, sum: u64, in_window: InWindow },
+    TooLittleReduced { general: u64, peak: u32, sum: u64, in_window: InWindow },
+}
+
+/// The rules over a year's figures.
+pub fn judge(level: u8, prices: &Prices, option: bool, figures: &Figures) -> Decision {
+    let Figures { peak, sum, in_window } = *figures;
+    let short_use = sum < LONG_USE * peak as u64;
+    let row = if short_use { prices.low } else { prices.high };
+    let general = row.charge(peak, sum);
+    let Some(in_window) = in_window else {
+        return Decision::NoWindow { general, peak, sum };
+    };
+    let moved = (peak - in_window.reading) as u64;
+    if 100 * moved < SHARES[level as usize - 1] * peak as u64 {
+        return Decision::ShareNotReached { general, peak, sum, in_window };
+    }
+    if moved < LEAST_MOVED {
+        return Decision::TooLittleMoved { general, peak, sum, in_window };
+    }
+    let reduced_row = if option { prices.high } else { row };
+    let reduced = reduced_row.charge(in_window.reading, sum);
+    let floor = general.div_ceil(5);
+    let charge = reduced.max(floor);
+    if general < charge + LEAST_REDUCTION {
+        return Decision::TooLittleReduced { general, peak, sum, in_window };
+    }
+    Decision::Accepted { charge, general, peak, sum, in_window }
+}
+
+fn peak_and_sum(day: &[u32; QUARTERS]) -> (u32, u64) {
+    let mut peak = 0;
+    let mut sum = 0;
+    for &reading in day {
+        peak = reading.max(peak);
+        sum += reading as u64;
+    }
+    (peak, sum)
+}
+
+fn highest_masked(day: &[u32; QUARTERS], mask: &[u32; QUARTERS]) -> u32 {
+    day.iter().zip(mask).fold(0, |highest, (&reading, &bits)| highest.max(reading & bits))
+}
+
+impl Figures {
+    fn take(&mut self, day: &[u32; QUARTERS]) {
+        let (peak, sum) = peak_and_sum(day);
+        self.peak = self.peak.max(peak);
+        self.sum += sum;
+    }
+
+    /// A day that carries windows, in a season that has some.
+    fn take_in_window(&mut self, number: u16, day: &[u32; QUARTERS], mask: &[u32; QUARTERS]) {
+        let reading = highest_masked(day, mask);
+        if self.in_window.is_none_or(|highest| highest.reading < reading) {
+            let is_first = |quarter: &usize| mask[*quarter] != 0 && day[*quarter] == reading;
+            let quarter = (0..QUARTERS).find(is_first).unwrap_or(0) as u8;
+            self.in_window = Some(InWindow { reading, day: number, quarter });
+        }
+    }
+}
+
+/// What a year is decided by, readings aside.
+#[derive(Clone, Copy, Debug, PartialEq, Eq)]
+pub struct Terms {
+    sheet: Sheet,
+    option: bool,
+    prices: Prices,
+    carries: [bool; LONGEST_YEAR],
+}
+
+impl Terms {
+    /// The sheet's tests, then 3, then 6.
+    pub fn new(sheet: &[u8], option: bool, holidays: &[u16], prices: &Prices) -> Result<Terms, Refusal> {
+        let sheet = Sheet::read(sheet)?;
+        if !holidays_allowed(sheet.year, holidays) {
+            return Err(Refusal::Holidays);
+        }
+        if !(prices.low.allowed() && prices.high.allowed()) {
+            return Err(Refusal::Price);
+        }
+        Ok(Terms { sheet, option, prices: *prices, carries: carrying_days(sheet.year, holidays) })
+    }
+
+    fn days(&self) -> u16 {
+        year_days(self.sheet.year)
+    }
+
+    /// The figures of a series that has the year's length.
+    fn figures(&self, series: &[u32]) -> Figures {
+        let mut figures = Figures::default();
+        let masks = self.sheet.seasons.map(|quarters| quarters.mask());
+        let mut days = series.chunks_exact(QUARTERS).zip(self.carries).zip(1..);
+        for (season, length) in year_seasons(self.sheet.year) {
+            let has_windows = !self.sheet.seasons[season - 1].is_empty();
+            for ((readings, carries), number) in days.by_ref().take(length as usize) {
+                let Ok(day) = <&[u32; QUARTERS]>::try_from(readings) else { continue };
+                figures.take(day);
+                if carries && has_windows {
+                    figures.take_in_window(number, day, &masks[season - 1]);
+                }
+            }
+        }
+        figures
+    }
+
+    fn decide(&self, figures: &Figures) -> Decision {
+        judge(self.sheet.level, &self.prices, self.option, figures)
+    }
+}
+
+/// Sheet (12, 1, 2, 12), then 3, 6, 4, 5, 8, 9, 10, 11.
+pub fn decide(sheet: &[u8], option: bool, holidays: &[u16], prices: &Prices, series: &[u32]) -> Decision {
+    let terms = match Terms::new(sheet, option, holidays, prices) {
+        Ok(terms) => terms,
+        Err(refusal) => return Decision::Refused(refusal),
+    };
+    if series.len() != terms.days() as usize * QUARTERS {
+        return Decision::Refused(Refusal::Length);
+    }
+    let figures = terms.figures(series);
+    if figures.peak > CUSTOMER_LIMIT {
+        return Decision::Refused(first_above(series, CUSTOMER_LIMIT).unwrap_or(Refusal::Length));
+    }
+    terms.decide(&figures)
+}
+
+/// A customer's year day by day. A refused opening has no terms: every day and every closing is 13.
+#[derive(Clone, Copy, Debug, PartialEq, Eq)]
+pub struct CustomerDays {
+    terms: Option<Terms>,
+    taken: u16,
+    /// the month of the next day from 1, and the days of it that are to come
+    month: usize,
+    month_left: u16,
+    figures: Figures,
+}
+
+impl CustomerDays {
+    pub fn open(sheet: &[u8], option: bool, holidays: &[u16], prices: &Prices) -> (Result<(), Refusal>, CustomerDays) {
+        let opened = Terms::new(sheet, option, holidays, prices);
+        let state = CustomerDays { terms: opened.ok(), taken: 0, month: 1, month_left: 31, figures: Figures::default() };
+        (opened.map(|_| ()), state)
+    }
+
+    pub fn day(&mut self, readings: &[u32]) -> Result<(), Refusal> {
+        let Some(terms) = &self.terms else {
+            return Err(Refusal::Sequence);
+        };
+        if self.taken >= terms.days() {
+            return Err(Refusal::Sequence);
+        }
+        let Ok(day) = <&[u32; QUARTERS]>::try_from(readings) else {
+            return Err(Refusal::Length);
+        };
+        let (peak, sum) = peak_and_sum(day);
+        let number = self.taken + 1;
+        if peak > CUSTOMER_LIMIT {
+            let quarter = day.iter().position(|&reading| reading > CUSTOMER_LIMIT).unwrap_or(0) as u8;
+            return Err(Refusal::Reading { day: number, quarter });
+        }
+        self.figures.peak = self.figures.peak.max(peak);
+        self.figures.sum += sum;
+        let windows = terms.sheet.seasons[season_of_month(self.month) - 1];
+        if terms.carries[self.taken as usize] && !windows.is_empty() {
+            self.figures.take_in_window(number, day, &windows.mask());
+        }
+        let year = terms.sheet.year;
+        self.taken = number;
+        self.month_left -= 1;
+        if self.month_left == 0 && self.month < 12 {
+            self.month += 1;
+            self.month_left = crate::calendar::month_days(year, self.month);
+        }
+        Ok(())
+    }
+
+    pub fn close(&self) -> Decision {
+        match &self.terms {
+            Some(terms) if self.taken == terms.days() => terms.decide(&self.figures),
+            _ => Decision::Refused(Refusal::Sequence),
+        }
+    }
+}
