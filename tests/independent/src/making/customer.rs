@@ -132,7 +132,7 @@ pub fn customer_file(random: &mut Random) -> Made {
     let (name, mut series) = some_series(random, &sheet, &holidays, &mut prices);
     let mut recipe = format!("customer file, {name}");
     let mut header = Header::new(&sheet, random.percent(50), &holidays, &prices);
-    if random.percent(12) {
+    if random.percent(15) {
         recipe += header.spoil(random, sheet.year);
     }
     if random.percent(6) {

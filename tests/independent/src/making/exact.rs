@@ -49,7 +49,7 @@ fn target(peak: u64, in_window: u64, sum: u64) -> Target {
 }
 
 fn at_the_share(random: &mut Random, level: u8) -> Target {
-    let peak = some_peak(random);
+    let peak = if random.percent(70) { 100 * random.between(4_000, 100_000) } else { some_peak(random) };
     let moved = (SHARES[level as usize - 1] * peak).div_ceil(100);
     let sum = some_sum(random, peak);
     target(peak, near(random, peak - moved), sum)

@@ -8,11 +8,11 @@ use std::collections::BTreeSet;
 const FIXED: [(usize, u16); 7] = [(1, 1), (1, 6), (5, 1), (10, 3), (11, 1), (12, 25), (12, 26)];
 
 /// Days of a week from its Monday that are listed together.
-const BAITS: [&[i32]; 9] = [&[1], &[3], &[1, 3], &[0, 1], &[3, 4], &[0, 1, 3], &[1, 3, 4], &[0, 3], &[1, 4]];
+const BAITS: [&[i32]; 8] = [&[1], &[3], &[1, 3], &[1, 3], &[0, 1, 3], &[0, 1, 3], &[1, 3, 4], &[0, 3]];
 
 /// Tuesdays and Thursdays of some weeks, sometimes with the Monday or the Friday itself.
 fn baits(random: &mut Random, year: u16, list: &mut BTreeSet<u16>) {
-    for _ in 0..random.between(1, 14) {
+    for _ in 0..random.between(1, 10) {
         let day = random.between(1, year_days(year) as u64) as u16;
         let monday = day as i32 - weekday(year, day) as i32;
         let offsets = *random.pick(&BAITS);

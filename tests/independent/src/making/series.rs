@@ -76,9 +76,10 @@ fn delicate_days(random: &mut Random, year: &Year, holidays: &[u16]) -> Vec<usiz
         }
         start += season_days;
     }
-    for &holiday in holidays {
-        let day = holiday as usize - 1;
-        days.extend([day.saturating_sub(1), day, (day + 1).min(last), (day + 3).min(last), day.saturating_sub(3)]);
+    let listed = holidays.iter().map(|&holiday| holiday as usize - 1);
+    let beside: Vec<usize> = listed.flat_map(|day| [day.saturating_sub(1), day, (day + 1).min(last), (day + 3).min(last)]).collect();
+    if !beside.is_empty() && random.percent(70) {
+        days = beside;
     }
     (0..random.between(1, 8)).map(|_| *random.pick(&days)).collect()
 }
