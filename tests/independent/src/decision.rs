@@ -96,14 +96,15 @@ pub fn judge(level: u8, prices: &Prices, option: bool, figures: &Figures) -> Dec
     Decision::Accepted { charge, general, peak, sum, in_window }
 }
 
-fn peak_and_sum(day: &[u32; QUARTERS]) -> (u32, u64) {
-    let mut peak = 0;
-    let mut sum = 0;
-    for &reading in day {
-        peak = reading.max(peak);
-        sum += reading as u64;
-    }
-    (peak, sum)
+/// Four legal readings fit 32 bits, so only their sums are widened. With an illegal reading the sum may be another; then it is not asked for.
+fn sum(day: &[u32; QUARTERS]) -> u64 {
+    const PART: usize = QUARTERS / 4;
+    let four = |at: usize| day[at].wrapping_add(day[at + PART]).wrapping_add(day[at + 2 * PART]).wrapping_add(day[at + 3 * PART]);
+    (0..PART).map(|at| four(at) as u64).sum()
+}
+
+fn highest(day: &[u32; QUARTERS]) -> u32 {
+    day.iter().copied().fold(0, u32::max)
 }
 
 fn highest_masked(day: &[u32; QUARTERS], mask: &[u32; QUARTERS]) -> u32 {
@@ -112,9 +113,8 @@ fn highest_masked(day: &[u32; QUARTERS], mask: &[u32; QUARTERS]) -> u32 {
 
 impl Figures {
     fn take(&mut self, day: &[u32; QUARTERS]) {
-        let (peak, sum) = peak_and_sum(day);
-        self.peak = self.peak.max(peak);
-        self.sum += sum;
+        self.peak = self.peak.max(highest(day));
+        self.sum += sum(day);
     }
 
     /// A day that carries windows, in a season that has some.
@@ -135,6 +135,7 @@ pub struct Terms {
     option: bool,
     prices: Prices,
     carries: [bool; LONGEST_YEAR],
+    masks: [[u32; QUARTERS]; 4],
 }
 
 impl Terms {
@@ -147,7 +148,8 @@ impl Terms {
         if !(prices.low.allowed() && prices.high.allowed()) {
             return Err(Refusal::Price);
         }
-        Ok(Terms { sheet, option, prices: *prices, carries: carrying_days(sheet.year, holidays) })
+        let masks = sheet.seasons.map(|quarters| quarters.mask());
+        Ok(Terms { sheet, option, prices: *prices, carries: carrying_days(sheet.year, holidays), masks })
     }
 
     fn days(&self) -> u16 {
@@ -157,7 +159,6 @@ impl Terms {
     /// The figures of a series that has the year's length.
     fn figures(&self, series: &[u32]) -> Figures {
         let mut figures = Figures::default();
-        let masks = self.sheet.seasons.map(|quarters| quarters.mask());
         let mut days = series.chunks_exact(QUARTERS).zip(self.carries).zip(1..);
         for (season, length) in year_seasons(self.sheet.year) {
             let has_windows = !self.sheet.seasons[season - 1].is_empty();
@@ -165,7 +166,7 @@ impl Terms {
                 let Ok(day) = <&[u32; QUARTERS]>::try_from(readings) else { continue };
                 figures.take(day);
                 if carries && has_windows {
-                    figures.take_in_window(number, day, &masks[season - 1]);
+                    figures.take_in_window(number, day, &self.masks[season - 1]);
                 }
             }
         }
@@ -221,17 +222,15 @@ impl CustomerDays {
         let Ok(day) = <&[u32; QUARTERS]>::try_from(readings) else {
             return Err(Refusal::Length);
         };
-        let (peak, sum) = peak_and_sum(day);
         let number = self.taken + 1;
-        if peak > CUSTOMER_LIMIT {
+        if highest(day) > CUSTOMER_LIMIT {
             let quarter = day.iter().position(|&reading| reading > CUSTOMER_LIMIT).unwrap_or(0) as u8;
             return Err(Refusal::Reading { day: number, quarter });
         }
-        self.figures.peak = self.figures.peak.max(peak);
-        self.figures.sum += sum;
-        let windows = terms.sheet.seasons[season_of_month(self.month) - 1];
-        if terms.carries[self.taken as usize] && !windows.is_empty() {
-            self.figures.take_in_window(number, day, &windows.mask());
+        self.figures.take(day);
+        let season = season_of_month(self.month) - 1;
+        if terms.carries[self.taken as usize] && !terms.sheet.seasons[season].is_empty() {
+            self.figures.take_in_window(number, day, &terms.masks[season]);
         }
         let year = terms.sheet.year;
         self.taken = number;

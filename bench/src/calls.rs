@@ -1,0 +1,95 @@
+//! The proved calls as Rust sees them (crates/bench_calls). A slice is a pointer and then a length.
+
+use independent::decision::Prices;
+
+/// An answer's number, how many figures it carries, and the figures.
+#[repr(C)]
+#[derive(Clone, Copy, Debug, PartialEq, Eq)]
+pub struct Flat {
+    pub number: u64,
+    pub count: u64,
+    pub figures: [u64; 7],
+}
+
+type GridCall = unsafe extern "C" fn(u16, u8, *const u32, usize, *mut u8, usize) -> Flat;
+type CustomerCall = unsafe extern "C" fn(*const u8, usize, *const u16, usize, u32, u32, u32, u32, bool, *const u32, usize) -> Flat;
+
+unsafe extern "C" {
+    fn bench_windows(year: u16, level: u8, series: *const u32, length: usize, out: *mut u8, room: usize) -> Flat;
+    fn bench_grid_days(year: u16, level: u8, series: *const u32, length: usize, out: *mut u8, room: usize) -> Flat;
+    fn bench_decide(
+        sheet: *const u8,
+        sheet_length: usize,
+        holidays: *const u16,
+        holiday_count: usize,
+        low_capacity: u32,
+        low_energy: u32,
+        high_capacity: u32,
+        high_energy: u32,
+        option: bool,
+        series: *const u32,
+        length: usize,
+    ) -> Flat;
+    fn bench_customer_days(
+        sheet: *const u8,
+        sheet_length: usize,
+        holidays: *const u16,
+        holiday_count: usize,
+        low_capacity: u32,
+        low_energy: u32,
+        high_capacity: u32,
+        high_energy: u32,
+        option: bool,
+        series: *const u32,
+        length: usize,
+    ) -> Flat;
+}
+
+/// A customer's year without its readings.
+pub struct Basis {
+    pub sheet: [u8; 56],
+    pub holidays: Vec<u16>,
+    pub prices: Prices,
+    pub option: bool,
+}
+
+fn grid_call(call: GridCall, year: u16, level: u8, series: &[u32], out: &mut [u8]) -> Flat {
+    // SAFETY: the pointers and lengths are those of slices that live through the call
+    unsafe { call(year, level, series.as_ptr(), series.len(), out.as_mut_ptr(), out.len()) }
+}
+
+fn customer_call(call: CustomerCall, basis: &Basis, series: &[u32]) -> Flat {
+    let Basis { sheet, holidays, prices: Prices { low, high }, option } = basis;
+    // SAFETY: as above
+    unsafe {
+        call(
+            sheet.as_ptr(),
+            sheet.len(),
+            holidays.as_ptr(),
+            holidays.len(),
+            low.capacity,
+            low.energy,
+            high.capacity,
+            high.energy,
+            *option,
+            series.as_ptr(),
+            series.len(),
+        )
+    }
+}
+
+pub fn windows(year: u16, level: u8, series: &[u32], out: &mut [u8]) -> Flat {
+    grid_call(bench_windows, year, level, series, out)
+}
+
+pub fn grid_days(year: u16, level: u8, series: &[u32], out: &mut [u8]) -> Flat {
+    grid_call(bench_grid_days, year, level, series, out)
+}
+
+pub fn decide(basis: &Basis, series: &[u32]) -> Flat {
+    customer_call(bench_decide, basis, series)
+}
+
+pub fn customer_days(basis: &Basis, series: &[u32]) -> Flat {
+    customer_call(bench_customer_days, basis, series)
+}

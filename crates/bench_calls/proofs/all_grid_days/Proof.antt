@@ -1,0 +1,63 @@
+-- `bench_calls::all_grid_days` meets its contract. The loop's invariant: the state is that after the first d days of the series.
+-- Assumes nothing.
+use mathlib.Core.Path.{_≡_, sym, ap, _∙_}
+use Prim.Native.Nat.{_≤_, _-_, _+_}
+use native.Mathlib.Omega.{arith}
+use borrow.Author.Needs.{needs}
+use Rattle.dates.specs.Period.{periodDays}
+use Rattle.readings.specs.Days.{offered, daysOf}
+use Rattle.readings.specs.Part.{dayPart}
+use Rattle.grid.specs.declared.Grid.{Grid}
+use Rattle.grid.specs.Answers.{dayGrid}
+use Rattle.bench_calls.specs.Days.{gridAfter}
+use Rattle.bench_calls.proofs.Days.{days-none, days-more}
+use Rattle.bench_calls.proofs.all_grid_days.Statement.{statement}
+use Rattle.bench_calls.proofs.all_grid_days.Tie as tie
+
+abbrev Inv-loop : tie.InvT-loop
+Inv-loop year level series state₀ d₀ d-end state d = (d-end ≡ periodDays year) × (d ≤ d-end) × (state ≡ offered dayGrid state₀ (daysOf series d))
+
+abbrev μ-loop : tie.MeasureT-loop
+μ-loop year level series state₀ d₀ d-end state d = d-end - d
+
+loop-holds : tie.Need-loop-holds Inv-loop μ-loop
+loop-holds c = (c .period-days .ensures, omega arith, sym (days-none dayGrid _ _))
+
+loop-again : tie.Need-loop-again Inv-loop μ-loop
+loop-again c =
+    let at = c .before .before .before .before .loop in
+    let series = c .before .before .before .before .before .before .before .before .before .args .series .now in (
+      at .inv .0,
+      omega arith,
+      c .before .day .ensures .1
+          ∙ ap (dayGrid (at .state)) (c .before .before .day-part .ensures)
+          ∙ ap (λ (s : Grid). dayGrid s (dayPart series (at .d + 1))) (at .inv .2)
+          ∙ sym (days-more dayGrid _ series (at .d)),
+    )
+
+returns : tie.Need-returns Inv-loop μ-loop
+returns c =
+    let a = c .before .before .before .before .before .before .args in
+    let at = c .before .loop in
+    let all : at .d ≡ periodDays (a .year) = omega arith in
+    at .inv .2
+    ∙ ap (λ (s : Grid). offered dayGrid s (daysOf (a .series .now) (at .d))) (c .before .before .before .before .«open» .ensures .1)
+    ∙ ap (gridAfter (a .year) (a .level) (a .series .now)) all
+
+pub all-grid-days-spec : {M : Type 1} → statement M
+all-grid-days-spec =
+    tie.close
+    (tie.spec
+    Inv-loop
+    μ-loop
+    (λ c κs. search needs)  -- open-requires
+    (λ c κs. search needs)  -- period-days-requires
+    loop-holds
+    (λ c. search needs)  -- cast-day-part
+    (λ c. search needs)  -- add-day-part
+    (λ c κs. search needs)  -- day-part-requires
+    (λ c κs. search needs)  -- day-requires
+    (λ c. search needs)  -- add-d
+    (λ c. search needs)  -- loop-less
+    loop-again
+    returns)

@@ -1,0 +1,28 @@
+-- `bench_calls::bench_customer_days` meets its contract: it closes the state after all days, over the price list.
+-- Assumes nothing.
+use mathlib.Core.Path.{ap, _∙_}
+use borrow.Author.Needs.{needs}
+use Rattle.tariff.specs.declared.Prices.{Prices}
+use Rattle.customer.specs.Answers.{closeAnswer}
+use Rattle.bench_calls.specs.Flat.{flatOf}
+use Rattle.bench_calls.specs.Days.{customerDaysAnswer}
+use Rattle.bench_calls.proofs.bench_customer_days.Statement.{statement}
+use Rattle.bench_calls.proofs.bench_customer_days.Tie as tie
+
+returns : tie.Need-returns
+returns c =
+    let a = c .before .before .before .before .before .before .before .args in
+    c .of-decision .ensures
+    ∙ ap flatOf (c .before .close .ensures
+    ∙ ap closeAnswer (c .before .before .all-customer-days .ensures)
+    ∙ ap (λ (p : Prices). customerDaysAnswer (a .sheet .now) (a .holidays .now) p (a .option) (a .series .now)) (c .before .before .before .prices-of .ensures))
+
+pub bench-customer-days-spec : {M : Type 1} → statement M
+bench-customer-days-spec =
+    tie.close
+    (tie.spec
+    (λ c κs. search needs)  -- prices-of-requires
+    (λ c κs. search needs)  -- all-customer-days-requires
+    (λ c κs. search needs)  -- close-requires
+    (λ c κs. search needs)  -- of-decision-requires
+    returns)

@@ -1,0 +1,25 @@
+-- `bench_calls::bench_decide` meets its contract: it is the called function's, over the price list.
+-- Assumes nothing.
+use mathlib.Core.Path.{ap, _∙_}
+use borrow.Author.Needs.{needs}
+use Rattle.tariff.specs.declared.Prices.{Prices}
+use Rattle.customer.specs.Answers.{decideAnswer}
+use Rattle.bench_calls.specs.Flat.{flatOf}
+use Rattle.bench_calls.proofs.bench_decide.Statement.{statement}
+use Rattle.bench_calls.proofs.bench_decide.Tie as tie
+
+returns : tie.Need-returns
+returns c =
+    let a = c .before .before .before .before .before .before .args in
+    c .of-decision .ensures
+    ∙ ap flatOf (c .before .decide .ensures
+    ∙ ap (λ (p : Prices). decideAnswer (a .sheet .now) (a .holidays .now) p (a .option) (a .series .now)) (c .before .before .prices-of .ensures))
+
+pub bench-decide-spec : {M : Type 1} → statement M
+bench-decide-spec =
+    tie.close
+    (tie.spec
+    (λ c κs. search needs)  -- prices-of-requires
+    (λ c κs. search needs)  -- decide-requires
+    (λ c κs. search needs)  -- of-decision-requires
+    returns)

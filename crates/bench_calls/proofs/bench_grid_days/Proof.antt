@@ -1,0 +1,27 @@
+-- `bench_calls::bench_grid_days` meets its contract: it closes the state after all days.
+-- Assumes nothing.
+use mathlib.Core.Path.{ap, _∙_}
+use borrow.Author.Needs.{needs}
+use lib.ListN.{length}
+use Rattle.grid.specs.declared.Grid.{Grid}
+use Rattle.grid.specs.Answers.{closeAnswer, closeBuffer}
+use Rattle.bench_calls.specs.Flat.{flatOf}
+use Rattle.bench_calls.proofs.bench_grid_days.Statement.{statement}
+use Rattle.bench_calls.proofs.bench_grid_days.Tie as tie
+
+returns : tie.Need-returns
+returns c =
+    let called = c .before .before .before .close .ensures in
+    let state = c .before .before .before .before .before .all-grid-days .ensures in
+    let out = c .before .before .before .before .before .before .before .before .args .out .now in
+    (c .of-grid .ensures ∙ ap flatOf (called .0 ∙ ap (λ (g : Grid). closeAnswer g (length out)) state), called .1 ∙ ap (λ (g : Grid). closeBuffer g out) state)
+
+pub bench-grid-days-spec : {M : Type 1} → statement M
+bench-grid-days-spec =
+    tie.close
+    (tie.spec
+    (λ c κs. search needs)  -- all-grid-days-requires
+    (λ c κs. search needs)  -- close-requires
+    (λ c κs. search needs)  -- of-grid-requires
+    (λ c. search needs)  -- same-length
+    returns)

@@ -1,0 +1,21 @@
+-- `bench_calls::bench_windows` meets its contract: it is the called function's.
+-- Assumes nothing.
+use mathlib.Core.Path.{ap, _∙_}
+use borrow.Author.Needs.{needs}
+use Rattle.bench_calls.specs.Flat.{flatOf}
+use Rattle.bench_calls.proofs.bench_windows.Statement.{statement}
+use Rattle.bench_calls.proofs.bench_windows.Tie as tie
+
+returns : tie.Need-returns
+returns c =
+    let called = c .before .before .before .windows .ensures in
+    (c .of-grid .ensures ∙ ap flatOf (called .0), called .1)
+
+pub bench-windows-spec : {M : Type 1} → statement M
+bench-windows-spec =
+    tie.close
+    (tie.spec
+    (λ c κs. search needs)  -- windows-requires
+    (λ c κs. search needs)  -- of-grid-requires
+    (λ c. search needs)  -- same-length
+    returns)
