@@ -1,1 +1,2 @@
 pub mod Forty
+pub mod Ahead

@@ -1,10 +1,14 @@
 // The high-load windows of four curves: the quarters above the line, at most forty in a season.
 // Main theorem: a season keeps exactly the smaller of forty and the number above the line, and no kept quarter is lower than one left out.
 ghost use mathlib.Core.Path.{_≡_};
-ghost use Prim.Native.Nat.{_<_};
+ghost use mathlib.Core.Bool.{true};
+ghost use Prim.Native.Nat.{_<_, _≤_};
+ghost use lib.Dec.{leb, ltb};
+ghost use lib.ListN.{getD};
+ghost use Rattle.over.specs.Over.{bit};
 ghost use Rattle.answers.specs.Ruling.{dayQuarters};
 ghost use Rattle.sheet.specs.Windows.{seasons};
-ghost use Rattle.windows.specs.Chosen.{aboveLine, aboveIn, comesBefore, rank, kept, keptOf, chosenOf, curveOf, curvesOf};
+ghost use Rattle.windows.specs.Chosen.{aboveLine, aboveIn, rank, kept, keptOf, chosenOf, curveOf, curvesOf};
 
 // The line lies at 19 twentieths of the peak.
 const LINE_PARTS: u64 = 19;
@@ -42,23 +46,31 @@ fn is_above(peak: u32, value: u32) -> bool
     LINE_PARTS * (peak as u64) < PEAK_PARTS * (value as u64)
 }
 
-fn comes_before(curve: &[u32; 96], p: usize, q: usize) -> bool
-    requires { ⌜ (p < dayQuarters) × (q < dayQuarters) ⌝ }
-    ensures { λ r. ⌜ r ≡ comesBefore (now (curve .entry)) p q ⌝ }
+// What a quarter before one of value b adds to its rank, and what one after it adds: among equals the earlier comes first.
+fn if_no_lower(b: u32, a: u32) -> u32
+    ensures { λ r. ⌜ (r ≡ bit (leb b a)) × (r ≤ 1) ⌝ }
 {
-    let a = curve[p];
-    let b = curve[q];
-    if a == b { p < q } else { b < a }
+    if b <= a { 1 } else { 0 }
 }
 
-// How many quarters above the line come before quarter q.
-fn rank_of(peak: u32, curve: &[u32; 96], q: usize) -> usize
-    requires { ⌜ q < dayQuarters ⌝ }
+fn if_higher(b: u32, a: u32) -> u32
+    ensures { λ r. ⌜ (r ≡ bit (ltb b a)) × (r ≤ 1) ⌝ }
+{
+    if b < a { 1 } else { 0 }
+}
+
+// How many quarters above the line come before quarter q, which is above it: so is each that comes before, and no other test is made.
+fn rank_of(peak: u32, curve: &[u32; 96], q: usize) -> u32
+    requires { ⌜ (q < dayQuarters) × (aboveLine peak (getD (now curve) q 0) ≡ true) ⌝ }
     ensures { λ r. ⌜ r ≡ rank peak (now (curve .entry)) q ⌝ }
 {
-    let mut n: usize = 0;
-    for p in 0..answers::DAY_QUARTERS {
-        n += answers::one_if(is_above(peak, curve[p]) & comes_before(curve, p, q));
+    let b = curve[q];
+    let mut n: u32 = 0;
+    for p in 0..q {
+        n += if_no_lower(b, curve[p]);
+    }
+    for p in q..answers::DAY_QUARTERS {
+        n += if_higher(b, curve[p]);
     }
     n
 }
@@ -83,7 +95,7 @@ fn is_kept(peak: u32, curve: &[u32; 96], above: usize, q: usize) -> bool
         if above <= answers::WINDOWS_MOST {
             return true;
         }
-        return rank_of(peak, curve, q) < answers::WINDOWS_MOST;
+        return (rank_of(peak, curve, q) as usize) < answers::WINDOWS_MOST;
     }
     false
 }

@@ -29,6 +29,7 @@ is-kept-spec =
     (λ c. search needs)  -- element-copy-out-is-above
     (λ c κs. search needs)  -- is-above-requires
     returns
-    (λ c κs. search needs)  -- rank-of-requires
+    (λ c κs. (search needs, sym (c .before .before .is-above .ensures) ∙ c .before .if1 .taken))  -- rank-of-requires
+    (λ c. search needs)  -- cast-result
     returns-2
     returns-3)
