@@ -2,10 +2,11 @@
 // Main theorem: days given one by one, refused ones among them, close as the whole series of the taken days, sheet bytes included
 // (`days-whole`, proofs/Whole).
 ghost use mathlib.Core.Path.{_≡_};
-ghost use Prim.Native.Nat.{_<_};
+ghost use Prim.Native.Nat.{ℕ, _<_, _+_};
 ghost use lib.ListN.{length};
 ghost use Rattle.dates.specs.Dates.{mostDays};
-ghost use Rattle.dates.specs.Period.{periodDays};
+ghost use Rattle.over.specs.Over.{table};
+ghost use Rattle.dates.specs.Period.{periodDays, periodSeason};
 ghost use Rattle.readings.specs.Runs.{dayLen, runReadings};
 ghost use Rattle.sheet.specs.Windows.{places};
 ghost use Rattle.readings.specs.Legal.{highestOf};
@@ -44,12 +45,23 @@ pub struct Stepped {
     pub grid: Grid,
 }
 
-// Lays day d, from 0, over the curves: every day counts, weekends too.
-fn lay(curves: &mut [u32; 384], year: u16, d: u16, day: &[u32])
-    requires { ⌜ (length (now curves) ≡ places) × (d < mostDays) × (length (now day) ≡ dayLen (periodRun year) d) ⌝ }
+// The season of each day of the period. Looked up before the pass over the readings: no day's pass waits for its season then.
+fn day_seasons(year: u16) -> [u8; dates::MOST_DAYS]
+    ensures { λ r. ⌜ r ≡ table (λ (k : ℕ). periodSeason year (k + 1)) mostDays ⌝ }
+{
+    let mut out = [0; dates::MOST_DAYS];
+    for k in 0..dates::MOST_DAYS {
+        out[k] = dates::period_season(year, (k + 1) as u16);
+    }
+    out
+}
+
+// Lays day d, from 0, of a season over the curves: every day counts, weekends too.
+fn lay(curves: &mut [u32; 384], year: u16, d: u16, season: u8, day: &[u32])
+    requires { ⌜ (length (now curves) ≡ places) × (d < mostDays) × (length (now day) ≡ dayLen (periodRun year) d) × (season ≡ periodSeason year (d + 1)) ⌝ }
     ensures { λ r. ⌜ now (curves .exit) ≡ merged year (now (curves .entry)) d (now (day .entry)) ⌝ }
 {
-    let base = answers::DAY_QUARTERS * (dates::period_season(year, d + 1) as usize - 1);
+    let base = answers::DAY_QUARTERS * (season as usize - 1);
     for p in 0..day.len() {
         let at = base + readings::quarter_of(Run { year, period: true }, d, p);
         curves[at] = readings::larger(curves[at], day[p]);
@@ -61,11 +73,12 @@ fn collect(year: u16, days: u16, series: &[u32]) -> [u32; 384]
     requires { ⌜ (days ≡ periodDays year) × (length (now series) ≡ runReadings (periodRun year)) ⌝ }
     ensures { λ r. ⌜ r ≡ flatCurves year (now (series .entry)) days ⌝ }
 {
+    let seasons = day_seasons(year);
     let mut curves = [0; 384];
     let mut at = 0;
     for d in 0..days {
         let end = at + readings::day_len(Run { year, period: true }, d);
-        lay(&mut curves, year, d, &series[at..end]);
+        lay(&mut curves, year, d, seasons[d as usize], &series[at..end]);
         at = end;
     }
     curves
@@ -174,8 +187,9 @@ impl Grid {
     {
         let year = self.year;
         let seen = self.seen;
+        let season = dates::period_season(year, seen + 1);
         let mut next = self;
-        lay(&mut next.curves, year, seen, day);
+        lay(&mut next.curves, year, seen, season, day);
         next.seen = seen + 1;
         next
     }
