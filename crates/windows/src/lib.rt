@@ -1,14 +1,14 @@
 // The high-load windows of four curves: the quarters above the line, at most forty in a season.
 // Main theorem: a season keeps exactly the smaller of forty and the number above the line, and no kept quarter is lower than one left out.
 ghost use mathlib.Core.Path.{_≡_};
-ghost use mathlib.Core.Bool.{true};
-ghost use Prim.Native.Nat.{_<_, _≤_};
+ghost use mathlib.Core.Bool.{true, _&&_};
+ghost use Prim.Native.Nat.{ℕ, _<_, _≤_};
 ghost use lib.Dec.{leb, ltb};
 ghost use lib.ListN.{getD};
-ghost use Rattle.over.specs.Over.{bit};
+ghost use Rattle.over.specs.Over.{bit, countOver};
 ghost use Rattle.answers.specs.Ruling.{dayQuarters};
 ghost use Rattle.sheet.specs.Windows.{seasons};
-ghost use Rattle.windows.specs.Chosen.{aboveLine, aboveIn, rank, kept, keptOf, chosenOf, curveOf, curvesOf};
+ghost use Rattle.windows.specs.Chosen.{aboveLine, aboveIn, comesBefore, rank, kept, keptOf, chosenOf, curveOf, curvesOf};
 
 // The line lies at 19 twentieths of the peak.
 const LINE_PARTS: u64 = 19;
@@ -59,16 +59,26 @@ fn if_higher(b: u32, a: u32) -> u32
     if b < a { 1 } else { 0 }
 }
 
-// How many quarters above the line come before quarter q, which is above it: so is each that comes before, and no other test is made.
-fn rank_of(peak: u32, curve: &[u32; 96], q: usize) -> u32
+// How many quarters above the line come before quarter q, which is above it: so is each that comes before, and no other test is made. Those that
+// are earlier in the day, then all.
+fn rank_early(peak: u32, curve: &[u32; 96], q: usize) -> u32
     requires { ⌜ (q < dayQuarters) × (aboveLine peak (getD (now curve) q 0) ≡ true) ⌝ }
-    ensures { λ r. ⌜ r ≡ rank peak (now (curve .entry)) q ⌝ }
+    ensures { λ r. ⌜ (r ≡ countOver (λ (p : ℕ). aboveLine peak (getD (now (curve .entry)) p 0) && comesBefore (now (curve .entry)) p q) q) × (r ≤ q) ⌝ }
 {
     let b = curve[q];
     let mut n: u32 = 0;
     for p in 0..q {
         n += if_no_lower(b, curve[p]);
     }
+    n
+}
+
+fn rank_of(peak: u32, curve: &[u32; 96], q: usize) -> u32
+    requires { ⌜ (q < dayQuarters) × (aboveLine peak (getD (now curve) q 0) ≡ true) ⌝ }
+    ensures { λ r. ⌜ r ≡ rank peak (now (curve .entry)) q ⌝ }
+{
+    let b = curve[q];
+    let mut n = rank_early(peak, curve, q);
     for p in q..answers::DAY_QUARTERS {
         n += if_higher(b, curve[p]);
     }
