@@ -15,21 +15,16 @@ use Rattle.over.proofs.Bools.{neither}
 use Rattle.over.proofs.Tests.{Passed, any-at, any-fails, all-passed}
 use Rattle.answers.specs.Ruling.{holidaysMost}
 use Rattle.dates.specs.Dates.{yearDays}
-use Rattle.calendar.specs.Holidays.{before, badEntry, badHolidays, LegalHolidays}
+use Rattle.calendar.specs.Holidays.{before, unfit, badEntry, badHolidays, LegalHolidays}
 
 -- the entry before the next one is this one
 pub before-next : (hs : List ℕ) (k : ℕ) → getD hs k 0 ≡ before hs (k + 1)
 before-next hs k = rw add-one
 
 module _ (y : ℕ) (hs : List ℕ) where
-  -- the code's test of an entry
-  pub entry :
-      {b : Bool} (k last days : ℕ)
-      → last ≡ before hs k
-      → days ≡ yearDays y
-      → (leb (getD hs k 0) last || ltb days (getD hs k 0)) ≡ b
-      → badEntry y hs k ≡ b
-  entry k last days e f t = rw (e, f) at t
+  -- an entry is tested beside the one before
+  pub entry : {b : Bool} (k : ℕ) {last : ℕ} → last ≡ before hs k → unfit y last (getD hs k 0) ≡ b → badEntry y hs k ≡ b
+  entry k e t = rw e at t
 
   pub bad-long : holidaysMost < length hs → true ≡ badHolidays y hs
   unfolding badHolidays

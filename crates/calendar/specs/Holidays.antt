@@ -17,9 +17,13 @@ abbrev pub before : List ℕ → ℕ → ℕ
 before hs zero = 0
 before hs (suc k) = getD hs k 0
 
--- an entry breaks its rule: it does not rise above the one before, or it lies past the year's end
+-- "strictly rising, inside the year": a day that does not rise above the one before, or lies past the year's end
+abbrev pub unfit : ℕ → ℕ → ℕ → Bool
+unfit y last day = leb day last || ltb (yearDays y) day
+
+-- an entry breaks its rule
 abbrev pub badEntry : ℕ → List ℕ → ℕ → Bool
-badEntry y hs k = leb (getD hs k 0) (before hs k) || ltb (yearDays y) (getD hs k 0)
+badEntry y hs k = unfit y (before hs k) (getD hs k 0)
 
 -- answer 3: the list breaks its row
 unfoldable pub badHolidays : ℕ → List ℕ → Bool

@@ -3,7 +3,7 @@
 ghost use mathlib.Core.Path.{_≡_};
 ghost use Prim.Native.Nat.{_-_, _≤_, _<_};
 ghost use Rattle.dates.specs.Dates.{mostDays};
-ghost use Rattle.calendar.specs.Holidays.{badHolidays};
+ghost use Rattle.calendar.specs.Holidays.{unfit, badHolidays};
 ghost use Rattle.calendar.specs.Free.{christmas, free, candidate, bridge, kindBy, isWindows, windowDays};
 ghost use Rattle.calendar.specs.Answer.{saidOfDay, dayOut, dayAnswer};
 ghost use Rattle.calendar.specs.Within.{places, lastPlace, placeOf, marked, Marks};
@@ -158,6 +158,14 @@ pub fn window_days(year: u16, holidays: &[u16]) -> [bool; dates::MOST_DAYS]
     out
 }
 
+// Does a listed day break its rule: it does not rise above the one before (0 before the first), or lies past the year's end? Any day
+// has an answer.
+pub fn unfit(year: u16, last: u16, day: u16) -> bool
+    ensures { λ r. ⌜ r ≡ unfit year last day ⌝ }
+{
+    (day <= last) | (dates::year_days(year) < day)
+}
+
 // Does a holiday list break its row (answer 3): more than 40 days, a day that does not rise, a day outside the year?
 pub fn bad_holidays(year: u16, holidays: &[u16]) -> bool
     ensures { λ r. ⌜ r ≡ badHolidays year (now (holidays .entry)) ⌝ }
@@ -165,11 +173,10 @@ pub fn bad_holidays(year: u16, holidays: &[u16]) -> bool
     if answers::HOLIDAYS_MOST < holidays.len() {
         return true;
     }
-    let days = dates::year_days(year);
     let mut last = 0;
     for k in 0..holidays.len() {
         let day = holidays[k];
-        if (day <= last) | (days < day) {
+        if unfit(year, last, day) {
             return true;
         }
         last = day;

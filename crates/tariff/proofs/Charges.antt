@@ -59,6 +59,6 @@ charge-mono a b row sum h =
     omega arith
 
 -- the larger of reduced charge and floor is the charge
-pub charge-of : (f : Figures) (p : Prices) (option : Bool) {r t g : ℕ} → r ≡ reduced f p option → t ≡ floorOf g → g ≡ general f p → max r t ≡ charge f p option
+pub charge-of : (f : Figures) (p : Prices) (option : Bool) {r g : ℕ} → r ≡ reduced f p option → g ≡ general f p → max r (floorOf g) ≡ charge f p option
 unfolding charge
-charge-of f p option a b e = ap₂ max a (b ∙ ap floorOf e)
+charge-of f p option a e = ap₂ max a (ap floorOf e)

@@ -5,20 +5,19 @@ use mathlib.Core.Bool.{false}
 use mathlib.Core.Logic.{_↔_}
 use Prim.Native.Nat.{ℕ}
 use borrow.Author.Tests.{le-ltb, ltb-false}
-use lib.Dec.{ltb}
 use Rattle.over.proofs.Bools.{neither}
-use Rattle.answers.specs.Ruling.{capacityMost, energyMost, levelOut}
+use Rattle.answers.specs.Ruling.{levelOut}
 use Rattle.answers.proofs.Laws.{level-of}
 use Rattle.tariff.specs.declared.Row.{Row}
 use Rattle.tariff.specs.declared.Prices.{Prices}
-use Rattle.tariff.specs.Prices.{rowOut, pricesOut, LegalRow, LegalPrices}
+use Rattle.tariff.specs.Prices.{capacityOut, energyOut, rowOut, pricesOut, LegalRow, LegalPrices}
 use Rattle.tariff.specs.Rows.{Legal}
 
 row-legal : (row : Row) → (rowOut row ≡ false) ↔ LegalRow row
 unfolding rowOut
 row-legal row = (
   λ e.
-      let n = neither (ltb capacityMost (row .capacity)) (ltb energyMost (row .energy)) e in
+      let n = neither (capacityOut (row .capacity)) (energyOut (row .energy)) e in
       record { capacity = ltb-false _ _ (n .0); energy = ltb-false _ _ (n .1) },
   λ h. simp (le-ltb _ _ (h .capacity), le-ltb _ _ (h .energy)),
 )

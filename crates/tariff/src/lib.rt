@@ -4,16 +4,16 @@
 ghost use mathlib.Core.Path.{_≡_};
 ghost use Prim.Native.Nat.{_≤_, max};
 ghost use Rattle.answers.specs.Ruling.{shareOf, Level};
-ghost use Rattle.tariff.specs.Prices.{rowOut, pricesOut, LegalRow, LegalPrices};
+ghost use Rattle.tariff.specs.Prices.{capacityOut, energyOut, rowOut, pricesOut, LegalRow, LegalPrices};
 ghost use Rattle.tariff.specs.Charges.{fewHours, rowOf, chargeFor, chargeMost, general, reduced, floorOf};
 ghost use Rattle.tariff.specs.Answers.{saidOf, plainOf, peaksOf};
-ghost use Rattle.tariff.specs.Decision.{noWindow, moved, shareShort, eligibleAnswer, chargeAnswer, judgeAnswer};
+ghost use Rattle.tariff.specs.Decision.{moved, shareShort, eligibleAnswer, chargeAnswer, judgeAnswer};
 use answers::Place;
 
 // Document 01, Numbers: the highest capacity price, cent per kW and year, and energy price, thousandth of a cent per kWh.
-pub const CAPACITY_MOST: u32 = 100_000;
+const CAPACITY_MOST: u32 = 100_000;
 
-pub const ENERGY_MOST: u32 = 50_000;
+const ENERGY_MOST: u32 = 50_000;
 
 // The share that each level code, from 1, asks for, in percent: a constant table, as document 01 names it.
 const SHARES: [u8; 7] = [5, 10, 10, 20, 20, 30, 30];
@@ -50,8 +50,8 @@ pub struct Prices {
     pub high: Row,
 }
 
-// A year's figures: the annual peak M, W; the sum S of all readings; is there an in-window quarter; the in-window peak H, W, with the
-// day, from 1, and the quarter, from 0, where it first occurs.
+// A year's figures: the annual peak M, W; the sum S of all readings; is there an in-window quarter, of which an in-window peak of 0 says
+// nothing; the in-window peak H, W, with the day, from 1, and the quarter, from 0, where it first occurs.
 pub struct Figures {
     pub peak: u32,
     pub sum: u64,
@@ -102,10 +102,24 @@ pub enum Decision {
     DayOut,
 }
 
+// Is a capacity price above its limit? Any price has an answer.
+pub fn capacity_out(price: u32) -> bool
+    ensures { λ r. ⌜ r ≡ capacityOut price ⌝ }
+{
+    CAPACITY_MOST < price
+}
+
+// Is an energy price above its limit? Any price has an answer.
+pub fn energy_out(price: u32) -> bool
+    ensures { λ r. ⌜ r ≡ energyOut price ⌝ }
+{
+    ENERGY_MOST < price
+}
+
 fn row_out(row: Row) -> bool
     ensures { λ r. ⌜ r ≡ rowOut row ⌝ }
 {
-    (CAPACITY_MOST < row.capacity) | (ENERGY_MOST < row.energy)
+    capacity_out(row.capacity) | energy_out(row.energy)
 }
 
 // Is a price of a price list above its limit (answer 6)? Any list has an answer.
@@ -166,25 +180,14 @@ fn reduced_charge(figures: Figures, prices: Prices, option: bool) -> u64
     charge_for(figures.high, row, figures.sum)
 }
 
-// One fifth, rounded up: rounded down it would undercut the statutory floor by a cent.
-fn floor_of(g: u64) -> u64
-    requires { ⌜ g ≤ chargeMost ⌝ }
-    ensures { λ r. ⌜ (r ≡ floorOf g) × (r ≤ chargeMost) ⌝ }
+// The larger of reduced charge and floor. The floor is one fifth, rounded up: rounded down it would undercut the statutory floor by a
+// cent.
+fn with_floor(r: u64, g: u64) -> u64
+    requires { ⌜ (r ≤ chargeMost) × (g ≤ chargeMost) ⌝ }
+    ensures { λ c. ⌜ (c ≡ max r (floorOf g)) × (c ≤ chargeMost) ⌝ }
 {
-    (g + (FLOOR_PARTS - 1)) / FLOOR_PARTS
-}
-
-fn larger(a: u64, b: u64) -> u64
-    ensures { λ r. ⌜ r ≡ max a b ⌝ }
-{
-    if a < b { b } else { a }
-}
-
-// No quarter of the year is in a window. An in-window peak of 0 says nothing of that.
-fn no_window(figures: Figures) -> bool
-    ensures { λ r. ⌜ r ≡ noWindow figures ⌝ }
-{
-    !figures.any
+    let f = (g + (FLOOR_PARTS - 1)) / FLOOR_PARTS;
+    if r < f { f } else { r }
 }
 
 // M - H: what was moved out of the windows. Nothing where H is above M: no year has such figures, but every figure has an answer.
@@ -245,7 +248,7 @@ pub fn eligible(figures: Figures, level: u8, prices: Prices) -> Decision
         return Decision::PriceOut;
     }
     let g = general_charge(figures, prices);
-    if no_window(figures) {
+    if !figures.any {
         return Decision::NoWindow(plain_of(figures, g));
     }
     if share_short(figures, level) {
@@ -265,10 +268,10 @@ pub fn charge(figures: Figures, prices: Prices, option: bool) -> Decision
         return Decision::PriceOut;
     }
     let g = general_charge(figures, prices);
-    if no_window(figures) {
+    if !figures.any {
         return Decision::NoWindow(plain_of(figures, g));
     }
-    let c = larger(reduced_charge(figures, prices, option), floor_of(g));
+    let c = with_floor(reduced_charge(figures, prices, option), g);
     let peaks = peaks_of(figures, g);
     if g < c + LEAST_REDUCTION {
         return Decision::ReductionShort(peaks);

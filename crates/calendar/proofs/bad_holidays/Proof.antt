@@ -1,6 +1,6 @@
 -- `calendar::bad_holidays` meets its contract. The loop's invariant: no entry so far breaks its rule, and `last` is the entry before.
 -- Assumes nothing.
-use mathlib.Core.Path.{_≡_, refl}
+use mathlib.Core.Path.{_≡_, refl, sym, _∙_}
 use Prim.Native.Nat.{_≤_, _-_}
 use native.Mathlib.Omega.{arith}
 use borrow.Author.Needs.{needs}
@@ -12,22 +12,20 @@ use Rattle.calendar.proofs.bad_holidays.Statement.{statement}
 use Rattle.calendar.proofs.bad_holidays.Tie as tie
 
 abbrev Inv-loop : tie.InvT-loop
-Inv-loop year holidays days last₀ k₀ k-end last k = (k ≤ length holidays) × (last ≡ before holidays k) × Passed (badEntry year holidays) k
+Inv-loop year holidays last₀ k₀ k-end last k = (k ≤ length holidays) × (last ≡ before holidays k) × Passed (badEntry year holidays) k
 
 abbrev μ-loop : tie.MeasureT-loop
-μ-loop year holidays days last₀ k₀ k-end last k = length holidays - k
+μ-loop year holidays last₀ k₀ k-end last k = length holidays - k
 
 returns-2 : tie.Need-returns-2 Inv-loop μ-loop
 returns-2 c =
-    let at = c .before .before .before in
-    bad-at _ _ (at .loop .k)
-    (entry _ _ (at .loop .k) (at .loop .last) _ (at .loop .inv .1) (at .before .year-days .ensures) (c .if2 .taken))
-    (omega arith)
+    let at = c .before .before .before .before in
+    bad-at _ _ (at .loop .k) (entry _ _ (at .loop .k) (at .loop .inv .1) (sym (c .before .unfit .ensures) ∙ c .if2 .taken)) (omega arith)
 
 loop-again : tie.Need-loop-again Inv-loop μ-loop
 loop-again c =
-    let at = c .before .before .before in
-    let kept = entry _ _ (at .loop .k) (at .loop .last) _ (at .loop .inv .1) (at .before .year-days .ensures) (c .if2 .left) in
+    let at = c .before .before .before .before in
+    let kept = entry _ _ (at .loop .k) (at .loop .inv .1) (sym (c .before .unfit .ensures) ∙ c .if2 .left) in
     (omega arith, before-next _ (at .loop .k), passed-more (at .loop .inv .2) kept)
 
 pub bad-holidays-spec : {M : Type 1} → statement M
@@ -37,10 +35,10 @@ bad-holidays-spec =
     Inv-loop
     μ-loop
     (λ c. bad-long _ _ (omega arith))  -- returns
-    (λ c κs. search needs)  -- year-days-requires
     (λ c. (omega arith, refl, passed-none))  -- loop-holds
     (λ c. search needs)  -- mul-day
     (λ c. search needs)  -- shared-slice-read-day
+    (λ c κs. search needs)  -- unfit-requires
     returns-2
     (λ c. search needs)  -- add-k
     (λ c. search needs)  -- loop-less

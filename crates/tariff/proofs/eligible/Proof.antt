@@ -24,7 +24,7 @@ prices-at : (e : tie.Else2) → pricesOut (e .before .before .before .before .ar
 prices-at e = sym (e .before .prices-out .ensures) ∙ e .if2 .left
 
 some-at : (e : tie.Else3) → e .before .before .before .before .before .before .before .args .figures .any ≡ true
-some-at e = not-false _ (sym (e .before .no-window .ensures) ∙ e .if3 .left)
+some-at e = not-false _ (e .if3 .left)
 
 share-at :
     (e : tie.Else4)
@@ -36,7 +36,7 @@ returns-3 : tie.Need-returns-3
 returns-3 c =
     let p = c .before .before .before .before in
     ap withPlain (c .plain-of .ensures)
-    ∙ eligible-none _ _ _ (level-at (p .before .before)) (prices-at p) (c .before .before .before .general-charge .ensures .0) (not-true _ (sym (c .before .before .no-window .ensures) ∙ c .before .if3 .taken))
+    ∙ eligible-none _ _ _ (level-at (p .before .before)) (prices-at p) (c .before .before .before .general-charge .ensures .0) (not-true _ (c .before .if3 .taken))
 
 returns-4 : tie.Need-returns-4
 returns-4 c =
@@ -70,7 +70,6 @@ eligible-spec =
     (λ c κs. search needs)  -- prices-out-requires
     (λ c. eligible-prices _ _ _ (level-at (c .before .before)) (sym (c .before .prices-out .ensures) ∙ c .if2 .taken))  -- returns-2
     (λ c κs. prices-legal _ .0 (prices-at c))  -- general-charge-requires
-    (λ c κs. search needs)  -- no-window-requires
     (λ c κs. search needs)  -- plain-of-requires
     returns-3
     (λ c κs. level-of _ .0 (level-at (c .before .before .before .before .before)))  -- share-short-requires
