@@ -1,15 +1,16 @@
 -- The cases of opening, of a day, of closing and of a whole series, each with the code's answer, and the next state, on the left.
 -- Assumes nothing.
 use mathlib.Core.Path.{_≡_, refl, sym, ap, _∙_}
-use mathlib.Core.Bool.{Bool, true, false}
+use mathlib.Core.Bool.{Bool, true, false, cond}
 use mathlib.Core.List.{List, [], _∷_}
 use Prim.Native.Nat.{ℕ, _≤_, _<_}
+use native.Mathlib.Decide.{ℕ-discrete}
 use native.Mathlib.Omega.{arith}
 use borrow.Author.Tests.{eq-eqb, ne-eqb}
 use lib.Dec.{eqb}
 use lib.ListN.{length}
 use Rattle.answers.specs.Ruling.{customerMost}
-use Rattle.answers.specs.Said.{Said, only, badPlace}
+use Rattle.answers.specs.Said.{Said, only, badPlace, orElse}
 use Rattle.answers.specs.declared.Place.{Place}
 use Rattle.answers.proofs.Laws.{refusal-keeps, done-hands, refusal-stands, next-speaks}
 use Rattle.dates.specs.Dates.{yearDays}
@@ -19,8 +20,12 @@ use Rattle.readings.specs.Legal.{peakOf, firstIllegal}
 use Rattle.readings.specs.Days.{seriesAnswer, nextAnswer}
 use Rattle.readings.proofs.Runs.{year-run}
 use Rattle.readings.proofs.Days.{series-bad, series-legal}
+use Rattle.sheet.specs.declared.SheetAnswer.{SheetAnswer}
+use Rattle.sheet.specs.declared.SheetAnswer.the-variants.{Accepted, Short, YearOut, LevelOut, Malformed}
 use Rattle.sheet.specs.Bytes.{sheetIn}
-use Rattle.sheet.specs.Answers.{readAnswer}
+use Rattle.sheet.specs.Answers.{saidOfSheet, readAnswer, SheetRead, readOf}
+use Rattle.sheet.proofs.Answered.{read-taken}
+use Rattle.sheet.proofs.Exactly.{read-zero}
 use Rattle.tariff.specs.declared.Prices.{Prices}
 use Rattle.tariff.specs.declared.Figures.{Figures}
 use Rattle.tariff.specs.Prices.{pricesOut}
@@ -32,7 +37,7 @@ use Rattle.customer.specs.declared.Terms.{Terms}
 use Rattle.customer.specs.declared.Customer.{Customer}
 use Rattle.customer.specs.Counts.{yearRun}
 use Rattle.figures.specs.Figures.{figuresOf}
-use Rattle.customer.specs.Answers.{termsOf, openAnswer, opened, shut, openCustomer, overfull, dayAnswer, taken, dayCustomer, closeAnswer, judged, figuresUnder, wholeAnswer, decideAnswer}
+use Rattle.customer.specs.Answers.{termsOf, listsAnswer, openAnswer, opened, shut, openCustomer, overfull, dayAnswer, taken, dayCustomer, closeAnswer, judged, figuresUnder, wholeAnswer, decideAnswer}
 
 -- opening
 module _ (b hs : List ℕ) (p : Prices) where
@@ -54,6 +59,15 @@ module _ (b hs : List ℕ) (p : Prices) where
       unfolding openAnswer
       open-done e = rw (← r, h, e)
 
+  -- with the sheet that reading hands over, which is another beside a refusal
+  pub open-said : {s : SheetRead} → s ≡ readOf b → orElse (s .answer) (listsAnswer (s .sheet .year) hs p) ≡ openAnswer b hs p
+  unfolding openAnswer
+  open-said {s} e = ap (λ (x : SheetRead). orElse (x .answer) (listsAnswer (x .sheet .year) hs p)) e ∙ go (ℕ-discrete (readAnswer b .number) 0)
+    where
+      go : Dec (readAnswer b .number ≡ 0) → orElse (readAnswer b) (listsAnswer (readOf b .sheet .year) hs p) ≡ openAnswer b hs p
+      go (yes z) = ap (λ (x : SheetRead). orElse (readAnswer b) (listsAnswer (x .sheet .year) hs p)) (sym (read-taken b (read-zero b z)))
+      go (no z) = sym (refusal-stands (readAnswer b) _ refl (ne-eqb _ _ z)) ∙ open-read (readAnswer b) (ne-eqb _ _ z) refl
+
   -- a refusal hands back the fixed state, 0 the year's
   module _ (option : Bool) where
     pub open-refused : (a : Said) → eqb (a .number) 0 ≡ false → a ≡ openAnswer b hs p → (a ≡ openAnswer b hs p) × (shut ≡ openCustomer b hs p option)
@@ -73,6 +87,10 @@ module _ (c : Customer) (day : List ℕ) where
   pub day-taken : {next : Customer} → only 0 ≡ dayAnswer c day → next ≡ taken c day → (only 0 ≡ dayAnswer c day) × (next ≡ dayCustomer c day)
   unfolding dayCustomer
   day-taken z e = (z, e ∙ done-hands (only 0) (taken c day) c z refl .1)
+
+  pub day-said : {a : Said} → a ≡ cond (overfull c) (only 13) (nextAnswer (yearRun (c .terms .year)) customerMost (c .seen) day) → a ≡ dayAnswer c day
+  unfolding dayAnswer
+  day-said e = e
 
   pub day-over : overfull c ≡ true → only 13 ≡ dayAnswer c day
   unfolding dayAnswer
@@ -130,6 +148,14 @@ module _ (b hs : List ℕ) (p : Prices) (option : Bool) (xs : List ℕ) where
 -- the places of the enum's cases, without that of `Taken`, which is 2
 abbrev pub others : List ℕ
 others = 0 ∷ 1 ∷ 3 ∷ 4 ∷ 5 ∷ 6 ∷ 7 ∷ 8 ∷ 9 ∷ 10 ∷ 11 ∷ 12 ∷ 13 ∷ 14 ∷ []
+
+-- what reading answers carries nothing
+pub sheet-zero : (a : SheetAnswer) → saidOfSheet a .number ≡ 0 → only 0 ≡ saidOfSheet a
+sheet-zero Accepted z = refl
+sheet-zero Short z = absurd (omega arith)
+sheet-zero YearOut z = absurd (omega arith)
+sheet-zero LevelOut z = absurd (omega arith)
+sheet-zero Malformed z = absurd (omega arith)
 
 -- an answer that is not `Taken` is a refusal, where 0 carries nothing
 pub untaken : {d : Decision} {said : Said} → saidOf d ≡ said → (said .number ≡ 0 → only 0 ≡ said) → (d ≡ Taken → ⊥) → eqb (saidOf d .number) 0 ≡ false

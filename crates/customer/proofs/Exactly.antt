@@ -18,11 +18,14 @@ use Rattle.calendar.proofs.Lists.{legal-holidays}
 use Rattle.readings.specs.Runs.{runReadings}
 use Rattle.readings.specs.Legal.{firstIllegal}
 use Rattle.readings.specs.Days.{nextAnswer}
+use Rattle.readings.specs.Rows.{NextDay, NextRow}
+use Rattle.readings.specs.Rows.NextRow.{thirteen, four, five, zero}
 use Rattle.readings.proofs.Runs.{year-run}
-use Rattle.readings.proofs.Days.{series-length, series-bad, series-legal, next-exactly}
+use Rattle.readings.proofs.Days.{series-length, series-bad, series-legal, next-taken, next-exactly}
 use Rattle.sheet.specs.Bytes.{sheetIn}
-use Rattle.sheet.specs.Answers.{readAnswer}
+use Rattle.sheet.specs.Answers.{readAnswer, SheetRead, readOf}
 use Rattle.sheet.specs.Rows.{ReadRow}
+use Rattle.sheet.proofs.Answered.{read-taken}
 use Rattle.sheet.proofs.Exactly.{read-exactly, read-zero}
 use Rattle.tariff.specs.declared.Prices.{Prices}
 use Rattle.tariff.specs.Prices.{pricesOut}
@@ -90,6 +93,16 @@ module _ (b hs : List ℕ) (p : Prices) where
       go (six r h q) k = absurd (omega arith)
       go (zero r h q) k = open-done b hs p (read-zero b (read-exactly b 0 .1 r)) (legal-holidays _ hs .1 h) (prices-legal p .1 q)
 
+  -- and beside it reading hands over what the sheet says
+  pub open-meaning : {s : SheetRead} → s ≡ readOf b → only 0 ≡ openAnswer b hs p → s .sheet ≡ sheetIn b
+  open-meaning {s} shown e = go (customer-open-exactly 0 .0 (number e)) refl
+    where
+      go : {n : ℕ} → Opens n → n ≡ 0 → s .sheet ≡ sheetIn b
+      go (sheet r z) k = absurd (z k)
+      go (three r h) k = absurd (omega arith)
+      go (six r h q) k = absurd (omega arith)
+      go (zero r h q) k = ap (λ (x : SheetRead). x .sheet) (shown ∙ sym (read-taken b (read-zero b (read-exactly b 0 .1 r))))
+
 -- a day
 module _ (c : Customer) (day : List ℕ) where
   abbrev answered : Said
@@ -111,6 +124,26 @@ module _ (c : Customer) (day : List ℕ) where
 
   pub customer-day-exactly : (n : ℕ) → (dayAnswer c day .number ≡ n) ↔ CustomerDayRow c day n
   customer-day-exactly n = (λ e. rw e at day-holds, day-given)
+
+  -- 0 carries nothing: it is given for the next day of a state whose sum days can have
+  pub record Fits : Type 0 where
+    pub said : only 0 ≡ dayAnswer c day
+    pub fair : c .figures .sum ≤ sumMost (c .seen)
+    pub fits : NextDay (yearRun (c .terms .year)) (c .seen) day
+
+  pub day-fits : dayAnswer c day .number ≡ 0 → Fits
+  day-fits e = go (customer-day-exactly 0 .0 e) refl
+    where
+      next-day : {n : ℕ} → c .figures .sum ≤ sumMost (c .seen) → NextRow (yearRun (c .terms .year)) customerMost (c .seen) day n → n ≡ 0 → Fits
+      next-day l (thirteen h) k = absurd (omega arith)
+      next-day l (four h m) k = absurd (omega arith)
+      next-day l (five d v) k = absurd (omega arith)
+      next-day l (zero d v) k =
+          record { said = day-next c day (le-ltb _ _ l) (next-taken _ _ _ _ (d .left) (d .long) v); fair = l; fits = d }
+
+      go : {n : ℕ} → CustomerDayRow c day n → n ≡ 0 → Fits
+      go (over o) k = absurd (omega arith)
+      go (next l r) k = next-day l r k
 
 -- closing
 module _ (c : Customer) where

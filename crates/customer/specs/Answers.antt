@@ -40,12 +40,14 @@ termsOf s hs p option =
     }
 
 -- what needs no readings: what reading the sheet refuses, then 3, then 6
-unfoldable pub openAnswer : List ℕ → List ℕ → Prices → Said
-openAnswer b hs p =
-    orElse (readAnswer b)
-    (cond (badHolidays (sheetIn b .year) hs) (only 3)
+abbrev pub listsAnswer : ℕ → List ℕ → Prices → Said
+listsAnswer y hs p =
+    cond (badHolidays y hs) (only 3)
     (cond (pricesOut p) (only 6)
-    (only 0)))
+    (only 0))
+
+unfoldable pub openAnswer : List ℕ → List ℕ → Prices → Said
+openAnswer b hs p = orElse (readAnswer b) (listsAnswer (sheetIn b .year) hs p)
 
 -- what the decision over a year's figures answers under terms
 abbrev pub judged : Terms → Figures → Said

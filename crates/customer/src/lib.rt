@@ -4,17 +4,23 @@
 mod day;
 
 ghost use mathlib.Core.Path.{_≡_};
+ghost use mathlib.Core.Bool.{cond};
 ghost use Prim.Native.Nat.{_≤_, _<_};
+ghost use lib.Dec.{ltb};
 ghost use lib.ListN.{length};
+ghost use Rattle.answers.specs.Ruling.{customerMost};
+ghost use Rattle.answers.specs.Said.{only, orElse};
 ghost use Rattle.dates.specs.Dates.{yearDays};
 ghost use Rattle.readings.specs.Runs.{dayLen, runReadings};
+ghost use Rattle.readings.specs.Days.{nextAnswer};
 ghost use Rattle.sheet.specs.Answers.{saidOfSheet};
 ghost use Rattle.tariff.specs.Answers.{saidOf};
 ghost use Rattle.figures.specs.Figures.{noFigures};
 ghost use Rattle.customer.specs.Counts.{yearRun};
-ghost use Rattle.customer.specs.Answers.{shut, openAnswer, openCustomer, overfull, sumMost, dayAnswer, taken, dayCustomer, closeAnswer, decideAnswer, figuresUnder};
+ghost use Rattle.customer.specs.Answers.{termsOf, listsAnswer, openAnswer, opened, shut, openCustomer, sumMost, dayAnswer, taken, dayCustomer, closeAnswer, figuresUnder, wholeAnswer, decideAnswer};
 use answers::Place;
 use readings::Run;
+use sheet::Sheet;
 use sheet::SheetAnswer;
 use tariff::Decision;
 use tariff::Figures;
@@ -109,6 +115,43 @@ fn told(answer: SheetAnswer) -> Decision
     }
 }
 
+// What needs no readings: what reading the sheet answered, then 3 and 6.
+fn open_answer(read: SheetAnswer, year: u16, holidays: &[u16], prices: Prices) -> Decision
+    requires { ⌜ (saidOfSheet read .number ≡ 14 → ⊥) ⌝ }
+    ensures { λ r. ⌜ saidOf r ≡ orElse (saidOfSheet read) (listsAnswer year (now (holidays .entry)) prices) ⌝ }
+{
+    let answer = told(read);
+    let Decision::Taken = answer else {
+        return answer;
+    };
+    if calendar::bad_holidays(year, holidays) {
+        return Decision::BadHolidays;
+    }
+    if tariff::prices_out(prices) {
+        return Decision::PriceOut;
+    }
+    Decision::Taken
+}
+
+// What a whole series is answered under terms: 4, 5, then the decision over its figures.
+fn whole_answer(terms: Terms, series: &[u32]) -> Decision
+    ensures { λ r. ⌜ saidOf r ≡ wholeAnswer terms (now (series .entry)) ⌝ }
+{
+    let run = Run {
+        year: terms.year,
+        period: false,
+    };
+    if series.len() != readings::run_readings(run) {
+        return Decision::WrongLength;
+    }
+    let figures = collect(terms, series);
+    if CUSTOMER_MOST < figures.peak {
+        return Decision::BadReading(readings::first_illegal(run, series, CUSTOMER_MOST));
+    }
+    let list = terms.prices;
+    tariff::judge(figures, terms.level, list, terms.option)
+}
+
 // The decision over a whole series. Refuses 12, 1, 2, 12, 3, 6, 4, 5, 8, 9, 10, 11 in this order; else 0 with the charge.
 pub fn decide(
     sheet: &[u8],
@@ -125,19 +168,34 @@ pub fn decide(
         return answer;
     };
     let terms = opened.customer.terms;
+    whole_answer(terms, series)
+}
+
+// What a day is answered where so many days are taken, with this sum: 13, also for a sum that no legal days have, then 4, then 5.
+fn day_answer(year: u16, seen: u16, sum: u64, day: &[u32]) -> Decision
+    ensures { λ r. ⌜ saidOf r ≡ cond (ltb (sumMost seen) sum) (only 13) (nextAnswer (yearRun year) customerMost seen (now (day .entry))) ⌝ }
+{
+    if DAY_SUM_MOST * (seen as u64) < sum {
+        return Decision::DayOut;
+    }
+    if dates::year_days(year) <= seen {
+        return Decision::DayOut;
+    }
     let run = Run {
-        year: terms.year,
+        year,
         period: false,
     };
-    if series.len() != readings::run_readings(run) {
+    if day.len() != readings::day_len(run, seen) {
         return Decision::WrongLength;
     }
-    let figures = collect(terms, series);
-    if CUSTOMER_MOST < figures.peak {
-        return Decision::BadReading(readings::first_illegal(run, series, CUSTOMER_MOST));
+    if CUSTOMER_MOST < readings::highest(day) {
+        let position = readings::first_above(day, CUSTOMER_MOST) as u16;
+        return Decision::BadReading(Place {
+            day: seen + 1,
+            position,
+        });
     }
-    let list = terms.prices;
-    tariff::judge(figures, terms.level, list, terms.option)
+    Decision::Taken
 }
 
 impl Customer {
@@ -148,41 +206,34 @@ impl Customer {
     {
         let read = sheet::read(sheet);
         let said = read.answer;
-        let answer = told(said);
+        let meaning = read.sheet;
+        let answer = open_answer(said, meaning.year, holidays, prices);
         let Decision::Taken = answer else {
             return Stepped {
                 answer,
                 customer: Customer::shut(),
             };
         };
-        let meaning = read.sheet;
-        if calendar::bad_holidays(meaning.year, holidays) {
-            return Stepped {
-                answer: Decision::BadHolidays,
-                customer: Customer::shut(),
-            };
-        }
-        if tariff::prices_out(prices) {
-            return Stepped {
-                answer: Decision::PriceOut,
-                customer: Customer::shut(),
-            };
-        }
+        let customer = Customer::opened(meaning, holidays, prices, option);
+        Stepped { answer, customer }
+    }
+
+    // The state that an accepted opening hands over: no day is taken yet.
+    fn opened(meaning: Sheet, holidays: &[u16], prices: Prices, option: bool) -> Customer
+        ensures { λ r. ⌜ r ≡ opened (termsOf meaning (now (holidays .entry)) prices option) ⌝ }
+    {
         let windows = meaning.windows;
-        Stepped {
-            answer: Decision::Taken,
-            customer: Customer {
-                terms: Terms {
-                    year: meaning.year,
-                    level: meaning.level,
-                    option,
-                    prices,
-                    windows,
-                    carrying: calendar::window_days(meaning.year, holidays),
-                },
-                seen: 0,
-                figures: no_figures(),
+        Customer {
+            terms: Terms {
+                year: meaning.year,
+                level: meaning.level,
+                option,
+                prices,
+                windows,
+                carrying: calendar::window_days(meaning.year, holidays),
             },
+            seen: 0,
+            figures: no_figures(),
         }
     }
 
@@ -212,28 +263,19 @@ impl Customer {
         }
     }
 
-    // A state whose sum no legal days have.
-    fn is_overfull(self) -> bool
-        ensures { λ r. ⌜ r ≡ overfull self ⌝ }
-    {
-        DAY_SUM_MOST * (self.seen as u64) < self.figures.sum
-    }
-
     // A legal day is taken in.
     fn add(self, day: &[u32]) -> Customer
         requires { ⌜ (self .seen < yearDays (self .terms .year)) × (length (now day) ≡ dayLen (yearRun (self .terms .year)) (self .seen)) × (self .figures .sum ≤ sumMost (self .seen)) ⌝ }
         ensures { λ r. ⌜ r ≡ taken self (now (day .entry)) ⌝ }
     {
         let terms = self.terms;
-        let windows = terms.windows;
-        let carrying = terms.carrying;
         let seen = self.seen;
         let figures = day::take_day(
             self.figures,
             terms.year,
             seen,
-            carrying[seen as usize],
-            &windows,
+            terms.carrying[seen as usize],
+            &terms.windows,
             day,
         );
         Customer {
@@ -247,49 +289,15 @@ impl Customer {
     pub fn day(self, day: &[u32]) -> Stepped
         ensures { λ r. ⌜ (saidOf (r .answer) ≡ dayAnswer self (now (day .entry))) × (r .customer ≡ dayCustomer self (now (day .entry))) ⌝ }
     {
-        let year = self.terms.year;
-        let seen = self.seen;
-        if self.is_overfull() {
+        let answer = day_answer(self.terms.year, self.seen, self.figures.sum, day);
+        let Decision::Taken = answer else {
             return Stepped {
-                answer: Decision::DayOut,
+                answer,
                 customer: self,
             };
-        }
-        if dates::year_days(year) <= seen {
-            return Stepped {
-                answer: Decision::DayOut,
-                customer: self,
-            };
-        }
-        if day.len()
-            != readings::day_len(
-                Run {
-                    year,
-                    period: false,
-                },
-                seen,
-            )
-        {
-            return Stepped {
-                answer: Decision::WrongLength,
-                customer: self,
-            };
-        }
-        if CUSTOMER_MOST < readings::highest(day) {
-            let position = readings::first_above(day, CUSTOMER_MOST) as u16;
-            return Stepped {
-                answer: Decision::BadReading(Place {
-                    day: seen + 1,
-                    position,
-                }),
-                customer: self,
-            };
-        }
-        let next = self.add(day);
-        Stepped {
-            answer: Decision::Taken,
-            customer: next,
-        }
+        };
+        let customer = self.add(day);
+        Stepped { answer, customer }
     }
 
     // The decision over the days taken: 13 where they are not all in, else as the whole series.

@@ -10,13 +10,14 @@ use Rattle.customer.proofs.Customer.add.Statement.{statement}
 use Rattle.customer.proofs.Customer.add.Tie as tie
 
 -- the day is one of the year's
-within : (e : tie.After-carrying) → e .before .before .before .before .args .self .seen < mostDays
-within e = omega (arith, leap-small (e .before .before .before .before .args .self .terms .year))
+within : (e : tie.After-terms) → e .before .before .args .self .seen < mostDays
+within e = omega (arith, leap-small (e .before .before .args .self .terms .year))
 
 take-day-requires : tie.Need-take-day-requires
 take-day-requires c κs =
+    let w = within (c .before .before .before) in
     let s = c .before .before .before .before .before in
-    (s .pre .1, within (c .before), omega (arith, s .pre .2, within (c .before)))
+    (s .pre .1, w, omega (arith, s .pre .2, w))
 
 returns : tie.Need-returns
 unfolding anyOn highOn quarterOn
@@ -31,5 +32,5 @@ add-spec =
     (λ c. search needs)  -- cast-take-day
     (λ c. within c)  -- array-read-take-day
     take-day-requires
-    (λ c. let h = within (c .before .before) in omega arith)  -- add-t13
+    (λ c. let h = within (c .before .before .before .before) in omega arith)  -- add-t13
     returns)
