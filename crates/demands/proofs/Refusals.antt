@@ -23,7 +23,8 @@ use Rattle.readings.specs.Legal.{highestOf, firstAbove, firstIllegal}
 use Rattle.readings.specs.Days.{seriesAnswer, nextAnswer}
 use Rattle.sheet.specs.declared.Sheet.{Sheet}
 use Rattle.sheet.specs.Windows.{tooFull}
-use Rattle.sheet.specs.Bytes.{yearAt, levelAt, sheetSize, twoAt, windowsIn, sheetIn, unmarked, versionOut}
+use Rattle.packed.specs.Bytes.{twoAt, versionOut}
+use Rattle.sheet.specs.Bytes.{versionAt, yearAt, levelAt, sheetSize, windowsIn, sheetIn, unmarked}
 use Rattle.sheet.specs.Answers.{readAnswer, writeAnswer, written}
 use Rattle.sheet.proofs.Exactly.{read-zero}
 use Rattle.grid.specs.Answers.{windowsAnswer, windowsBuffer, openAnswer as gridOpens, shut as gridShut, dayAnswer as gridDay, dayGrid, closeAnswer as gridCloses, closeBuffer, finishAnswer, sheetOf}
@@ -102,7 +103,7 @@ module _ (column : ℕ → List ℕ) (one : column 1 ≡ []) (two : column 2 ≡
   reads b =
       choice (Refusing column) (not (eqb (length b) sheetSize)) (λ r. leaf (sym twelve))
       (choice (Refusing column) (unmarked b) (λ r. leaf (sym twelve))
-      (choice (Refusing column) (versionOut b) (λ r. leaf (sym twelve))
+      (choice (Refusing column) (versionOut b versionAt) (λ r. leaf (sym twelve))
       (choice (Refusing column) (yearOut (twoAt b yearAt)) (λ r. leaf (sym one))
       (choice (Refusing column) (levelOut (getD b levelAt 0)) (λ r. leaf (sym two))
       (choice (Refusing column) (tooFull (windowsIn b)) (λ r. leaf (sym twelve))

@@ -23,7 +23,8 @@ use Rattle.dates.specs.Period.{periodDays, periodDate, periodSeason}
 use Rattle.readings.specs.Runs.{runDays, dayLen, quarterOf, runReadings, reading}
 use Rattle.readings.proofs.Runs.{len-some, quarter-is, period-run}
 use Rattle.sheet.specs.Windows.{seasons, isSet}
-use Rattle.sheet.specs.Bytes.{sheetSize, unmarked}
+use Rattle.packed.specs.Bytes.{unlike}
+use Rattle.sheet.specs.Bytes.{sheetSize}
 use Rattle.sheet.specs.Answers.{readAnswer, readSheet}
 use Rattle.windows.specs.Chosen.{aboveLine, comesBefore, rank, kept}
 use Rattle.grid.specs.Curves.{periodRun, inSeason, topOf, curveAt}
@@ -80,7 +81,7 @@ first-laid = laid first (start-long (periodRun 2025) 1 some-2025) first-peak
 
 -- 56 zeros are no sheet
 blank-read : readAnswer blankBuffer ≡ only 12
-unfolding readAnswer unmarked anyOver joined
+unfolding readAnswer unlike anyOver joined
 blank-read = refl
 
 -- quarter 0 is kept where it has the peak, and a quarter with curve value 0 never is

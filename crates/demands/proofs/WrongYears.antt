@@ -22,7 +22,8 @@ use Rattle.readings.specs.Runs.{runDays, dayLen, quarterOf}
 use Rattle.readings.proofs.Runs.{len-is, year-run}
 use Rattle.readings.proofs.Days.{series-legal}
 use Rattle.sheet.specs.Windows.{isSet, setIn, tooFull}
-use Rattle.sheet.specs.Bytes.{twoAt, windowsIn, sheetIn, unmarked}
+use Rattle.packed.specs.Bytes.{twoAt, unlike}
+use Rattle.sheet.specs.Bytes.{windowsIn, sheetIn}
 use Rattle.sheet.specs.Answers.{readAnswer}
 use Rattle.tariff.specs.declared.Prices.{Prices}
 use Rattle.tariff.specs.declared.Figures.{Figures}
@@ -56,7 +57,7 @@ pub example : List ℕ
 example = exampleSheet
 
 example-read : readAnswer example ≡ only 0
-unfolding example readAnswer unmarked twoAt yearOut levelOut tooFull setIn windowsIn table inBase anyOver countOver sumOver joined
+unfolding example readAnswer unlike twoAt yearOut levelOut tooFull setIn windowsIn table inBase anyOver countOver sumOver joined
 example-read = refl
 
 example-year : sheetIn example .year ≡ 2025

@@ -1,22 +1,24 @@
 -- The cases of reading and writing a sheet, each with the code's answer on the left.
 -- Assumes nothing.
-use mathlib.Core.Path.{_≡_, ap}
-use mathlib.Core.Bool.{true, false, not}
+use mathlib.Core.Path.{_≡_, ap, _∙_}
+use mathlib.Core.Bool.{true, false}
 use mathlib.Core.Logic.{_↔_, _⊎_, inl, inr}
 use mathlib.Core.List.{List, _++_}
-use Prim.Native.Nat.{ℕ, _≤_, _<_}
+use Prim.Native.Nat.{ℕ, _+_, _≤_, _<_}
 use native.Mathlib.Decide.{ℕ-discrete}
-use borrow.Author.Tests.{lt-ltb, le-ltb, eq-eqb, ne-eqb, eqb-true, not-false}
+use native.Mathlib.Omega.{arith}
+use borrow.Author.Tests.{lt-ltb, le-ltb, eq-eqb, ne-eqb}
 use lib.Dec.{eqb}
 use lib.ListN.{length, drop, getD}
 use Rattle.over.proofs.Bools.{decided, clash}
-use Rattle.over.proofs.Tests.{any-fails, all-passed}
 use Rattle.answers.specs.Ruling.{yearOut, levelOut}
 use Rattle.answers.specs.Said.{only, after}
 use Rattle.answers.proofs.Laws.{after-again, refusal-keeps}
 use Rattle.sheet.specs.declared.Sheet.{Sheet}
 use Rattle.sheet.specs.Windows.{tooFull}
-use Rattle.sheet.specs.Bytes.{mark, versionAt, yearAt, levelAt, sheetSize, sheetVersion, twoAt, windowsIn, sheetIn, sheetBytes, unmarked}
+use Rattle.packed.specs.Bytes.{formatVersion, twoAt}
+use Rattle.packed.proofs.Bytes.{alike}
+use Rattle.sheet.specs.Bytes.{mark, versionAt, yearAt, levelAt, sheetSize, windowsIn, sheetIn, sheetBytes, unmarked}
 use Rattle.sheet.specs.Rows.{Marked, Formed}
 use Rattle.sheet.specs.Answers.{readAnswer, readSheet, readOf, blank, writeAnswer, written}
 
@@ -32,17 +34,16 @@ module _ (b : List ℕ) where
 
   -- the mark by its test
   pub marked : (unmarked b ≡ false) ↔ Marked b
-  unfolding unmarked
   marked = (
-    λ e k l. eqb-true _ _ (not-false _ (all-passed (λ j. not (eqb (getD b j 0) (getD mark j 0))) versionAt e .fails k l)),
-    λ h. any-fails (λ j. not (eqb (getD b j 0) (getD mark j 0))) versionAt (λ k l. ap not (eq-eqb _ _ (h k l))),
+    λ e k l. let z : k ≡ 0 + k = omega arith in ap (λ (i : ℕ). getD b i 0) z ∙ alike mark b 0 .0 e k l,
+    λ h. alike mark b 0 .1 (λ k l. let z : 0 + k ≡ k = omega arith in ap (λ (i : ℕ). getD b i 0) z ∙ h k l),
   )
 
   -- the form is decided
   pub form : Dec (Formed b)
-  form = go (ℕ-discrete (length b) sheetSize) (decided (unmarked b)) (ℕ-discrete (twoAt b versionAt) sheetVersion)
+  form = go (ℕ-discrete (length b) sheetSize) (decided (unmarked b)) (ℕ-discrete (twoAt b versionAt) formatVersion)
     where
-      go : Dec (length b ≡ sheetSize) → (unmarked b ≡ true) ⊎ (unmarked b ≡ false) → Dec (twoAt b versionAt ≡ sheetVersion) → Dec (Formed b)
+      go : Dec (length b ≡ sheetSize) → (unmarked b ≡ true) ⊎ (unmarked b ≡ false) → Dec (twoAt b versionAt ≡ formatVersion) → Dec (Formed b)
       go (no s) m v = no (λ f. s (f .size))
       go (yes s) (inl m) v = no (λ f. clash m (marked .1 (f .marked)))
       go (yes s) (inr m) (no v) = no (λ f. v (f .version))
@@ -51,20 +52,20 @@ module _ (b : List ℕ) where
   -- the answers, in their order
   pub read-form : (Formed b → ⊥) → only 12 ≡ readAnswer b
   unfolding readAnswer
-  read-form h = go (ℕ-discrete (length b) sheetSize) (decided (unmarked b)) (ℕ-discrete (twoAt b versionAt) sheetVersion)
+  read-form h = go (ℕ-discrete (length b) sheetSize) (decided (unmarked b)) (ℕ-discrete (twoAt b versionAt) formatVersion)
     where
-      go : Dec (length b ≡ sheetSize) → (unmarked b ≡ true) ⊎ (unmarked b ≡ false) → Dec (twoAt b versionAt ≡ sheetVersion) → only 12 ≡ readAnswer b
+      go : Dec (length b ≡ sheetSize) → (unmarked b ≡ true) ⊎ (unmarked b ≡ false) → Dec (twoAt b versionAt ≡ formatVersion) → only 12 ≡ readAnswer b
       go (no s) m v = simp (ne-eqb (length b) sheetSize s)
       go (yes s) (inl m) v = simp (eq-eqb (length b) sheetSize s, m)
-      go (yes s) (inr m) (no v) = simp (eq-eqb (length b) sheetSize s, m, ne-eqb (twoAt b versionAt) sheetVersion v)
+      go (yes s) (inr m) (no v) = simp (eq-eqb (length b) sheetSize s, m, ne-eqb (twoAt b versionAt) formatVersion v)
       go (yes s) (inr m) (yes v) = absurd (h (record { size = s; marked = marked .0 m; version = v }))
 
   module _ (f : Formed b) where
     size : eqb (length b) sheetSize ≡ true
     size = eq-eqb (length b) sheetSize (f .size)
 
-    version : eqb (twoAt b versionAt) sheetVersion ≡ true
-    version = eq-eqb (twoAt b versionAt) sheetVersion (f .version)
+    version : eqb (twoAt b versionAt) formatVersion ≡ true
+    version = eq-eqb (twoAt b versionAt) formatVersion (f .version)
 
     pub read-year : yearOut (twoAt b yearAt) ≡ true → only 1 ≡ readAnswer b
     unfolding readAnswer

@@ -20,13 +20,15 @@ use Rattle.answers.specs.Said.{only}
 use Rattle.answers.proofs.Laws.{charge-year, level-of}
 use Rattle.sheet.specs.declared.Sheet.{Sheet}
 use Rattle.sheet.specs.Windows.{seasons, places, placeOf, setIn, Legal}
-use Rattle.sheet.specs.Bytes.{mark, versionAt, yearAt, levelAt, windowsAt, windowBytes, sheetSize, sheetVersion, twoAt, twoBytes, windowByte, bytesOf, byteAt, sheetBytes, bitOf, windowAt, windowsIn, sheetIn, AreBytes}
+use Rattle.packed.specs.Bytes.{formatVersion, twoAt}
+use Rattle.packed.proofs.Bytes.{two-bytes}
+use Rattle.sheet.specs.Bytes.{mark, versionAt, yearAt, levelAt, windowsAt, windowBytes, sheetSize, twoBytes, windowByte, bytesOf, byteAt, sheetBytes, bitOf, windowAt, windowsIn, sheetIn, AreBytes}
 use Rattle.sheet.specs.Rows.ReadRow.{zero}
 use Rattle.sheet.specs.Rows.WriteRow.{zero}
 use Rattle.sheet.specs.Rows.{Formed, ReadRow, WriteRow}
 use Rattle.sheet.specs.Answers.{readAnswer, readSheet, readOf, SheetRead, writeAnswer, written}
 use Rattle.sheet.proofs.Windows.{roomy}
-use Rattle.sheet.proofs.Bytes.{two-at, byte-bit, bits-byte, length-bytes, headOf, byte-at}
+use Rattle.sheet.proofs.Bytes.{byte-bit, bits-byte, length-bytes, headOf, byte-at}
 use Rattle.sheet.proofs.Exactly.{read-exactly, write-exactly}
 use Rattle.sheet.proofs.Answered.{read-accepted, read-taken, write-accepted, write-taken}
 
@@ -49,7 +51,7 @@ module _ (y l : ℕ) (w : List Bool) where
 
   year-written : twoAt (bytesOf y l w) yearAt ≡ y
   unfolding bytesOf
-  year-written = omega (arith, two-at (bytesOf y l w) yearAt)
+  year-written = omega (arith, two-bytes (bytesOf y l w) yearAt)
 
   level-written : getD (bytesOf y l w) levelAt 0 ≡ l
   unfolding bytesOf
@@ -57,7 +59,7 @@ module _ (y l : ℕ) (w : List Bool) where
 
   formed : Formed (bytesOf y l w)
   unfolding bytesOf
-  formed = record { size = length-bytes y l w; marked = λ k h. List·getD-append mark (twoBytes sheetVersion ++ (twoBytes y ++ ((l ∷ []) ++ table (windowByte w) windowBytes))) 0 k h; version = two-at (bytesOf y l w) versionAt }
+  formed = record { size = length-bytes y l w; marked = λ k h. List·getD-append mark (twoBytes formatVersion ++ (twoBytes y ++ ((l ∷ []) ++ table (windowByte w) windowBytes))) 0 k h; version = two-bytes (bytesOf y l w) versionAt }
 
   -- the meaning of the bytes is what was written
   meaning : length w ≡ places → sheetIn (bytesOf y l w) ≡ record { year = y; level = l; windows = w }
@@ -99,10 +101,10 @@ module _ (b : List ℕ) (small : AreBytes b) (f : Formed b) where
   head-back zero h = sym (f .marked 0 (omega arith))
   head-back (suc zero) h = sym (f .marked 1 (omega arith))
   head-back (suc (suc zero)) h = sym (f .marked 2 (omega arith))
-  head-back (suc (suc (suc zero))) h = omega (arith, two-at b versionAt, f .version, small 4)
-  head-back (suc (suc (suc (suc zero)))) h = omega (arith, two-at b versionAt, f .version, small 4)
-  head-back (suc (suc (suc (suc (suc zero))))) h = omega (arith, two-at b yearAt, small 6)
-  head-back (suc (suc (suc (suc (suc (suc zero)))))) h = omega (arith, two-at b yearAt, small 6)
+  head-back (suc (suc (suc zero))) h = omega (arith, two-bytes b versionAt, f .version, small 4)
+  head-back (suc (suc (suc (suc zero)))) h = omega (arith, two-bytes b versionAt, f .version, small 4)
+  head-back (suc (suc (suc (suc (suc zero))))) h = omega (arith, two-bytes b yearAt, small 6)
+  head-back (suc (suc (suc (suc (suc (suc zero)))))) h = omega (arith, two-bytes b yearAt, small 6)
   head-back (suc (suc (suc (suc (suc (suc (suc zero))))))) h = refl
   head-back (suc (suc (suc (suc (suc (suc (suc (suc i)))))))) h = absurd (omega arith)
 

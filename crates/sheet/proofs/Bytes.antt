@@ -1,10 +1,9 @@
 -- Laws of a sheet's bytes: their number, each of them, and that the bits of a byte are the quarters it was made of.
 -- Assumes nothing.
 use mathlib.Core.Path.{_≡_, refl, sym, ap, _∙_}
-use mathlib.Core.Bool.{Bool, true, false, not, _||_}
+use mathlib.Core.Bool.{Bool, true, false, _||_}
 use mathlib.Core.List.{List, [], _∷_, _++_}
-use Prim.Native.Nat.{ℕ, zero, suc, _+_, _-_, _*_, _^_, _≤_, _<_}
-use native.Mathlib.Nat.{add-zero}
+use Prim.Native.Nat.{ℕ, zero, suc, _+_, _-_, _*_, _/_, _%_, _^_, _≤_, _<_}
 use native.Mathlib.Decide.{decLt}
 use native.Mathlib.Omega.{arith}
 use borrow.Author.Tests.{lt-ltb, le-ltb}
@@ -12,23 +11,40 @@ use lib.Dec.{eqb}
 use lib.ListN.{length, getD, List·getD-append}
 use lib.Seq.{getD-append-add}
 use lib.Pow.{pow-mono}
-use Rattle.over.specs.Over.{bit, joined, anyOver, inBase, digitOf, table}
+use Rattle.over.specs.Over.{bit, inBase, digitOf, table}
 use Rattle.over.proofs.Bools.{bit-le}
+use Rattle.over.proofs.Tests.{count-cong}
 use Rattle.over.proofs.Tables.{length-table, getD-table}
 use Rattle.over.proofs.Digits.{base-more, base-cong, base-lt, base-digit, base-back}
-use Rattle.sheet.specs.Bytes.{mark, windowsAt, windowBytes, sheetSize, sheetVersion, twoAt, twoBytes, windowByte, bytesOf, byteAt, bitOf, unmarked}
+use Rattle.answers.specs.Ruling.{dayQuarters}
+use Rattle.packed.specs.Bytes.{formatVersion}
+use Rattle.sheet.specs.Windows.{seasons, places, placeOf, setIn, tooFull}
+use Rattle.sheet.specs.Bytes.{mark, windowsAt, windowBytes, sheetSize, twoBytes, windowByte, bytesOf, byteAt, bitOf, bitAt, windowAt, windowsIn, seasonBytes, setFrom, seasonFull}
+use Rattle.sheet.proofs.Windows.{too-full}
 
--- two bytes
-pub two-at : (b : List ℕ) (i : ℕ) → twoAt b i ≡ 256 * getD b i 0 + getD b (i + 1) 0
-unfolding twoAt inBase joined
-two-at b i =
-    let e : getD b (i + 0) 0 ≡ getD b i 0 = ap (λ (k : ℕ). getD b k 0) (add-zero i) in
-    omega arith
+-- the quarters of a season, set in a sheet's windows or in their bytes: as many
+pub season-set : (b : List ℕ) (j : ℕ) → j < seasons → setIn (windowsIn b) (j + 1) ≡ setFrom b (windowsAt + seasonBytes * j)
+unfolding setIn setFrom windowsIn
+season-set b j m = count-cong _ _ dayQuarters each
+  where
+    each : (q : ℕ) → q < dayQuarters → getD (table (windowAt b) places) (placeOf (j + 1) q) false ≡ bitAt b (windowsAt + seasonBytes * j) q
+    each q l =
+        let p = placeOf (j + 1) q in
+        let byte : windowsAt + p / 8 ≡ windowsAt + seasonBytes * j + q / 8 = omega arith in
+        let bit : p % 8 ≡ q % 8 = omega arith in
+        getD-table (windowAt b) places p false (omega arith) ∙ rw (byte, bit)
 
--- the mark
-pub unmarked-by : (b : List ℕ) → (not (eqb (getD b 0 0) 72) || not (eqb (getD b 1 0) 76) || not (eqb (getD b 2 0) 90)) ≡ unmarked b
-unfolding unmarked anyOver joined
-unmarked-by b = refl
+-- they are as many where the twelve bytes are the same
+pub set-same : (a b : List ℕ) (i j : ℕ) → ((k : ℕ) → k < seasonBytes → getD a (i + k) 0 ≡ getD b (j + k) 0) → setFrom a i ≡ setFrom b j
+unfolding setFrom
+set-same a b i j h = count-cong _ _ dayQuarters (λ q l. ap (λ (x : ℕ). bitOf x (q % 8)) (h (q / 8) (omega arith)))
+
+-- four seasons in bytes, more than 40 set in one
+pub full-bytes :
+    (b : List ℕ)
+    → (seasonFull b 8 || seasonFull b 20 || seasonFull b 32 || seasonFull b 44) ≡ tooFull (windowsIn b)
+full-bytes b =
+    too-full (windowsIn b) _ _ _ _ (sym (season-set b 0 (omega arith))) (sym (season-set b 1 (omega arith))) (sym (season-set b 2 (omega arith))) (sym (season-set b 3 (omega arith)))
 
 -- a bit is the digit 0 or 1, and says whether it is set
 bit-digit : (b : Bool) → eqb (bit b) 1 ≡ b
@@ -77,7 +93,7 @@ length-bytes y l w = rw (length-table (windowByte w) windowBytes)
 
 -- the eight bytes before the windows
 abbrev pub headOf : ℕ → ℕ → List ℕ
-headOf y l = mark ++ (twoBytes sheetVersion ++ (twoBytes y ++ (l ∷ [])))
+headOf y l = mark ++ (twoBytes formatVersion ++ (twoBytes y ++ (l ∷ [])))
 
 -- byte i of the 56
 pub byte-at : (y l : ℕ) (w : List Bool) (i : ℕ) → i < sheetSize → byteAt (headOf y l) w i ≡ getD (bytesOf y l w) i 0

@@ -19,7 +19,8 @@ use Rattle.sheet.specs.declared.Reading.{Reading}
 use Rattle.sheet.specs.declared.SheetAnswer.{SheetAnswer}
 use Rattle.sheet.specs.declared.SheetAnswer.the-variants.{Accepted, Short, YearOut, LevelOut, Malformed}
 use Rattle.sheet.specs.Windows.{tooFull}
-use Rattle.sheet.specs.Bytes.{yearAt, levelAt, sheetSize, twoAt, windowsIn}
+use Rattle.packed.specs.Bytes.{twoAt}
+use Rattle.sheet.specs.Bytes.{yearAt, levelAt, sheetSize, windowsIn}
 use Rattle.sheet.specs.Rows.ReadRow.{malformed, one, two, full, zero}
 use Rattle.sheet.specs.Rows.WriteRow.{fourteen, one, two, twelve, zero}
 use Rattle.sheet.specs.Rows.{Formed, ReadRow, WriteRow}

@@ -1,7 +1,7 @@
 -- Laws of a sheet's windows: which quarter is set, how many are set in a season, and the chosen quarters laid flat.
 -- Assumes nothing.
 use mathlib.Core.Path.{_≡_, _∙_}
-use mathlib.Core.Bool.{Bool, false, _||_}
+use mathlib.Core.Bool.{Bool, true, false, _||_}
 use mathlib.Core.Logic.{_↔_}
 use mathlib.Core.List.{List, []}
 use Prim.Native.Nat.{ℕ, _+_, _-_, _/_, _%_, _≤_, _<_}
@@ -11,10 +11,10 @@ use lib.Dec.{ltb}
 use lib.ListN.{length, getD}
 use Rattle.over.specs.Limits.{Within}
 use Rattle.over.specs.Over.{joined, anyOver}
-use Rattle.over.proofs.Tests.{any-fails, all-passed}
+use Rattle.over.proofs.Tests.{any-at, any-fails, all-passed}
 use Rattle.over.proofs.Tables.{length-table, getD-table}
 use Rattle.answers.specs.Ruling.{dayQuarters, windowsMost}
-use Rattle.sheet.specs.Windows.{seasons, places, placeOf, isSet, setIn, tooFull, Roomy, flatOf}
+use Rattle.sheet.specs.Windows.{seasons, places, placeOf, isSet, setIn, tooMany, tooFull, Roomy, flatOf}
 
 -- is a quarter set: the code's cases
 module _ (w : List Bool) (s q : ℕ) where
@@ -55,6 +55,10 @@ pub too-full :
     → (ltb windowsMost a || ltb windowsMost b || ltb windowsMost c || ltb windowsMost d) ≡ tooFull w
 unfolding tooFull anyOver joined
 too-full w a b c d p q r s = rw (p, q, r, s)
+
+pub full-season : (w : List Bool) (k : ℕ) → k < seasons → tooMany (setIn w (k + 1)) ≡ true → tooFull w ≡ true
+unfolding tooFull
+full-season w k l t = any-at (λ j. tooMany (setIn w (j + 1))) seasons k l t
 
 -- the chosen quarters, laid flat
 pub length-flat : (chosen : List (List Bool)) → length (flatOf chosen) ≡ places

@@ -12,7 +12,8 @@ use Rattle.sheet.specs.declared.SheetAnswer.{SheetAnswer}
 use Rattle.sheet.specs.declared.SheetAnswer.the-variants.{Accepted, Short, YearOut, LevelOut, Malformed}
 use Rattle.sheet.specs.declared.Reading.{Reading}
 use Rattle.sheet.specs.Windows.{places, tooFull}
-use Rattle.sheet.specs.Bytes.{yearAt, levelAt, sheetSize, twoAt, windowsIn, sheetIn, sheetBytes, unmarked, versionOut}
+use Rattle.packed.specs.Bytes.{twoAt, versionOut}
+use Rattle.sheet.specs.Bytes.{versionAt, yearAt, levelAt, sheetSize, windowsIn, sheetIn, sheetBytes, unmarked}
 
 -- the number of each case of the code's answer
 abbrev pub saidOfSheet : SheetAnswer → Said
@@ -27,7 +28,7 @@ unfoldable pub readAnswer : List ℕ → Said
 readAnswer b =
     cond (not (eqb (length b) sheetSize)) (only 12)
     (cond (unmarked b) (only 12)
-    (cond (versionOut b) (only 12)
+    (cond (versionOut b versionAt) (only 12)
     (cond (yearOut (twoAt b yearAt)) (only 1)
     (cond (levelOut (getD b levelAt 0)) (only 2)
     (cond (tooFull (windowsIn b)) (only 12)

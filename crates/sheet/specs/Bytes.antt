@@ -1,20 +1,22 @@
 -- Document 01, Window sheet: "56 bytes, numbers here and in files with the high byte first: "HLZ", version 1 (16 bits), year (16
 -- bits), level (8 bits), then 12 bytes for each season 1 to 4; quarter 0 is the top bit of the first byte."
-use mathlib.Core.Bool.{Bool, false, cond, not}
+use mathlib.Core.Bool.{Bool, false, cond}
 use mathlib.Core.List.{List, [], _∷_, _++_}
 use Prim.Native.Nat.{ℕ, _+_, _-_, _*_, _/_, _%_, _<_}
 use lib.Dec.{ltb, eqb}
 use lib.ListN.{getD}
-use Rattle.over.specs.Over.{bit, anyOver, table, inBase, digitOf}
+use Rattle.over.specs.Over.{bit, countOver, table, inBase, digitOf}
+use Rattle.answers.specs.Ruling.{dayQuarters}
+use Rattle.packed.specs.Bytes.{markSize, unlike, formatVersion, twoAt}
 use Rattle.sheet.specs.declared.Sheet.{Sheet}
-use Rattle.sheet.specs.Windows.{places}
+use Rattle.sheet.specs.Windows.{places, tooMany}
 
 -- the fields in order: each starts where the one before it ends
 abbrev pub mark : List ℕ
 mark = 72 ∷ 76 ∷ 90 ∷ []
 
 abbrev pub versionAt : ℕ
-versionAt = 3
+versionAt = markSize
 
 abbrev pub yearAt : ℕ
 yearAt = versionAt + 2
@@ -31,13 +33,7 @@ windowBytes = 48
 abbrev pub sheetSize : ℕ
 sheetSize = windowsAt + windowBytes
 
-abbrev pub sheetVersion : ℕ
-sheetVersion = 1
-
--- the 16 bits at place i, high byte first; and a number as two bytes
-unfoldable pub twoAt : List ℕ → ℕ → ℕ
-twoAt b i = inBase 256 (λ k. getD b (i + k) 0) 2
-
+-- a number of 16 bits as two bytes, high byte first
 abbrev pub twoBytes : ℕ → List ℕ
 twoBytes n = n / 256 ∷ n % 256 ∷ []
 
@@ -48,7 +44,7 @@ windowByte windows k = inBase 2 (λ j. bit (getD windows (8 * k + j) false)) 8
 -- the bytes of a sheet
 unfoldable pub bytesOf : ℕ → ℕ → List Bool → List ℕ
 bytesOf year level windows =
-    mark ++ (twoBytes sheetVersion ++ (twoBytes year ++ ((level ∷ []) ++ table (windowByte windows) windowBytes)))
+    mark ++ (twoBytes formatVersion ++ (twoBytes year ++ ((level ∷ []) ++ table (windowByte windows) windowBytes)))
 
 -- byte i of a sheet with these first eight bytes
 abbrev pub byteAt : List ℕ → List Bool → ℕ → ℕ
@@ -61,8 +57,12 @@ sheetBytes s = bytesOf (s .year) (s .level) (s .windows)
 abbrev pub bitOf : ℕ → ℕ → Bool
 bitOf byte j = eqb (digitOf 2 8 byte j) 1
 
+-- bit p of the bytes from place i on
+abbrev pub bitAt : List ℕ → ℕ → ℕ → Bool
+bitAt b i p = bitOf (getD b (i + p / 8) 0) (p % 8)
+
 abbrev pub windowAt : List ℕ → ℕ → Bool
-windowAt b p = bitOf (getD b (windowsAt + p / 8) 0) (p % 8)
+windowAt b p = bitAt b windowsAt p
 
 unfoldable pub windowsIn : List ℕ → List Bool
 windowsIn b = table (windowAt b) places
@@ -70,12 +70,19 @@ windowsIn b = table (windowAt b) places
 abbrev pub sheetIn : List ℕ → Sheet
 sheetIn b = record { year = twoAt b yearAt; level = getD b levelAt 0; windows = windowsIn b }
 
--- the mark is not "HLZ"; the version is not 1
-unfoldable pub unmarked : List ℕ → Bool
-unmarked b = anyOver (λ k. not (eqb (getD b k 0) (getD mark k 0))) versionAt
+-- the mark is not "HLZ"
+abbrev pub unmarked : List ℕ → Bool
+unmarked b = unlike mark b 0
 
-abbrev pub versionOut : List ℕ → Bool
-versionOut b = not (eqb (twoAt b versionAt) sheetVersion)
+-- "12 bytes for each season": how many quarters are set in those from place i on, and whether they are more than 40
+abbrev pub seasonBytes : ℕ
+seasonBytes = 12
+
+unfoldable pub setFrom : List ℕ → ℕ → ℕ
+setFrom b i = countOver (bitAt b i) dayQuarters
+
+abbrev pub seasonFull : List ℕ → ℕ → Bool
+seasonFull b i = tooMany (setFrom b i)
 
 -- a list of bytes, as a lent slice of them is
 abbrev pub AreBytes : List ℕ → Type 0

@@ -7,7 +7,8 @@ use lib.ListN.{length, getD}
 use Rattle.answers.specs.Ruling.{ChargeYear, Level}
 use Rattle.sheet.specs.declared.Sheet.{Sheet}
 use Rattle.sheet.specs.Windows.{Roomy}
-use Rattle.sheet.specs.Bytes.{mark, versionAt, yearAt, levelAt, sheetSize, sheetVersion, twoAt, windowsIn}
+use Rattle.packed.specs.Bytes.{formatVersion, twoAt}
+use Rattle.sheet.specs.Bytes.{mark, versionAt, yearAt, levelAt, sheetSize, windowsIn}
 
 -- "HLZ" stands at the start
 abbrev pub Marked : List ℕ → Type 0
@@ -17,7 +18,7 @@ Marked b = (k : ℕ) → k < versionAt → getD b k 0 ≡ getD mark k 0
 pub record Formed (b : List ℕ) : Type 0 where
   pub size : length b ≡ sheetSize
   pub marked : Marked b
-  pub version : twoAt b versionAt ≡ sheetVersion
+  pub version : twoAt b versionAt ≡ formatVersion
 
 pub data ReadRow (b : List ℕ) : ℕ → Type 0 where
   malformed : (Formed b → ⊥) → ReadRow b 12

@@ -30,9 +30,12 @@ isSet windows s q = leb 1 s && (leb s seasons && (ltb q dayQuarters && getD wind
 unfoldable pub setIn : List Bool → ℕ → ℕ
 setIn windows s = countOver (λ q. getD windows (placeOf s q) false) dayQuarters
 
--- some season has more than 40
+-- "at most 40 set in a season": n set quarters are more; and some season has more
+abbrev pub tooMany : ℕ → Bool
+tooMany n = ltb windowsMost n
+
 unfoldable pub tooFull : List Bool → Bool
-tooFull windows = anyOver (λ k. ltb windowsMost (setIn windows (k + 1))) seasons
+tooFull windows = anyOver (λ k. tooMany (setIn windows (k + 1))) seasons
 
 abbrev pub Roomy : List Bool → Type 0
 Roomy windows = (s : ℕ) → Within 1 seasons s → setIn windows s ≤ windowsMost

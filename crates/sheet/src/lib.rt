@@ -6,10 +6,10 @@ ghost use mathlib.Core.List.{_++_};
 ghost use lib.ListN.{length, drop};
 ghost use Rattle.over.specs.Limits.{Within};
 ghost use Rattle.sheet.specs.Windows.{seasons, isSet, setIn, tooFull, flatOf};
-ghost use Rattle.sheet.specs.Bytes.{windowBytes, sheetSize, twoAt, windowByte, byteAt, bytesOf, bitOf, windowsIn, unmarked};
+ghost use Rattle.sheet.specs.Bytes.{windowBytes, sheetSize, windowByte, byteAt, bytesOf, bitOf, windowsIn, seasonFull};
 ghost use Rattle.sheet.specs.Answers.{saidOfSheet, shownOf, readOf, refusal, writeAnswer, written};
 
-// Bytes of a sheet; where its version, year, level and windows begin; the version.
+// Bytes of a sheet; where its version, year, level and the windows of its seasons begin.
 pub const SHEET_SIZE: usize = 56;
 
 const VERSION_AT: usize = 3;
@@ -20,7 +20,7 @@ const LEVEL_AT: usize = 7;
 
 const WINDOWS_AT: usize = 8;
 
-const SHEET_VERSION: u16 = 1;
+const SEASONS_AT: [usize; 4] = [8, 20, 32, 44];
 
 // Quarters of the four seasons.
 pub const PLACES: usize = 384;
@@ -179,25 +179,25 @@ fn unpack(b: &[u8]) -> [bool; PLACES]
     windows
 }
 
-fn wide(x: u8) -> u16
-    ensures { λ r. ⌜ (r ≡ x) × (r < 256) ⌝ }
+// Are more than 40 quarters set in the twelve bytes of a season, which begin at place i? Any bytes and any place have an answer.
+pub fn season_full(b: &[u8], i: usize) -> bool
+    ensures { λ r. ⌜ r ≡ seasonFull (now (b .entry)) i ⌝ }
 {
-    x as u16
+    let mut n: usize = 0;
+    for q in 0..answers::DAY_QUARTERS {
+        n += answers::one_if(bit_at(packed::byte_at(b, i, q / 8), q % 8));
+    }
+    answers::WINDOWS_MOST < n
 }
 
-// The 16 bits at place i, high byte first.
-fn two_at(b: &[u8], i: usize) -> u16
-    requires { ⌜ i + 1 < length (now b) ⌝ }
-    ensures { λ r. ⌜ r ≡ twoAt (now (b .entry)) i ⌝ }
+// Does some season in a sheet's bytes have more than 40?
+fn bytes_full(b: &[u8]) -> bool
+    ensures { λ r. ⌜ r ≡ tooFull (windowsIn (now (b .entry))) ⌝ }
 {
-    256 * wide(b[i]) + wide(b[i + 1])
-}
-
-fn is_unmarked(b: &[u8]) -> bool
-    requires { ⌜ length (now b) ≡ sheetSize ⌝ }
-    ensures { λ r. ⌜ r ≡ unmarked (now (b .entry)) ⌝ }
-{
-    (b[0] != b'H') | (b[1] != b'L') | (b[2] != b'Z')
+    season_full(b, SEASONS_AT[0])
+        | season_full(b, SEASONS_AT[1])
+        | season_full(b, SEASONS_AT[2])
+        | season_full(b, SEASONS_AT[3])
 }
 
 fn refused(answer: SheetAnswer) -> Reading
@@ -221,13 +221,13 @@ pub fn read(b: &[u8]) -> Reading
     if b.len() != SHEET_SIZE {
         return refused(SheetAnswer::Malformed);
     }
-    if is_unmarked(b) {
+    if packed::unlike(b, 0, b"HLZ") {
         return refused(SheetAnswer::Malformed);
     }
-    if two_at(b, VERSION_AT) != SHEET_VERSION {
+    if packed::two_at(b, VERSION_AT) != packed::VERSION {
         return refused(SheetAnswer::Malformed);
     }
-    let year = two_at(b, YEAR_AT);
+    let year = packed::two_at(b, YEAR_AT);
     if answers::year_out(year) {
         return refused(SheetAnswer::YearOut);
     }
@@ -235,10 +235,10 @@ pub fn read(b: &[u8]) -> Reading
     if answers::level_out(level) {
         return refused(SheetAnswer::LevelOut);
     }
-    let windows = unpack(b);
-    if too_full(&windows) {
+    if bytes_full(b) {
         return refused(SheetAnswer::Malformed);
     }
+    let windows = unpack(b);
     Reading {
         answer: SheetAnswer::Accepted,
         sheet: Sheet {

@@ -6,7 +6,8 @@ use native.Mathlib.Omega.{arith}
 use borrow.Author.Needs.{needs}
 use lib.ListN.{getD}
 use Rattle.answers.specs.Ruling.{yearOut, levelOut}
-use Rattle.sheet.specs.Bytes.{yearAt, levelAt, twoAt}
+use Rattle.packed.specs.Bytes.{twoAt}
+use Rattle.sheet.specs.Bytes.{yearAt, levelAt}
 use Rattle.sheet.specs.Rows.{Formed}
 use Rattle.sheet.specs.Answers.{shownOf}
 use Rattle.over.proofs.Bools.{clash}
@@ -14,18 +15,18 @@ use Rattle.sheet.proofs.Answered.{read-refused, read-taken, marked, rea
 use Rattle.sheet.proofs.read.Statement.{statement}
 use Rattle.sheet.proofs.read.Tie as tie
 
-formed-at : (e : tie.Else3) → Formed (e .before .before .before .before .before .before .args .b .now)
+formed-at : (e : tie.Else3) → Formed (e .before .before .before .before .before .before .before .args .b .now)
 formed-at e =
     record {
       size = omega arith;
-      marked = marked _ .0 (sym (e .before .before .before .is-unmarked .ensures) ∙ e .before .before .if2 .left);
+      marked = marked _ .0 (sym (e .before .before .before .unlike .ensures) ∙ e .before .before .if2 .left);
       version = sym (e .before .two-at .ensures) ∙ e .if3 .left;
     }
 
-year-at : (e : tie.Else4) → yearOut (twoAt (e .before .before .before .before .before .before .before .before .before .args .b .now) yearAt) ≡ false
+year-at : (e : tie.Else4) → yearOut (twoAt (e .before .before .before .before .before .before .before .before .before .before .args .b .now) yearAt) ≡ false
 year-at e = rw (e .before .before .two-at2 .ensures) at (sym (e .before .year-out .ensures) ∙ e .if4 .left)
 
-level-at : (e : tie.Else5) → levelOut (getD (e .before .before .before .before .before .before .before .before .before .before .before .before .args .b .now) levelAt 0) ≡ false
+level-at : (e : tie.Else5) → levelOut (getD (e .before .before .before .before .before .before .before .before .before .before .before .before .before .args .b .now) levelAt 0) ≡ false
 level-at e = sym (e .before .level-out .ensures) ∙ e .if5 .left
 
 returns : tie.Need-returns
@@ -34,7 +35,7 @@ returns c = ap shownOf (c .refused .ensures) ∙ read-refused _ (read-form _ (λ
 returns-2 : tie.Need-returns-2
 returns-2 c =
     ap shownOf (c .refused2 .ensures)
-    ∙ read-refused _ (read-form _ (λ f. clash (sym (c .before .before .is-unmarked .ensures) ∙ c .before .if2 .taken) (marked _ .1 (f .marked)))) refl
+    ∙ read-refused _ (read-form _ (λ f. clash (sym (c .before .before .unlike .ensures) ∙ c .before .if2 .taken) (marked _ .1 (f .marked)))) refl
 
 returns-3 : tie.Need-returns-3
 returns-3 c =
@@ -54,17 +55,17 @@ returns-5 c =
 
 returns-6 : tie.Need-returns-6
 returns-6 c =
-    let e = c .before .before .before .before .before in
+    let e = c .before .before .before in
     ap shownOf (c .refused6 .ensures)
-    ∙ read-refused _ (read-full _ (formed-at (e .before .before .before .before .before .before)) (year-at (e .before .before .before)) (level-at e) (rw (c .before .before .before .before .unpack .ensures) at (sym (c .before .before .too-full .ensures) ∙ c .before .if6 .taken))) refl
+    ∙ read-refused _ (read-full _ (formed-at (e .before .before .before .before .before .before)) (year-at (e .before .before .before)) (level-at e) (sym (c .before .before .bytes-full .ensures) ∙ c .before .if6 .taken)) refl
 
 returns-7 : tie.Need-returns-7
 returns-7 c =
-    let e = c .before .before .before .before in
-    rw (c .before .before .before .before .before .before .before .before .before .two-at2 .ensures, c .before .before .before .unpack .ensures)
+    let e = c .before .before .before in
+    rw (e .before .before .before .before .before .two-at2 .ensures, c .unpack .ensures)
     (read-taken _
     (read-accepted _ (formed-at (e .before .before .before .before .before .before)) (year-at (e .before .before .before)) (level-at e)
-    (rw (c .before .before .before .unpack .ensures) at (sym (c .before .too-full .ensures) ∙ c .if6 .left))))
+    (sym (c .before .before .bytes-full .ensures) ∙ c .before .if6 .left)))
 
 pub read-spec : {M : Type 1} → statement M
 read-spec =
@@ -72,7 +73,7 @@ read-spec =
     (tie.spec
     (λ c κs. search needs)  -- refused-requires
     returns
-    (λ c κs. search needs)  -- is-unmarked-requires
+    (λ c κs. search needs)  -- unlike-requires
     (λ c κs. search needs)  -- refused-requires-2
     returns-2
     (λ c κs. search needs)  -- two-at-requires
@@ -86,8 +87,8 @@ read-spec =
     (λ c κs. search needs)  -- level-out-requires
     (λ c κs. search needs)  -- refused-requires-5
     returns-5
-    (λ c κs. search needs)  -- unpack-requires
-    (λ c κs. search needs)  -- too-full-requires
+    (λ c κs. search needs)  -- bytes-full-requires
     (λ c κs. search needs)  -- refused-requires-6
     returns-6
+    (λ c κs. search needs)  -- unpack-requires
     returns-7)
