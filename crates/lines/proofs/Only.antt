@@ -1,9 +1,8 @@
--- Nothing else meets the promises of `figures_text`, `refused_text` and `windows_text`, and 0 is answered exactly where the buffer is too
--- short, since no text is empty.
+-- Nothing else meets the promise of a call that puts a text into a buffer, and 0 is answered exactly where the buffer is too short, since
+-- no text is empty.
 -- Assumes nothing.
 use mathlib.Core.Path.{_≡_, sym}
 use mathlib.Core.List.{List}
-use mathlib.Core.Bool.{Bool}
 use mathlib.Core.Logic.{_↔_}
 use Prim.Native.Nat.{ℕ, _<_}
 use native.Mathlib.Decide.{decLt}
@@ -13,10 +12,8 @@ use lib.ListN.{length}
 use Rattle.answers.proofs.Laws.{one-answer}
 use Rattle.lines.specs.Text.{lengthIn, putIn}
 use Rattle.lines.specs.Figures.{figuresLine, refusedLine}
-use Rattle.lines.specs.Runs.{windowsText}
 use Rattle.lines.proofs.Text.{short}
-use Rattle.lines.proofs.Figures.{figures-long, refused-long, head-long}
-use Rattle.lines.proofs.Runs.{windows-long}
+use Rattle.lines.proofs.Figures.{figures-long, refused-long}
 
 pub text-only :
     (text buffer : List ℕ) {r s : ℕ} {after later : List ℕ}
@@ -39,6 +36,3 @@ some-figures figures = omega (arith, figures-long figures)
 
 pub some-refused : (figures : List ℕ) → 0 < length (refusedLine figures)
 some-refused figures = omega (arith, refused-long figures)
-
-pub some-windows : (year level : ℕ) (windows : List Bool) → 0 < length (windowsText year level windows)
-some-windows year level windows = omega (arith, windows-long year level windows, head-long year level)

@@ -2,17 +2,18 @@
 -- Assumes nothing.
 use mathlib.Core.Path.{_≡_, refl, sym, ap, _∙_}
 use mathlib.Core.Bool.{true}
-use mathlib.Core.List.{List, [], _∷_, _++_, append-assoc}
+use mathlib.Core.List.{List, [], _++_, append-assoc}
 use Prim.Native.Nat.{ℕ, zero, suc, _+_, _*_, _≤_, _<_}
-use native.Mathlib.Numerals.{add-one}
 use native.Mathlib.Nat.{add-zero, zero-add, add-assoc, not-suc-le-zero}
 use native.Mathlib.Decide.{decLt}
 use native.Mathlib.Omega.{arith}
 use borrow.Author.Tests.{le-leb, lt-leb}
 use lib.Dec.{leb}
-use lib.ListN.{length, getD, take, drop, set, length-append, length-set, take-append-drop}
-use lib.Seq.{set-split, length-take-le, take-suc, take-all, take-at, drop-append-add, drop-drop}
+use lib.ListN.{length, take, drop, length-append, length-drop, take-append-drop}
+use lib.Seq.{paste, length-paste, length-take-le, take-all, take-at, drop-append-add, drop-drop}
 use Rattle.over.proofs.Joined.{joined-none, joined-suc, joined-more}
+use Rattle.packed.specs.Bytes.{laid}
+use Rattle.packed.proofs.Bytes.{laid-whole}
 use Rattle.lines.specs.Text.{textOver, lengthIn, putIn, Wrote}
 
 -- the same text by another name
@@ -55,33 +56,17 @@ then {d} {e} {f} {t} {u} {at} {r} {s} p q =
           ∙ again d t u at (p .room);
     }
 
--- one byte
-one-byte : (d : List ℕ) (at b : ℕ) → at < length d → Wrote d at (b ∷ []) (set d at b) (at + 1)
-one-byte d at b h = record { room = omega arith; end = refl; same = length-set d at b; is = set-split d at b h ∙ rw add-one }
-
--- what a loop that copies bytes keeps: the first i are written
-pub record Pasted (bytes d : List ℕ) (at i : ℕ) (e : List ℕ) : Type 0 where
-  pub some : i ≤ length bytes
-  pub room : at + length bytes ≤ length d
-  pub wrote : Wrote d at (take i bytes) e (at + i)
-
-module _ {bytes d : List ℕ} {at : ℕ} where
-  pub pasted-none : at + length bytes ≤ length d → Pasted bytes d at 0 d
-  pasted-none h = record { some = omega arith; room = h; wrote = rw add-zero (wrote-none d at (omega arith)) }
-
-  pub pasted-more : {i : ℕ} {e : List ℕ} → Pasted bytes d at i e → i < length bytes → Pasted bytes d at (i + 1) (set e (at + i) (getD bytes i 0))
-  pasted-more {i} {e} h l =
-      let x : at + (i + 1) ≡ at + i + 1 = omega arith in
-      record {
-        some = omega arith;
-        room = h .room;
-        wrote = rw (x, ap (λ (k : ℕ). take k bytes) (add-one i), take-suc bytes i 0 l) (then (h .wrote) (one-byte e (at + i) _ (omega (arith, h .room, h .wrote .same))));
-      }
-
-  pub pasted-all : {i n : ℕ} {e : List ℕ} → Pasted bytes d at i e → n ≡ length bytes → n ≤ i → Wrote d at bytes e (at + n)
-  pasted-all {i} {n} h x l =
-      let e : i ≡ n = omega (arith, h .some) in
-      rw (e, take-all n bytes (omega arith)) at (h .wrote)
+-- bytes that fit are laid over the buffer
+pub wrote-laid : {d t e : List ℕ} {at : ℕ} → at + length t ≤ length d → e ≡ laid d at t → Wrote d at t e (at + length t)
+wrote-laid {d} {t} {e} {at} room h =
+    let all : take (length t) t ≡ t = take-all (length t) t (omega arith) in
+    let is : e ≡ paste d at t (length t) = h ∙ ap (laid d at) (sym all) ∙ laid-whole d at t (length t) room (omega arith) in
+    record {
+      room = room;
+      end = refl;
+      same = ap length is ∙ length-paste d at t (length t) room (omega arith);
+      is = is ∙ rw (all, append-assoc (take at d) t (drop (at + length t) d));
+    }
 
 -- texts one after the other
 module _ (f : ℕ → List ℕ) where
@@ -146,6 +131,20 @@ fits {t} {d} h =
 pub short : (t d : List ℕ) → length d < length t → (0 ≡ lengthIn t d) × (d ≡ putIn t d)
 unfolding lengthIn putIn
 short t d l = rw (lt-leb (length t) (length d) l) (refl, refl)
+
+-- where the buffer holds the text, it is written
+pub fitted : {t d e : List ℕ} {r : ℕ} → length t ≤ length d → (r ≡ lengthIn t d) × (e ≡ putIn t d) → Wrote d 0 t e r
+unfolding lengthIn putIn
+fitted {t} {d} {e} {r} l h =
+    let b : leb (length t) (length d) ≡ true = le-leb (length t) (length d) l in
+    let end : r ≡ length t = rw b at (h .0) in
+    let is : e ≡ t ++ drop (length t) d = rw b at (h .1) in
+    record {
+      room = omega arith;
+      end = omega arith;
+      same = ap length is ∙ length-append t (drop (length t) d) ∙ omega (arith, length-drop (length t) d);
+      is = is ∙ rw zero-add;
+    }
 
 -- what a call answers ends within the buffer that it wrote, so that the text can be taken out of it
 pub within : (t d : List ℕ) {e : List ℕ} {r : ℕ} → (r ≡ lengthIn t d) × (e ≡ putIn t d) → r ≤ length e
