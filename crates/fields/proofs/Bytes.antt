@@ -3,14 +3,14 @@
 use mathlib.Core.Path.{_≡_, sym, ap, _∙_}
 use mathlib.Core.List.{List, _++_}
 use Prim.Native.Nat.{ℕ, _+_, _-_, _*_, _/_, _≤_, _<_, min}
-use native.Mathlib.Nat.{add-zero}
 use native.Mathlib.Omega.{arith}
 use lib.ListN.{length, getD, take, drop, length-take, length-drop, List·getD-append}
 use lib.Seq.{paste, take-take, take-add, take-at, drop-drop, drop-append-add, length-take-le, getD-take, getD-drop, ext-getD}
-use Rattle.over.specs.Over.{joined, inBase}
-use Rattle.over.proofs.Tables.{length-table, getD-table}
-use Rattle.over.proofs.Digits.{base-cong}
-use Rattle.fields.specs.Series.{readingBytes, fourAt, readingsOf, seriesIn}
+use Rattle.over.specs.Over.{table}
+use Rattle.over.proofs.Tables.{length-table, getD-table, is-table}
+use Rattle.packed.specs.Bytes.{fourAt}
+use Rattle.packed.proofs.Bytes.{four-same}
+use Rattle.fields.specs.Series.{readingBytes, dayMost, readingsOf, seriesIn}
 use Rattle.fields.specs.File.{part}
 
 -- the part of a file that a machine is handed
@@ -52,31 +52,35 @@ buffer-more buffer bytes at size h =
     ∙ drop-drop size at buffer in
     rw (front, back, take-take size size (drop at bytes) (omega arith), take-add at size bytes)
 
--- a number of n bytes is the same where its bytes are
-pub number-same :
-    (a b : List ℕ) (i j n : ℕ)
-    → ((k : ℕ) → k < n → getD a (i + k) 0 ≡ getD b (j + k) 0)
-    → inBase 256 (λ k. getD a (i + k) 0) n ≡ inBase 256 (λ k. getD b (j + k) 0) n
-number-same a b i j n h = base-cong 256 (λ k. getD a (i + k) 0) (λ k. getD b (j + k) 0) n h
-
 -- four bytes
-pub four-at : (b : List ℕ) (i : ℕ) → fourAt b i ≡ 256 * (256 * (256 * getD b i 0 + getD b (i + 1) 0) + getD b (i + 2) 0) + getD b (i + 3) 0
-unfolding fourAt inBase joined
-four-at b i =
-    let e : getD b (i + 0) 0 ≡ getD b i 0 = ap (λ (k : ℕ). getD b k 0) (add-zero i) in
-    omega arith
-
 pub four-part : (bytes : List ℕ) (at size i : ℕ) → i + readingBytes ≤ size → fourAt (part bytes at size) i ≡ fourAt bytes (at + i)
-unfolding fourAt
 four-part bytes at size i l =
-    number-same (part bytes at size) bytes i (at + i) readingBytes
+    four-same (part bytes at size) bytes i (at + i)
     (λ k b. let e : at + (i + k) ≡ at + i + k = omega arith in part-at bytes at size (i + k) (omega arith) ∙ ap (λ (n : ℕ). getD bytes n 0) e)
 
 four-drop : (bytes : List ℕ) (h i : ℕ) → fourAt (drop h bytes) i ≡ fourAt bytes (h + i)
-unfolding fourAt
 four-drop bytes h i =
-    number-same (drop h bytes) bytes i (h + i) readingBytes
+    four-same (drop h bytes) bytes i (h + i)
     (λ k b. let e : h + (i + k) ≡ h + i + k = omega arith in getD-drop h bytes (i + k) 0 ∙ ap (λ (n : ℕ). getD bytes n 0) e)
+
+-- the readings that the code takes from a day's bytes are those that the bytes hold
+four-take : (b : List ℕ) (size i : ℕ) → i + readingBytes ≤ size → fourAt (take size b) i ≡ fourAt b i
+four-take b size i l = four-same (take size b) b i i (λ k m. getD-take size b (i + k) 0 (omega arith))
+
+pub readings-held :
+    (b : List ℕ) (n : ℕ)
+    → n ≤ dayMost
+    → readingBytes * n ≤ length b
+    → take n (table (λ i. fourAt b (readingBytes * i)) dayMost) ≡ readingsOf (take (readingBytes * n) b)
+unfolding readingsOf
+readings-held b n few h =
+    let xs = table (λ (i : ℕ). fourAt b (readingBytes * i)) dayMost in
+    let long : length xs ≡ dayMost = length-table _ dayMost in
+    let size : length (take (readingBytes * n) b) / readingBytes ≡ n = omega (arith, length-take-le (readingBytes * n) b h) in
+    rw size
+    (is-table (λ i. fourAt (take (readingBytes * n) b) (readingBytes * i)) n 0 (take n xs)
+    (length-take-le n xs (omega arith))
+    (λ i l. getD-take n xs i 0 l ∙ getD-table _ dayMost i 0 (omega arith) ∙ sym (four-take b (readingBytes * n) (readingBytes * i) (omega arith))))
 
 -- the readings that bytes hold
 module _ (b : List ℕ) where

@@ -1,4 +1,5 @@
 pub mod Bytes
+pub mod Common
 pub mod Header
 pub mod Days
 pub mod Driven

@@ -1,3 +1,5 @@
 pub mod Layout
+pub mod Common
 pub mod Series
 pub mod File
+pub mod Stages

@@ -4,9 +4,10 @@ use mathlib.Core.Bool.{cond}
 use mathlib.Core.List.{List}
 use Prim.Native.Nat.{ℕ, _+_, _*_, _/_}
 use lib.Dec.{ltb, eqb}
-use lib.ListN.{length, getD, drop}
-use Rattle.over.specs.Over.{firstOver, table, inBase}
+use lib.ListN.{length, drop}
+use Rattle.over.specs.Over.{firstOver, table}
 use Rattle.answers.specs.Said.{Said, only, badPlace}
+use Rattle.packed.specs.Bytes.{fourAt}
 use Rattle.readings.specs.declared.Run.{Run}
 use Rattle.readings.specs.Runs.{runDays, dayLen, dayStart, runReadings}
 use Rattle.readings.specs.Legal.{badDay, firstIllegal}
@@ -15,9 +16,9 @@ use Rattle.readings.specs.Legal.{badDay, firstIllegal}
 abbrev pub readingBytes : ℕ
 readingBytes = 4
 
--- the 32 bits at place i, high byte first
-unfoldable pub fourAt : List ℕ → ℕ → ℕ
-fourAt b i = inBase 256 (λ k. getD b (i + k) 0) readingBytes
+-- the most readings of a day
+abbrev pub dayMost : ℕ
+dayMost = 100
 
 -- the readings that bytes hold, and the series of a file
 unfoldable pub readingsOf : List ℕ → List ℕ

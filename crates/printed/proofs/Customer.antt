@@ -36,14 +36,15 @@ use Rattle.fields.proofs.Days.{series-long, series-all}
 use Rattle.fields.proofs.Driven.{Stopped, TakesEnd, FileMachine, file-driven}
 use Rattle.fields.proofs.Fed.{heldIn, FeedsField, head-over, feeds-field, heldAfter, FeedsDay, feeds-takes}
 use Rattle.lines.specs.Figures.{statementLine}
-use Rattle.files.specs.declared.Stage.the-variants.{Going, Refused, Complete}
-use Rattle.files.specs.declared.customer_file.CustomerFile.{CustomerFile}
-use Rattle.files.specs.Machine.{going, stageOf, saidOfStage}
-use Rattle.files.specs.Customer.{sheetPart, optionOf, holidaysOf, pricesOf, customerLayout, customerAnswer, statementPrinted}
-use Rattle.files.specs.CustomerMachine.{openedIn, openedWith, customerHead, customerStart, customerEnded, customerWants, customerFed, customerText}
-use Rattle.files.proofs.CustomerLayout.{count-few, count-is}
-use Rattle.files.proofs.CustomerCases.{day-cases, field-cut, field-refused, field-taken, day-cut, day-refused, day-taken, end-left, end-done, field-wants, field-fed, day-wants, day-fed, end-wants, end-fed, ended-fed}
-use Rattle.printed.proofs.CustomerHeader.{looks-back, opened-same, year-is, opens}
+use Rattle.fields.specs.declared.Stage.the-variants.{Going, Refused, Complete}
+use Rattle.customer_file.specs.declared.CustomerFile.{CustomerFile}
+use Rattle.fields.specs.Stages.{going, stageOf, saidOfStage}
+use Rattle.customer_file.specs.Customer.{sheetPart, optionOf, holidaysOf, pricesOf, customerLayout, customerAnswer, statementPrinted}
+use Rattle.customer_file.specs.CustomerMachine.{openedIn, openedWith, customerHead, customerStart, customerEnded, customerWants, customerFed, customerText}
+use Rattle.customer_file.proofs.CustomerLayout.{count-few, count-is}
+use Rattle.customer_file.proofs.CustomerCases.{day-cases, field-cut, field-refused, field-taken, day-cut, day-refused, day-taken, end-left, end-done, field-wants, field-fed, day-wants, day-fed, end-wants, end-fed, ended-fed}
+use Rattle.printed.proofs.CustomerHeader.{looks-back, opened-same}
+use Rattle.printed.proofs.CustomerOpening.{year-is, opens}
 
 abbrev Halted : CustomerFile → Said → Type 0
 Halted s x = Stopped customerWants customerFed customerText statementLine s x

@@ -1,4 +1,4 @@
--- The window program: its machine, driven over any bytes, prints what the file's bytes are answered (files, specs/Grid).
+-- The window program: its machine, driven over any bytes, prints what the file's bytes are answered (grid_file, specs/Grid).
 -- Assumes nothing.
 use mathlib.Core.Path.{_≡_, refl, sym, ap, _∙_}
 use mathlib.Core.Bool.{false}
@@ -10,6 +10,7 @@ use borrow.Author.Tests.{eq-eqb, ne-eqb}
 use lib.Dec.{ltb, eqb}
 use lib.ListN.{length, take, replicate}
 use lib.Seq.{take-all}
+use Rattle.over.specs.Over.{counted}
 use Rattle.over.proofs.Tests.{Passed}
 use Rattle.over.proofs.Bools.{clash}
 use Rattle.answers.specs.Ruling.{gridMost, yearOut, levelOut}
@@ -37,15 +38,15 @@ use Rattle.fields.proofs.Days.{series-long, series-all, days-read}
 use Rattle.fields.proofs.Driven.{Stopped, TakesEnd, FileMachine, file-driven}
 use Rattle.fields.proofs.Fed.{heldIn, LooksBack, FeedsField, feeds-field, heldAfter, FeedsDay, feeds-takes}
 use Rattle.lines.specs.Figures.{refusedLine}
-use Rattle.files.specs.declared.Stage.the-variants.{Going, Refused, Complete}
-use Rattle.files.specs.declared.grid_file.GridFile.{GridFile}
-use Rattle.files.specs.Head.{yearField, levelField}
-use Rattle.files.specs.Grid.{gridMark, gridLayout, gridYear, gridLevel, blankSheet, withSheet, wholeGrid, gridAnswer, windowLines, windowsPrinted}
-use Rattle.files.specs.Machine.{stageOf}
-use Rattle.files.specs.GridMachine.{gridHead, gridStart, gridEnded, gridWants, gridFed, closedGrid, gridText}
-use Rattle.files.proofs.Fields.{two-same, mark-own, version-own, year-own, level-own, unrefused}
-use Rattle.files.proofs.GridLayout.{grid-count, grid-width, grid-start, grid-size, refuses-mark, refuses-version, refuses-year, refuses-level}
-use Rattle.files.proofs.GridCases.{wants-field, wants-day, wants-end, fed-none, fed-field, fed-day, fed-end, field-cut, field-refused, field-taken, day-cut, day-refused, day-taken, end-left, end-none}
+use Rattle.fields.specs.declared.Stage.the-variants.{Going, Refused, Complete}
+use Rattle.grid_file.specs.declared.GridFile.{GridFile}
+use Rattle.grid_file.specs.Grid.{gridMark, gridLayout, gridYear, gridLevel, blankSheet, withSheet, wholeGrid, gridAnswer, windowLines, windowsPrinted}
+use Rattle.fields.specs.Stages.{stageOf}
+use Rattle.grid_file.specs.GridMachine.{gridHead, gridStart, gridEnded, gridWants, gridFed, closedGrid, gridText}
+use Rattle.packed.proofs.Bytes.{two-same}
+use Rattle.fields.proofs.Common.{mark-own, version-own, year-own, level-own, year-no, level-no, unrefused}
+use Rattle.grid_file.proofs.GridLayout.{grid-count, grid-width, grid-start, grid-size, refuses-mark, refuses-version, refuses-year, refuses-level}
+use Rattle.grid_file.proofs.GridCases.{wants-field, wants-day, wants-end, fed-none, fed-field, fed-day, fed-end, field-cut, field-refused, field-taken, day-cut, day-refused, day-taken, end-left, end-none}
 
 -- no field's number looks at a byte behind it
 looks-back : (bytes : List ℕ) → LooksBack gridLayout bytes
@@ -121,21 +122,26 @@ module _ (bytes : List ℕ) where
   head-size : headSize l ≡ 8
   head-size = ap (startOf l) (grid-count bytes) ∙ grid-size bytes
 
+  -- the number of year and level, by the test that the opening makes
+  pub year-tested : counted (yearOut y) 1 ≡ l .refusal 2
+  year-tested = year-no bytes 5 refl refl ∙ refuses-year bytes
+
+  pub level-tested : counted (levelOut level) 2 ≡ l .refusal 3
+  level-tested = level-no bytes 7 refl ∙ refuses-level bytes
+
+  pub year-legal : l .refusal 2 ≡ 0 → yearOut y ≡ false
+  year-legal e = unrefused (yearOut y) 0 (year-tested ∙ e)
+
+  level-legal : l .refusal 3 ≡ 0 → levelOut level ≡ false
+  level-legal e = unrefused (levelOut level) 1 (level-tested ∙ e)
+
   -- all fields are read: year and level are legal, and the series is opened
   module _ (p : Passed (stops l bytes) 4) where
     passed : (k : ℕ) → k < 4 → l .refusal k ≡ 0
     passed k h = field-held l bytes k (p .fails k h) .1
 
-    year-legal : yearOut y ≡ false
-    unfolding yearField
-    year-legal = unrefused (yearOut y) 0 (refuses-year bytes ∙ passed 2 (omega arith))
-
-    level-legal : levelOut level ≡ false
-    unfolding levelField
-    level-legal = unrefused (levelOut level) 1 (refuses-level bytes ∙ passed 3 (omega arith))
-
     opens : openAnswer y level ≡ only 0
-    opens = sym (open-done y level year-legal level-legal .0)
+    opens = sym (open-done y level (year-legal (passed 2 (omega arith))) (level-legal (passed 3 (omega arith))) .0)
 
     same-head : Same 8 (held 4) bytes
     same-head i h = buffer-same (replicate 8 0) bytes (startOf l 4) (fields-held l bytes 4 p) i (omega (arith, grid-size bytes))
@@ -143,7 +149,7 @@ module _ (bytes : List ℕ) where
     opened : gridHead 4 (held 4) ≡ inside (heldAfter run (holding y level) (headSize l) bytes 0)
     opened =
         ap inside
-        (ap (λ (k : ℕ). openGrid k (gridLevel (held 4))) (two-same (held 4) bytes 5 (λ i m. same-head (5 + i) (omega arith)))
+        (ap (λ (k : ℕ). openGrid k (gridLevel (held 4))) (two-same (held 4) bytes 5 5 (λ i m. same-head (5 + i) (omega arith)))
         ∙ ap (openGrid y) (same-head 7 (omega arith))
         ∙ opens-empty y level opens
         ∙ ap (λ (n : ℕ). holding y level (take n xs) 0) (sym (start-none run)))

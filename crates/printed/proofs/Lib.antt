@@ -1,3 +1,5 @@
 pub mod Grid
 pub mod CustomerHeader
+pub mod CustomerOpening
 pub mod Customer
+pub mod Refused

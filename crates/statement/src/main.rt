@@ -1,6 +1,6 @@
 // The statement program: reads a customer file from standard input and prints the decision, or the refusal. Document 01, Two programs.
-// The machine of files::customer_file says how much is read next, tests it, and makes the text; nothing is decided here.
-use files::customer_file::CustomerFile;
+// The machine of customer_file says how much is read next, tests it, and makes the text; nothing is decided here.
+use customer_file::CustomerFile;
 use libc::STDIN_FILENO;
 use libc::STDOUT_FILENO;
 

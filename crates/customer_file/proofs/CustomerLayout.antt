@@ -1,0 +1,264 @@
+-- Laws of a customer file's header, in its three rows: the twelve first fields, the holidays, the prices. How many fields there are, how wide each
+-- is and where it starts, and the number that refuses it.
+-- Assumes nothing.
+use mathlib.Core.Path.{_≡_, refl, sym, ap, _∙_}
+use mathlib.Core.Bool.{Bool, cond}
+use mathlib.Core.List.{List, [], _∷_, _++_}
+use Prim.Native.Nat.{ℕ, zero, suc, _+_, _-_, _*_, _%_, _≤_, _<_}
+use native.Mathlib.Omega.{arith}
+use borrow.Author.Tests.{eq-eqb, ne-eqb, eqb-true, leb-true}
+use lib.Dec.{leb, ltb, eqb}
+use lib.ListN.{getD, length-append, List·getD-append, List·getD-map}
+use lib.Seq.{getD-append-add}
+use Rattle.over.specs.Over.{joined, sumOver, allOver, counted, table}
+use Rattle.over.proofs.Sums.{sum-none, sum-suc, sum-add, sum-cong}
+use Rattle.over.proofs.Tests.{all-at}
+use Rattle.over.proofs.Tables.{length-table, getD-table}
+use Rattle.calendar.specs.Holidays.{before, badEntry}
+use Rattle.packed.specs.Bytes.{twoAt, fourAt}
+use Rattle.sheet.specs.Bytes.{seasonFull}
+use Rattle.tariff.specs.Prices.{capacityOut, energyOut}
+use Rattle.fields.specs.Layout.{Field, noField, fieldAt, widthAt, layoutOf, startOf, headSize}
+use Rattle.fields.specs.Common.{markField, versionField, yearField, levelField}
+use Rattle.customer_file.specs.Customer.{customerYear, holidaysPlace, holidayCount, holidaysOf, pricesPlace, seasonField, optionField, countField, holidayField, capacityField, energyField, firstFields, priceFields, customerFields, customerLayout}
+
+-- values that are all one number add up to a multiple of it
+sum-same : (f : ℕ → ℕ) (c n : ℕ) → ((k : ℕ) → k < n → f k ≡ c) → sumOver f n ≡ n * c
+sum-same f c zero h = omega (arith, sum-none f)
+sum-same f c (suc n) h = omega (arith, sum-suc f n, sum-same f c n (λ k l. h k (omega arith)), h n (omega arith))
+
+-- the widths of the first fields, and the places where they start
+abbrev pub firstWidths : List ℕ
+firstWidths = 3 ∷ 2 ∷ 3 ∷ 2 ∷ 2 ∷ 1 ∷ 12 ∷ 12 ∷ 12 ∷ 12 ∷ 1 ∷ 1 ∷ []
+
+abbrev pub firstStarts : List ℕ
+firstStarts = 0 ∷ 3 ∷ 5 ∷ 8 ∷ 10 ∷ 12 ∷ 13 ∷ 25 ∷ 37 ∷ 49 ∷ 61 ∷ 62 ∷ []
+
+added : (k : ℕ) → k < 12 → sumOver (λ j. getD firstWidths j 0) k ≡ getD firstStarts k 0
+unfolding allOver sumOver joined
+added k l = eqb-true _ _ (all-at (λ i. eqb (sumOver (λ j. getD firstWidths j 0) i) (getD firstStarts i 0)) 12 refl k l)
+
+added-all : sumOver (λ j. getD firstWidths j 0) 12 ≡ 63
+unfolding sumOver joined
+added-all = refl
+
+pub width-low : (k : ℕ) → k < 12 → getD firstWidths k 0 ≤ 12
+unfolding allOver joined
+width-low k l = leb-true _ _ (all-at (λ i. leb (getD firstWidths i 0) 12) 12 refl k l)
+
+pub start-low : (k : ℕ) → k < 12 → getD firstStarts k 0 + getD firstWidths k 0 ≤ 63
+unfolding allOver joined
+start-low k l = leb-true _ _ (all-at (λ i. leb (getD firstStarts i 0 + getD firstWidths i 0) 63) 12 refl k l)
+
+module _ (b : List ℕ) where
+  abbrev n : ℕ
+  n = holidayCount b
+
+  abbrev fields : List Field
+  fields = customerFields b
+
+  abbrev rest : List Field
+  rest = table (holidayField b) n ++ priceFields b
+
+  pub count-few : n ≤ 40
+  count-few = omega arith
+
+  -- how many fields
+  pub count-is : customerLayout b .count ≡ 16 + n
+  unfolding customerLayout layoutOf
+  count-is =
+      omega (
+        arith,
+        length-append (firstFields b) rest,
+        length-append (table (holidayField b) n) (priceFields b),
+        length-table (holidayField b) n,
+      )
+
+  -- what each is
+  first-at : (k : ℕ) → k < 12 → fieldAt fields k ≡ fieldAt (firstFields b) k
+  first-at k l = List·getD-append (firstFields b) rest noField k l
+
+  holiday-at : (j : ℕ) → j < n → fieldAt fields (12 + j) ≡ holidayField b j
+  holiday-at j l =
+      getD-append-add (firstFields b) rest j noField
+      ∙ List·getD-append (table (holidayField b) n) (priceFields b) noField j (omega (arith, length-table (holidayField b) n))
+      ∙ getD-table (holidayField b) n j noField l
+
+  price-at : (j : ℕ) → fieldAt fields (12 + (n + j)) ≡ fieldAt (priceFields b) j
+  price-at j =
+      getD-append-add (firstFields b) rest (n + j) noField
+      ∙ ap (λ (m : ℕ). fieldAt rest (m + j)) (sym (length-table (holidayField b) n))
+      ∙ getD-append-add (table (holidayField b) n) (priceFields b) j noField
+
+  -- how wide
+  first-widths : (k : ℕ) → k < 12 → widthAt fields k ≡ getD firstWidths k 0
+  unfolding markField versionField yearField levelField seasonField optionField countField
+  first-widths k l = ap (λ (f : Field). f .width) (first-at k l) ∙ sym (List·getD-map (λ (f : Field). f .width) (firstFields b) k noField)
+
+  holiday-widths : (j : ℕ) → j < n → widthAt fields (12 + j) ≡ 2
+  unfolding holidayField
+  holiday-widths j l = ap (λ (f : Field). f .width) (holiday-at j l)
+
+  four-wide : (j : ℕ) → j < 4 → widthAt (priceFields b) j ≡ 4
+  unfolding capacityField energyField
+  four-wide zero l = refl
+  four-wide (suc zero) l = refl
+  four-wide (suc (suc zero)) l = refl
+  four-wide (suc (suc (suc zero))) l = refl
+  four-wide (suc (suc (suc (suc j)))) l = absurd (omega arith)
+
+  price-widths : (j : ℕ) → j < 4 → widthAt fields (12 + (n + j)) ≡ 4
+  price-widths j l = ap (λ (f : Field). f .width) (price-at j) ∙ four-wide j l
+
+  -- where it starts
+  first-sums : (k : ℕ) → k ≤ 12 → sumOver (widthAt fields) k ≡ sumOver (λ j. getD firstWidths j 0) k
+  first-sums k l = sum-cong (widthAt fields) (λ j. getD firstWidths j 0) k (λ j m. first-widths j (omega arith))
+
+  first-starts : (k : ℕ) → k < 12 → sumOver (widthAt fields) k ≡ getD firstStarts k 0
+  first-starts k l = first-sums k (omega arith) ∙ added k l
+
+  holiday-starts : (j : ℕ) → j ≤ n → sumOver (widthAt fields) (12 + j) ≡ 63 + 2 * j
+  holiday-starts j l =
+      omega (
+        arith,
+        sum-add (widthAt fields) 12 j,
+        first-sums 12 (omega arith),
+        added-all,
+        sum-same (λ i. widthAt fields (12 + i)) 2 j (λ i m. holiday-widths i (omega arith)),
+      )
+
+  price-starts : (j : ℕ) → j ≤ 4 → sumOver (widthAt fields) (12 + (n + j)) ≡ 63 + 2 * n + 4 * j
+  price-starts j l =
+      omega (
+        arith,
+        ap (sumOver (widthAt fields)) (regroup j),
+        sum-add (widthAt fields) (12 + n) j,
+        holiday-starts n (omega arith),
+        sum-same (λ i. widthAt fields (12 + n + i)) 4 j (λ i m. ap (widthAt fields) (sym (regroup i)) ∙ price-widths i (omega arith)),
+      )
+    where
+      regroup : (i : ℕ) → 12 + (n + i) ≡ 12 + n + i
+      regroup i = omega arith
+
+  -- the number that refuses it
+  pub refusal-first : (k : ℕ) → k < 12 → fieldAt (firstFields b) k .refusal (getD firstStarts k 0) ≡ customerLayout b .refusal k
+  unfolding customerLayout layoutOf
+  refusal-first k l = rw (first-at k l, first-starts k l)
+
+  pub season-refused : (j : ℕ) → j < 4 → seasonField b .refusal (13 + 12 * j) ≡ customerLayout b .refusal (6 + j)
+  season-refused zero l = refusal-first 6 (omega arith)
+  season-refused (suc zero) l = refusal-first 7 (omega arith)
+  season-refused (suc (suc zero)) l = refusal-first 8 (omega arith)
+  season-refused (suc (suc (suc zero))) l = refusal-first 9 (omega arith)
+  season-refused (suc (suc (suc (suc j)))) l = absurd (omega arith)
+
+  pub holiday-refused : (j : ℕ) → j < n → counted (badEntry (customerYear b) (holidaysOf b) j) 3 ≡ customerLayout b .refusal (12 + j)
+  unfolding customerLayout layoutOf holidayField
+  holiday-refused j l = sym (ap (λ (f : Field). f .refusal (sumOver (widthAt fields) (12 + j))) (holiday-at j l))
+
+  pub price-refused : (j : ℕ) → j < 4 → fieldAt (priceFields b) j .refusal (pricesPlace b + 4 * j) ≡ customerLayout b .refusal (12 + (n + j))
+  unfolding customerLayout layoutOf
+  price-refused j l = rw (price-at j, price-starts j (omega arith))
+
+  -- the same of field k
+  abbrev holiday : ℕ → ℕ
+  holiday k = k - 12
+
+  abbrev price : ℕ → ℕ
+  price k = k - 12 - n
+
+  module _ (k : ℕ) (l : k < 12) where
+    pub width-first : getD firstWidths k 0 ≡ customerLayout b .width k
+    unfolding customerLayout layoutOf
+    width-first = sym (first-widths k l)
+
+    pub start-first : getD firstStarts k 0 ≡ startOf (customerLayout b) k
+    unfolding customerLayout layoutOf startOf
+    start-first = sym (first-starts k l)
+
+  pub refusal-at : (i : ℕ) {k : ℕ} → k ≡ i → i < 12 → fieldAt (firstFields b) i .refusal (getD firstStarts i 0) ≡ customerLayout b .refusal k
+  refusal-at i e l = refusal-first i l ∙ ap (customerLayout b .refusal) (sym e)
+
+  pub refusal-season : (k : ℕ) → 6 ≤ k → k < 10 → seasonField b .refusal (13 + 12 * (k - 6)) ≡ customerLayout b .refusal k
+  refusal-season k l m =
+      let e : 6 + (k - 6) ≡ k = omega arith in
+      season-refused (k - 6) (omega arith) ∙ ap (customerLayout b .refusal) e
+
+  module _ (k : ℕ) (m : 12 ≤ k) where
+    here : 12 + holiday k ≡ k
+    here = omega arith
+
+    pub start-holiday : k ≤ 12 + n → holidaysPlace + 2 * holiday k ≡ startOf (customerLayout b) k
+    unfolding customerLayout layoutOf startOf
+    start-holiday l = sym (holiday-starts (holiday k) (omega arith)) ∙ ap (sumOver (widthAt fields)) here
+
+    module _ (l : k < 12 + n) where
+      pub width-holiday : 2 ≡ customerLayout b .width k
+      unfolding customerLayout layoutOf
+      width-holiday = sym (holiday-widths (holiday k) (omega arith)) ∙ ap (widthAt fields) here
+
+      pub refusal-holiday : counted (badEntry (customerYear b) (holidaysOf b) (holiday k)) 3 ≡ customerLayout b .refusal k
+      refusal-holiday = holiday-refused (holiday k) (omega arith) ∙ ap (customerLayout b .refusal) here
+
+  module _ (k : ℕ) (m : 12 + n ≤ k) where
+    there : 12 + (n + price k) ≡ k
+    there = omega arith
+
+    pub start-price : k ≤ 16 + n → pricesPlace b + 4 * price k ≡ startOf (customerLayout b) k
+    unfolding customerLayout layoutOf startOf
+    start-price l = sym (price-starts (price k) (omega arith)) ∙ ap (sumOver (widthAt fields)) there
+
+    module _ (l : k < 16 + n) where
+      pub width-price : 4 ≡ customerLayout b .width k
+      unfolding customerLayout layoutOf
+      width-price = sym (price-widths (price k) (omega arith)) ∙ ap (widthAt fields) there
+
+      pub refusal-price : fieldAt (priceFields b) (price k) .refusal (pricesPlace b + 4 * price k) ≡ customerLayout b .refusal k
+      refusal-price = price-refused (price k) (omega arith) ∙ ap (customerLayout b .refusal) there
+
+  -- the holidays by their bytes
+  pub holiday-is : (j : ℕ) → j < n → twoAt b (holidaysPlace + 2 * j) ≡ getD (holidaysOf b) j 0
+  holiday-is j l = sym (getD-table (λ i. twoAt b (holidaysPlace + 2 * i)) n j 0 l)
+
+  pub before-is : (j : ℕ) → (j ≡ 0 → ⊥) → j < n → twoAt b (holidaysPlace + 2 * (j - 1)) ≡ before (holidaysOf b) j
+  before-is zero z l = absurd (z refl)
+  before-is (suc j) z l =
+      let e : suc j - 1 ≡ j = omega arith in
+      ap (λ (i : ℕ). twoAt b (holidaysPlace + 2 * i)) e ∙ holiday-is j (omega arith)
+
+  -- the header's size
+  pub size-is : headSize (customerLayout b) ≡ 79 + 2 * n
+  size-is =
+      let last = start-price (16 + n) (omega arith) (omega arith) in
+      ap (startOf (customerLayout b)) count-is ∙ omega arith
+
+-- the number of a field, by what the code has found
+pub option-no : (b : List ℕ) (i : ℕ) → counted (ltb 1 (getD b i 0)) 12 ≡ optionField b .refusal i
+unfolding optionField
+option-no b i = refl
+
+pub count-no : (b : List ℕ) (i : ℕ) → counted (ltb 40 (getD b i 0)) 3 ≡ countField b .refusal i
+unfolding countField
+count-no b i = refl
+
+-- the prices: in each row the capacity price, then the energy price
+price-field : (b : List ℕ) (j : ℕ) → j < 4 → cond (eqb (j % 2) 0) (capacityField b) (energyField b) ≡ fieldAt (priceFields b) j
+price-field b zero l = refl
+price-field b (suc zero) l = refl
+price-field b (suc (suc zero)) l = refl
+price-field b (suc (suc (suc zero))) l = refl
+price-field b (suc (suc (suc (suc j)))) l = absurd (omega arith)
+
+module _ (b : List ℕ) (i : ℕ) {t : Bool} where
+  pub season-no : t ≡ seasonFull b i → counted t 12 ≡ seasonField b .refusal i
+  unfolding seasonField
+  season-no e = ap (λ (s : Bool). counted s 12) e
+
+  module _ (j : ℕ) (l : j < 4) where
+    pub capacity-no : j % 2 ≡ 0 → t ≡ capacityOut (fourAt b i) → counted t 6 ≡ fieldAt (priceFields b) j .refusal i
+    unfolding capacityField
+    capacity-no m e = ap (λ (s : Bool). counted s 6) e ∙ ap (λ (f : Field). f .refusal i) (rw (eq-eqb (j % 2) 0 m) at (price-field b j l))
+
+    pub energy-no : (j % 2 ≡ 0 → ⊥) → t ≡ energyOut (fourAt b i) → counted t 6 ≡ fieldAt (priceFields b) j .refusal i
+    unfolding energyField
+    energy-no m e = ap (λ (s : Bool). counted s 6) e ∙ ap (λ (f : Field). f .refusal i) (rw (ne-eqb (j % 2) 0 m) at (price-field b j l))

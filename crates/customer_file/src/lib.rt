@@ -1,0 +1,229 @@
+// The customer file: its header, then the readings of the charge year. Document 01, Two programs. A machine that the statement program drives:
+// `want` says how many bytes come next, `feed` takes them, fewer where the file has ended, and `text` is what the program prints. Each field
+// and each day is tested as soon as it is fed.
+// Main theorem: driven over any bytes, the machine prints what the file's bytes are answered (room `printed`).
+mod head;
+
+ghost use mathlib.Core.Path.{_≡_};
+ghost use Prim.Native.Nat.{_≤_, _<_};
+ghost use Rattle.tariff.specs.Answers.{saidOf};
+ghost use Rattle.customer.specs.Answers.{shut, closeAnswer};
+ghost use Rattle.figured.specs.Flat.{flatOf};
+ghost use Rattle.lines.specs.Text.{lengthIn, putIn};
+ghost use Rattle.fields.specs.Stages.{stageOf, saidOfStage};
+ghost use Rattle.customer_file.specs.Customer.{customerLayout};
+ghost use Rattle.customer_file.specs.CustomerMachine.{customerStart, customerEnded, customerWants, fieldFed, dayGiven, dayFed, endFed, customerFed, customerText};
+use crate::head::HEAD_MOST;
+use customer::Customer;
+use fields::Stage;
+use figured::Flat;
+use readings::Run;
+use tariff::Decision;
+use tariff::Prices;
+use tariff::Row;
+
+// A customer file that is read: the fields taken so far, the header's bytes, the days taken so far, and where it stands.
+pub struct CustomerFile {
+    pub field: usize,
+    pub head: [u8; HEAD_MOST],
+    pub customer: Customer,
+    pub stage: Stage,
+}
+
+// Where a machine stands after a day's refusal.
+fn stage_of(decision: Decision) -> Stage
+    ensures { λ r. ⌜ r ≡ stageOf (saidOf decision) ⌝ }
+{
+    let Decision::BadReading(place) = decision else {
+        return Stage::Refused(figured::of_decision(decision).number as u8);
+    };
+    Stage::BadReading(place)
+}
+
+// The one state of a refused opening, before the header is read.
+fn unopened() -> Customer
+    ensures { λ r. ⌜ r ≡ shut ⌝ }
+{
+    let blank = [0u8; HEAD_MOST];
+    let list = [0u16; 1];
+    let none = Row {
+        capacity: 0,
+        energy: 0,
+    };
+    let step = Customer::open(
+        &blank,
+        &list,
+        Prices {
+            low: none,
+            high: none,
+        },
+        false,
+    );
+    step.customer
+}
+
+impl CustomerFile {
+    // Before the first byte.
+    pub fn start() -> CustomerFile
+        ensures { λ r. ⌜ r ≡ customerStart ⌝ }
+    {
+        CustomerFile {
+            field: 0,
+            head: [0; HEAD_MOST],
+            customer: unopened(),
+            stage: Stage::Going,
+        }
+    }
+
+    fn ended(self, stage: Stage) -> CustomerFile
+        ensures { λ r. ⌜ r ≡ customerEnded self stage ⌝ }
+    {
+        let head = self.head;
+        let customer = self.customer;
+        CustomerFile {
+            field: self.field,
+            head,
+            customer,
+            stage,
+        }
+    }
+
+    // How many bytes come next: a field's, a day's, or one, which should not be there; none once the machine has ended.
+    pub fn want(self) -> usize
+        ensures { λ r. ⌜ (r ≡ customerWants self) × (r ≤ 400) ⌝ }
+    {
+        let stage = self.stage;
+        if fields::is_going(stage) {
+            let k = self.field;
+            let head = self.head;
+            if k < head::fields_of(&head) {
+                return head::width(&head, k);
+            }
+            let year = self.customer.terms.year;
+            let seen = self.customer.seen;
+            if seen < dates::year_days(year) {
+                return fields::READING_BYTES
+                    * readings::day_len(
+                        Run {
+                            year,
+                            period: false,
+                        },
+                        seen,
+                    );
+            }
+            return 1;
+        }
+        0
+    }
+
+    fn take_field(self, b: &[u8]) -> CustomerFile
+        requires { ⌜ self .field < customerLayout (self .head) .count ⌝ }
+        ensures { λ r. ⌜ r ≡ fieldFed self (now (b .entry)) ⌝ }
+    {
+        let k = self.field;
+        let mut head = self.head;
+        let size = head::width(&head, k);
+        if b.len() < size {
+            return self.ended(Stage::Refused(12));
+        }
+        let at = head::start_of(&head, k);
+        packed::lay(&mut head, at, &b[..size]);
+        let number = head::refusal(&head, k);
+        if number != 0 {
+            return self.ended(Stage::Refused(number));
+        }
+        CustomerFile {
+            field: k + 1,
+            head,
+            customer: head::opened_after(self.customer, &head, k + 1),
+            stage: Stage::Going,
+        }
+    }
+
+    // A day's readings are given to the customer's year.
+    fn give_day(self, day: &[u32]) -> CustomerFile
+        ensures { λ r. ⌜ r ≡ dayGiven self (now (day .entry)) ⌝ }
+    {
+        let step = self.customer.day(day);
+        let answer = step.answer;
+        if figured::of_decision(answer).number != 0 {
+            return self.ended(stage_of(answer));
+        }
+        let head = self.head;
+        let next = step.customer;
+        CustomerFile {
+            field: self.field,
+            head,
+            customer: next,
+            stage: Stage::Going,
+        }
+    }
+
+    fn take_day(self, b: &[u8]) -> CustomerFile
+        ensures { λ r. ⌜ r ≡ dayFed self (now (b .entry)) ⌝ }
+    {
+        let n = readings::day_len(
+            Run {
+                year: self.customer.terms.year,
+                period: false,
+            },
+            self.customer.seen,
+        );
+        if b.len() < fields::READING_BYTES * n {
+            return self.ended(Stage::Refused(4));
+        }
+        let readings = fields::readings_in(b);
+        self.give_day(&readings[..n])
+    }
+
+    // After the last day: a byte that is left over is 4.
+    fn take_end(self, b: &[u8]) -> CustomerFile
+        ensures { λ r. ⌜ r ≡ endFed self (now (b .entry)) ⌝ }
+    {
+        if b.len() > 0 {
+            return self.ended(Stage::Refused(4));
+        }
+        self.ended(Stage::Complete)
+    }
+
+    // Takes the bytes that it wanted; fewer where the file has ended. A machine that has ended stays as it is.
+    pub fn feed(self, b: &[u8]) -> CustomerFile
+        ensures { λ r. ⌜ r ≡ customerFed self (now (b .entry)) ⌝ }
+    {
+        let stage = self.stage;
+        if fields::is_going(stage) {
+            let head = self.head;
+            if self.field < head::fields_of(&head) {
+                return self.take_field(b);
+            }
+            if self.customer.seen < dates::year_days(self.customer.terms.year) {
+                return self.take_day(b);
+            }
+            return self.take_end(b);
+        }
+        self
+    }
+
+    // What the file is answered; 13 while the machine goes on.
+    fn answer(self) -> Flat
+        ensures { λ r. ⌜ (r ≡ flatOf (saidOfStage (self .stage) (closeAnswer (self .customer)))) × (r .count ≤ 7) ⌝ }
+    {
+        let stage = self.stage;
+        match stage {
+            Stage::Going => figured::bare(13),
+            Stage::Refused(number) => figured::bare(number as u64),
+            Stage::BadReading(place) => figured::with_place(place),
+            Stage::Complete => figured::of_decision(self.customer.close()),
+        }
+    }
+
+    // What the statement program prints, at the start of a lent buffer, all or nothing.
+    pub fn text(self, out: &mut [u8]) -> usize
+        ensures { λ r. ⌜ (r ≡ lengthIn (customerText self) (now (out .entry))) × (now (out .exit) ≡ putIn (customerText self) (now (out .entry))) ⌝ }
+    {
+        let answer = self.answer();
+        let n = answer.count as usize + 1;
+        let line = figured::line_of(answer);
+        lines::figures_text(&line[..n], out)
+    }
+}

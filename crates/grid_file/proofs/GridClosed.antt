@@ -1,0 +1,54 @@
+-- What the window program prints once all days are in: closing refuses with a bare number, or 0 carries the sheet.
+-- Assumes nothing.
+use mathlib.Core.Path.{_≡_, refl, ap, _∙_}
+use mathlib.Core.Bool.{Bool, true, false, cond, not}
+use mathlib.Core.List.{[], _∷_}
+use Prim.Native.Nat.{ℕ}
+use borrow.Author.Tests.{eq-eqb, ne-eqb}
+use lib.Dec.{ltb, eqb}
+use Rattle.answers.specs.Ruling.{yearOut, levelOut}
+use Rattle.answers.specs.Said.{Said, only}
+use Rattle.dates.specs.Period.{periodDays}
+use Rattle.readings.specs.Legal.{highestOf}
+use Rattle.sheet.specs.Windows.{tooFull}
+use Rattle.sheet.specs.Bytes.{sheetSize}
+use Rattle.sheet.specs.Answers.{readSheet, writeAnswer}
+use Rattle.grid.specs.declared.Grid.{Grid}
+use Rattle.grid.specs.Answers.{sheetOf, finishAnswer, closeAnswer, closeBuffer}
+use Rattle.lines.specs.Figures.{refusedLine}
+use Rattle.grid_file.specs.Grid.{blankSheet, sheetText, windowLines}
+use Rattle.grid_file.specs.GridMachine.{closedGrid}
+
+-- an answer that carries nothing
+abbrev Bare : Said → Type 0
+Bare x = only (x .number) ≡ x
+
+bare-of : (b : Bool) (x y : Said) → Bare x → Bare y → Bare (cond b x y)
+bare-of true x y h k = h
+bare-of false x y h k = k
+
+close-bare : (g : Grid) (room : ℕ) → Bare (closeAnswer g room)
+unfolding closeAnswer finishAnswer writeAnswer
+close-bare g room =
+    let s = sheetOf (g .year) (g .level) (g .curves) in
+    bare-of (ltb room sheetSize) (only 14) _ refl
+    (bare-of (not (eqb (g .seen) (periodDays (g .year)))) (only 13) _ refl
+    (bare-of (eqb (highestOf (g .curves)) 0) (only 7) _ refl
+    (bare-of (ltb room sheetSize) (only 14) _ refl
+    (bare-of (yearOut (s .year)) (only 1) _ refl
+    (bare-of (levelOut (s .level)) (only 2) _ refl
+    (bare-of (tooFull (s .windows)) (only 12) (only 0) refl refl))))))
+
+module _ (g : Grid) where
+  abbrev said : Said
+  said = closeAnswer g sheetSize
+
+  pub closed-refused : {n : ℕ} → n ≡ said .number → (n ≡ 0 → ⊥) → refusedLine (n ∷ []) ≡ windowLines (closedGrid g)
+  unfolding windowLines
+  closed-refused {n} e z =
+      let bare : only n ≡ said = ap only e ∙ close-bare g sheetSize in
+      simp (← bare, ne-eqb n 0 z)
+
+  pub closed-done : said .number ≡ 0 → sheetText (readSheet (closeBuffer g blankSheet)) ≡ windowLines (closedGrid g)
+  unfolding windowLines
+  closed-done z = simp (eq-eqb (said .number) 0 z)

@@ -1,0 +1,3 @@
+pub mod GridLayout
+pub mod GridCases
+pub mod GridClosed

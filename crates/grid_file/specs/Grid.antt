@@ -1,0 +1,69 @@
+-- Document 01, Two programs: "The window program reads a grid file: "GRD", version 1, year, level (widths as in the sheet), then 32-bit readings." What
+-- it prints, by the file's bytes b.
+use mathlib.Core.Bool.{cond}
+use mathlib.Core.List.{List, [], _∷_}
+use Prim.Native.Nat.{ℕ, _+_}
+use lib.Dec.{eqb}
+use lib.ListN.{getD, replicate}
+use Rattle.answers.specs.Ruling.{gridMost}
+use Rattle.answers.specs.Said.{Said, after}
+use Rattle.sheet.specs.declared.Sheet.{Sheet}
+use Rattle.packed.specs.Bytes.{twoAt}
+use Rattle.sheet.specs.Bytes.{sheetSize}
+use Rattle.sheet.specs.Answers.{readSheet}
+use Rattle.grid.specs.Curves.{periodRun}
+use Rattle.grid.specs.Answers.{windowsAnswer, windowsBuffer}
+use Rattle.fields.specs.Layout.{Field, Layout, layoutOf, headSize}
+use Rattle.fields.specs.Series.{seriesIn}
+use Rattle.fields.specs.File.{fileAnswer}
+use Rattle.lines.specs.Figures.{figuresIn, refusedLine}
+use Rattle.window_lines.specs.Runs.{windowsText}
+use Rattle.packed.specs.Bytes.{markSize}
+use Rattle.fields.specs.Common.{markField, versionField, yearField, levelField}
+
+-- "GRD"
+abbrev pub gridMark : List ℕ
+gridMark = 71 ∷ 82 ∷ 68 ∷ []
+
+-- the fields of the header, in order
+abbrev pub gridFields : List ℕ → List Field
+gridFields b = markField gridMark b ∷ versionField b ∷ yearField b ∷ levelField b ∷ []
+
+unfoldable pub gridLayout : List ℕ → Layout
+gridLayout b = layoutOf (gridFields b)
+
+-- year and level, behind mark and version
+abbrev pub gridYear : List ℕ → ℕ
+gridYear b = twoAt b (markSize + 2)
+
+abbrev pub gridLevel : List ℕ → ℕ
+gridLevel b = getD b (markSize + 2 + 2) 0
+
+-- 0 carries the sheet: what a call answers that lays one into a lent buffer, with the bytes there
+abbrev pub blankSheet : List ℕ
+blankSheet = replicate sheetSize 0
+
+abbrev pub withSheet : Said → List ℕ → Said
+withSheet answer bytes = after answer (record { number = 0; carries = bytes }) answer
+
+-- what a series is answered whole
+abbrev pub wholeGrid : ℕ → ℕ → List ℕ → Said
+wholeGrid y level xs = withSheet (windowsAnswer y level xs sheetSize) (windowsBuffer y level xs blankSheet)
+
+-- what a grid file is answered: its header, then its days, then what its whole series is
+unfoldable pub gridAnswer : List ℕ → Said
+gridAnswer b =
+    fileAnswer (gridLayout b) (periodRun (gridYear b)) gridMost
+    (wholeGrid (gridYear b) (gridLevel b) (seriesIn b (headSize (gridLayout b))))
+    b
+
+-- the lines of an answer: the windows of the sheet that 0 carries, or the refusal
+abbrev pub sheetText : Sheet → List ℕ
+sheetText s = windowsText (s .year) (s .level) (s .windows)
+
+unfoldable pub windowLines : Said → List ℕ
+windowLines said = cond (eqb (said .number) 0) (sheetText (readSheet (said .carries))) (refusedLine (figuresIn said))
+
+-- all that the window program prints
+abbrev pub windowsPrinted : List ℕ → List ℕ
+windowsPrinted b = windowLines (gridAnswer b)

@@ -1,0 +1,290 @@
+// The grid file: "GRD", version 1, year, level, then the readings of the reference period. Document 01, Two programs. A machine that the window
+// program drives: `want` says how many bytes come next, `feed` takes them, fewer where the file has ended, and `text` is what the program
+// prints. Each field and each day is tested as soon as it is fed.
+// Main theorem: driven over any bytes, the machine prints what the file's bytes are answered (room `printed`).
+ghost use mathlib.Core.Path.{_≡_};
+ghost use mathlib.Core.List.{[], _∷_};
+ghost use Prim.Native.Nat.{_+_, _≤_, _<_};
+ghost use lib.ListN.{length};
+ghost use Rattle.answers.specs.Said.{badPlace};
+ghost use Rattle.fields.specs.Layout.{startOf};
+ghost use Rattle.grid.specs.Answers.{saidOfGrid};
+ghost use Rattle.lines.specs.Text.{lengthIn, putIn};
+ghost use Rattle.lines.specs.Figures.{figuresIn, refusedLine};
+ghost use Rattle.grid_file.specs.Grid.{gridLayout, windowLines};
+ghost use Rattle.fields.specs.Stages.{stageOf};
+ghost use Rattle.grid_file.specs.GridMachine.{gridStart, gridEnded, gridWants, fieldFed, dayGiven, dayFed, endFed, gridFed, closedGrid, gridText};
+use answers::Place;
+use fields::Stage;
+use grid::Grid;
+use grid::GridAnswer;
+use readings::Run;
+
+// Fields of the header, and their bytes.
+const FIELDS: usize = 4;
+
+const HEAD_SIZE: usize = 8;
+
+const WIDTHS: [usize; FIELDS] = [3, 2, 2, 1];
+
+// Where version, year and level stand.
+const VERSION_AT: usize = 3;
+
+const YEAR_AT: usize = 5;
+
+const LEVEL_AT: usize = 7;
+
+// A grid file that is read: the fields taken so far, the header's bytes, the days taken so far, and where it stands.
+pub struct GridFile {
+    pub field: usize,
+    pub head: [u8; HEAD_SIZE],
+    pub grid: Grid,
+    pub stage: Stage,
+}
+
+fn width(head: &[u8], k: usize) -> usize
+    requires { ⌜ k < 4 ⌝ }
+    ensures { λ r. ⌜ (r ≡ gridLayout (now (head .entry)) .width k) × (r ≤ 3) ⌝ }
+{
+    WIDTHS[k]
+}
+
+fn start_of(head: &[u8], k: usize) -> usize
+    requires { ⌜ k < 4 ⌝ }
+    ensures { λ r. ⌜ (r ≡ startOf (gridLayout (now (head .entry))) k) × (r + gridLayout (now (head .entry)) .width k ≤ 8) ⌝ }
+{
+    if k < 1 {
+        return 0;
+    }
+    if k < 2 {
+        return VERSION_AT;
+    }
+    if k < 3 {
+        return YEAR_AT;
+    }
+    LEVEL_AT
+}
+
+// The number that refuses field k, 0 where none does.
+fn refusal(head: &[u8], k: usize) -> u8
+    requires { ⌜ (k < 4) × (length (now head) ≡ 8) ⌝ }
+    ensures { λ r. ⌜ r ≡ gridLayout (now (head .entry)) .refusal k ⌝ }
+{
+    if k < 1 {
+        return fields::number_if(packed::unlike(head, 0, b"GRD"), 12);
+    }
+    if k < 2 {
+        return fields::number_if(packed::two_at(head, VERSION_AT) != packed::VERSION, 12);
+    }
+    if k < 3 {
+        return fields::number_if(answers::year_out(packed::two_at(head, YEAR_AT)), 1);
+    }
+    fields::number_if(answers::level_out(head[LEVEL_AT]), 2)
+}
+
+fn number_of(answer: GridAnswer) -> u8
+    ensures { λ r. ⌜ r ≡ saidOfGrid answer .number ⌝ }
+{
+    match answer {
+        GridAnswer::Done => 0,
+        GridAnswer::Short => 14,
+        GridAnswer::YearOut => 1,
+        GridAnswer::LevelOut => 2,
+        GridAnswer::WrongLength => 4,
+        GridAnswer::BadReading(place) => 5,
+        GridAnswer::NoPeak => 7,
+        GridAnswer::Malformed => 12,
+        GridAnswer::DayOut => 13,
+    }
+}
+
+// Where a machine stands after a day's refusal.
+fn stage_of(answer: GridAnswer) -> Stage
+    ensures { λ r. ⌜ r ≡ stageOf (saidOfGrid answer) ⌝ }
+{
+    let GridAnswer::BadReading(place) = answer else {
+        return Stage::Refused(number_of(answer));
+    };
+    Stage::BadReading(place)
+}
+
+// A refusal's line: a number alone, or 5 with its place.
+fn refused(number: u8, out: &mut [u8]) -> usize
+    ensures { λ r. ⌜ (r ≡ lengthIn (refusedLine (number ∷ [])) (now (out .entry))) × (now (out .exit) ≡ putIn (refusedLine (number ∷ [])) (now (out .entry))) ⌝ }
+{
+    let figures = [number as u64];
+    lines::refused_text(&figures, out)
+}
+
+fn refused_at(place: Place, out: &mut [u8]) -> usize
+    ensures { λ r. ⌜ (r ≡ lengthIn (refusedLine (figuresIn (badPlace place))) (now (out .entry))) × (now (out .exit) ≡ putIn (refusedLine (figuresIn (badPlace place))) (now (out .entry))) ⌝ }
+{
+    let figures = [5, place.day as u64, place.position as u64];
+    lines::refused_text(&figures, out)
+}
+
+// What is printed once all days are in: the windows' lines, or what closing refuses.
+fn closed(grid: Grid, out: &mut [u8]) -> usize
+    ensures { λ r. ⌜ (r ≡ lengthIn (windowLines (closedGrid grid)) (now (out .entry))) × (now (out .exit) ≡ putIn (windowLines (closedGrid grid)) (now (out .entry))) ⌝ }
+{
+    let mut bytes = [0u8; sheet::SHEET_SIZE];
+    let number = number_of(grid.close(&mut bytes));
+    if number != 0 {
+        return refused(number, out);
+    }
+    let meaning = sheet::read(&bytes).sheet;
+    let windows = meaning.windows;
+    window_lines::windows_text(meaning.year, meaning.level, &windows, out)
+}
+
+impl GridFile {
+    // Before the first byte.
+    pub fn start() -> GridFile
+        ensures { λ r. ⌜ r ≡ gridStart ⌝ }
+    {
+        let step = Grid::open(0, 0);
+        let grid = step.grid;
+        GridFile {
+            field: 0,
+            head: [0; HEAD_SIZE],
+            grid,
+            stage: Stage::Going,
+        }
+    }
+
+    fn ended(self, stage: Stage) -> GridFile
+        ensures { λ r. ⌜ r ≡ gridEnded self stage ⌝ }
+    {
+        let head = self.head;
+        let grid = self.grid;
+        GridFile {
+            field: self.field,
+            head,
+            grid,
+            stage,
+        }
+    }
+
+    // How many bytes come next: a field's, a day's, or one, which should not be there; none once the machine has ended.
+    pub fn want(self) -> usize
+        ensures { λ r. ⌜ (r ≡ gridWants self) × (r ≤ 400) ⌝ }
+    {
+        let stage = self.stage;
+        if fields::is_going(stage) {
+            let k = self.field;
+            if k < FIELDS {
+                let head = self.head;
+                return width(&head, k);
+            }
+            let year = self.grid.year;
+            let seen = self.grid.seen;
+            if seen < dates::period_days(year) {
+                return fields::READING_BYTES * readings::day_len(Run { year, period: true }, seen);
+            }
+            return 1;
+        }
+        0
+    }
+
+    fn take_field(self, b: &[u8]) -> GridFile
+        requires { ⌜ self .field < 4 ⌝ }
+        ensures { λ r. ⌜ r ≡ fieldFed self (now (b .entry)) ⌝ }
+    {
+        let k = self.field;
+        let mut head = self.head;
+        let size = width(&head, k);
+        if b.len() < size {
+            return self.ended(Stage::Refused(12));
+        }
+        let at = start_of(&head, k);
+        packed::lay(&mut head, at, &b[..size]);
+        let number = refusal(&head, k);
+        if number != 0 {
+            return self.ended(Stage::Refused(number));
+        }
+        let step = Grid::open(packed::two_at(&head, YEAR_AT), head[LEVEL_AT]);
+        let grid = step.grid;
+        GridFile {
+            field: k + 1,
+            head,
+            grid,
+            stage: Stage::Going,
+        }
+    }
+
+    // A day's readings are given to the grid's series.
+    fn give_day(self, day: &[u32]) -> GridFile
+        ensures { λ r. ⌜ r ≡ dayGiven self (now (day .entry)) ⌝ }
+    {
+        let step = self.grid.day(day);
+        let answer = step.answer;
+        if number_of(answer) != 0 {
+            return self.ended(stage_of(answer));
+        }
+        let head = self.head;
+        let next = step.grid;
+        GridFile {
+            field: self.field,
+            head,
+            grid: next,
+            stage: Stage::Going,
+        }
+    }
+
+    fn take_day(self, b: &[u8]) -> GridFile
+        ensures { λ r. ⌜ r ≡ dayFed self (now (b .entry)) ⌝ }
+    {
+        let n = readings::day_len(
+            Run {
+                year: self.grid.year,
+                period: true,
+            },
+            self.grid.seen,
+        );
+        if b.len() < fields::READING_BYTES * n {
+            return self.ended(Stage::Refused(4));
+        }
+        let readings = fields::readings_in(b);
+        self.give_day(&readings[..n])
+    }
+
+    // After the last day: a byte that is left over is 4.
+    fn take_end(self, b: &[u8]) -> GridFile
+        ensures { λ r. ⌜ r ≡ endFed self (now (b .entry)) ⌝ }
+    {
+        if b.len() > 0 {
+            return self.ended(Stage::Refused(4));
+        }
+        self.ended(Stage::Complete)
+    }
+
+    // Takes the bytes that it wanted; fewer where the file has ended. A machine that has ended stays as it is.
+    pub fn feed(self, b: &[u8]) -> GridFile
+        ensures { λ r. ⌜ r ≡ gridFed self (now (b .entry)) ⌝ }
+    {
+        let stage = self.stage;
+        if fields::is_going(stage) {
+            if self.field < FIELDS {
+                return self.take_field(b);
+            }
+            if self.grid.seen < dates::period_days(self.grid.year) {
+                return self.take_day(b);
+            }
+            return self.take_end(b);
+        }
+        self
+    }
+
+    // What the window program prints, at the start of a lent buffer, all or nothing; 13 while the machine goes on.
+    pub fn text(self, out: &mut [u8]) -> usize
+        ensures { λ r. ⌜ (r ≡ lengthIn (gridText self) (now (out .entry))) × (now (out .exit) ≡ putIn (gridText self) (now (out .entry))) ⌝ }
+    {
+        let stage = self.stage;
+        match stage {
+            Stage::Going => refused(13, out),
+            Stage::Refused(number) => refused(number, out),
+            Stage::BadReading(place) => refused_at(place, out),
+            Stage::Complete => closed(self.grid, out),
+        }
+    }
+}
