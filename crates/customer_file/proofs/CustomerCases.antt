@@ -1,5 +1,5 @@
--- The cases of the machine that reads a customer file, each with the code's answer on the left: what it wants, what a field, a day and the end do
--- to it, and where it stands after a day's refusal.
+-- What the machine that reads a customer file is left with after a field, what a day is answered, where it stands after a day's refusal, and an
+-- answer's line.
 -- Assumes nothing.
 use mathlib.Core.Path.{_≡_, refl, ap, _∙_}
 use mathlib.Core.Bool.{Bool, true, false, cond, not}
@@ -7,14 +7,12 @@ use mathlib.Core.List.{List, [], _∷_, _++_}
 use Prim.Native.Nat.{ℕ, _+_, _≤_, _<_}
 use native.Mathlib.Decide.{decLt}
 use native.Mathlib.Omega.{arith}
-use borrow.Author.Tests.{lt-ltb, le-ltb, eq-eqb, ne-eqb}
 use lib.Dec.{leb, ltb, eqb}
 use lib.ListN.{length, getD, take, drop, length-append, List·getD-append}
 use lib.Seq.{paste, length-take-le, getD-take}
 use Rattle.answers.specs.Ruling.{customerMost}
 use Rattle.answers.specs.Said.{Said, only, badPlace}
 use Rattle.answers.specs.declared.Place.{Place}
-use Rattle.dates.specs.Dates.{yearDays}
 use Rattle.readings.specs.Runs.{runDays, dayLen}
 use Rattle.readings.specs.Legal.{firstAbove}
 use Rattle.readings.specs.Days.{nextAnswer}
@@ -23,19 +21,16 @@ use Rattle.tariff.specs.declared.Decision.the-variants.{Accepted, Eligible, Tak
 use Rattle.tariff.specs.Answers.{saidOf}
 use Rattle.customer.specs.declared.Customer.{Customer}
 use Rattle.customer.specs.Counts.{yearRun}
-use Rattle.customer.specs.Answers.{overfull, dayAnswer, dayCustomer}
+use Rattle.customer.specs.Answers.{overfull, dayAnswer}
 use Rattle.figured.specs.declared.Flat.{Flat}
 use Rattle.figured.specs.Flat.{flatOf}
 use Rattle.figured.proofs.Line.{line-is}
 use Rattle.lines.specs.Figures.{figuresIn}
 use Rattle.fields.specs.Layout.{startOf}
-use Rattle.fields.specs.Series.{daySize}
 use Rattle.fields.proofs.Header.{field-rises}
 use Rattle.fields.specs.declared.Stage.the-variants as Stage
-use Rattle.customer_file.specs.declared.CustomerFile.{CustomerFile}
-use Rattle.fields.specs.Stages.{going, stageOf}
+use Rattle.fields.specs.Stages.{stageOf}
 use Rattle.customer_file.specs.Customer.{countPlace, customerLayout}
-use Rattle.customer_file.specs.CustomerMachine.{customerHead, customerEnded, customerRun, customerWants, headWith, fieldFed, dayOf, dayGiven, dayFed, endFed, customerFed}
 use Rattle.customer_file.proofs.CustomerLayout.{count-is, start-holiday}
 
 -- the count of holidays stands before every field that it governs: a field that is laid into the header leaves itself a field
@@ -66,91 +61,6 @@ module _ (head b : List ℕ) (k size : ℕ) where
             count-is next,
             front f countPlace (omega (arith, field-rises (customerLayout head) k 12 (omega arith))),
           )
-
--- a field
-module _ (s : CustomerFile) (b : List ℕ) where
-  pub field-cut : length b < customerLayout (s .head) .width (s .field) → customerEnded s (Stage.Refused 12) ≡ fieldFed s b
-  unfolding fieldFed
-  field-cut l = rw (lt-ltb (length b) (customerLayout (s .head) .width (s .field)) l)
-
-  module _ {head : List ℕ} (l : customerLayout (s .head) .width (s .field) ≤ length b) (e : head ≡ headWith s b) where
-    pub field-refused : (customerLayout head .refusal (s .field) ≡ 0 → ⊥) → customerEnded s (Stage.Refused (customerLayout head .refusal (s .field))) ≡ fieldFed s b
-    unfolding fieldFed
-    field-refused z = rw (le-ltb (length b) (customerLayout (s .head) .width (s .field)) l, ← e, ne-eqb (customerLayout head .refusal (s .field)) 0 z)
-
-    pub field-taken : customerLayout head .refusal (s .field) ≡ 0 → customerHead (s .customer) (s .field + 1) head ≡ fieldFed s b
-    unfolding fieldFed
-    field-taken z = rw (le-ltb (length b) (customerLayout (s .head) .width (s .field)) l, ← e, eq-eqb (customerLayout head .refusal (s .field)) 0 z)
-
--- a day
-module _ (s : CustomerFile) (b : List ℕ) where
-  pub day-cut : length b < daySize (customerRun s) (s .customer .seen) → customerEnded s (Stage.Refused 4) ≡ dayFed s b
-  unfolding dayFed
-  day-cut l = rw (lt-ltb (length b) (daySize (customerRun s) (s .customer .seen)) l)
-
-  module _ (l : daySize (customerRun s) (s .customer .seen) ≤ length b) where
-    pub day-held : dayGiven s (dayOf s b) ≡ dayFed s b
-    unfolding dayFed
-    day-held = rw (le-ltb (length b) (daySize (customerRun s) (s .customer .seen)) l)
-
-    pub day-refused : eqb (dayAnswer (s .customer) (dayOf s b) .number) 0 ≡ false → customerEnded s (stageOf (dayAnswer (s .customer) (dayOf s b))) ≡ dayFed s b
-    unfolding dayFed
-    day-refused z = rw (le-ltb (length b) (daySize (customerRun s) (s .customer .seen)) l, z)
-
-    pub day-taken :
-        only 0 ≡ dayAnswer (s .customer) (dayOf s b)
-        → _≡_ {A = CustomerFile} (record { field = s .field; head = s .head; customer = dayCustomer (s .customer) (dayOf s b); stage = Stage.Going }) (dayFed s b)
-    unfolding dayFed
-    day-taken z = rw (le-ltb (length b) (daySize (customerRun s) (s .customer .seen)) l, ← z)
-
--- the end
-module _ (s : CustomerFile) (b : List ℕ) where
-  pub end-left : 0 < length b → customerEnded s (Stage.Refused 4) ≡ endFed s b
-  unfolding endFed
-  end-left l = rw (lt-ltb 0 (length b) l)
-
-  pub end-done : length b ≡ 0 → customerEnded s Stage.Complete ≡ endFed s b
-  unfolding endFed
-  end-done l = rw (le-ltb 0 (length b) (omega arith))
-
--- the machine: it has ended, it is in the header, in the days, or at the end
-module _ (s : CustomerFile) where
-  pub ended-wants : going (s .stage) ≡ false → 0 ≡ customerWants s
-  unfolding customerWants
-  ended-wants g = rw g
-
-  pub ended-fed : (b : List ℕ) → going (s .stage) ≡ false → s ≡ customerFed s b
-  unfolding customerFed
-  ended-fed b g = rw g
-
-  module _ (g : going (s .stage) ≡ true) where
-    module _ (l : s .field < customerLayout (s .head) .count) where
-      pub field-wants : customerLayout (s .head) .width (s .field) ≡ customerWants s
-      unfolding customerWants
-      field-wants = rw (g, lt-ltb (s .field) (customerLayout (s .head) .count) l)
-
-      pub field-fed : (b : List ℕ) → fieldFed s b ≡ customerFed s b
-      unfolding customerFed
-      field-fed b = rw (g, lt-ltb (s .field) (customerLayout (s .head) .count) l)
-
-    module _ (l : customerLayout (s .head) .count ≤ s .field) where
-      module _ (m : s .customer .seen < yearDays (s .customer .terms .year)) where
-        pub day-wants : daySize (customerRun s) (s .customer .seen) ≡ customerWants s
-        unfolding customerWants
-        day-wants = rw (g, le-ltb (s .field) (customerLayout (s .head) .count) l, lt-ltb (s .customer .seen) (yearDays (s .customer .terms .year)) m)
-
-        pub day-fed : (b : List ℕ) → dayFed s b ≡ customerFed s b
-        unfolding customerFed
-        day-fed b = rw (g, le-ltb (s .field) (customerLayout (s .head) .count) l, lt-ltb (s .customer .seen) (yearDays (s .customer .terms .year)) m)
-
-      module _ (m : yearDays (s .customer .terms .year) ≤ s .customer .seen) where
-        pub end-wants : 1 ≡ customerWants s
-        unfolding customerWants
-        end-wants = rw (g, le-ltb (s .field) (customerLayout (s .head) .count) l, le-ltb (s .customer .seen) (yearDays (s .customer .terms .year)) m)
-
-        pub end-fed : (b : List ℕ) → endFed s b ≡ customerFed s b
-        unfolding customerFed
-        end-fed b = rw (g, le-ltb (s .field) (customerLayout (s .head) .count) l, le-ltb (s .customer .seen) (yearDays (s .customer .terms .year)) m)
 
 -- what a day is answered: 13, 4, 5 with its place, or 0, which carries nothing
 module _ (P : Said → Type 0) (thirteen : P (only 13)) (four : P (only 4)) (five : (place : Place) → P (badPlace place)) (taken : P (only 0)) where
@@ -197,14 +107,6 @@ stage-number (MoveShort a) n = refl
 stage-number (ReductionShort a) n = refl
 stage-number Malformed n = refl
 stage-number DayOut n = refl
-
--- a day's readings, given to the machine of days
-module _ (s : CustomerFile) (day : List ℕ) where
-  pub given-refused : eqb (dayAnswer (s .customer) day .number) 0 ≡ false → customerEnded s (stageOf (dayAnswer (s .customer) day)) ≡ dayGiven s day
-  given-refused z = rw z
-
-  pub given-taken : eqb (dayAnswer (s .customer) day .number) 0 ≡ true → _≡_ {A = CustomerFile} (record { field = s .field; head = s .head; customer = dayCustomer (s .customer) day; stage = Stage.Going }) (dayGiven s day)
-  given-taken z = rw z
 
 -- an answer as its line lists it: the number, and the figures that it counts
 pub line-of : {r : Flat} (s : Said) {xs : List ℕ} → r ≡ flatOf s → r .count ≤ 7 → xs ≡ r .number ∷ r .figures → take (r .count + 1) xs ≡ figuresIn s

@@ -12,7 +12,8 @@ ghost use Rattle.figured.specs.Flat.{flatOf};
 ghost use Rattle.lines.specs.Text.{lengthIn, putIn};
 ghost use Rattle.fields.specs.Stages.{stageOf, saidOfStage};
 ghost use Rattle.customer_file.specs.Customer.{customerLayout};
-ghost use Rattle.customer_file.specs.CustomerMachine.{customerStart, customerEnded, customerWants, fieldFed, dayGiven, dayFed, endFed, customerFed, customerText};
+ghost use Rattle.fields.specs.Machine.{fieldFed, dayGiven, dayFed, endFed};
+ghost use Rattle.customer_file.specs.CustomerMachine.{customerStart, customerEnded, customerReader, customerWants, customerFed, customerText};
 use crate::head::HEAD_MOST;
 use customer::Customer;
 use fields::Stage;
@@ -118,7 +119,7 @@ impl CustomerFile {
 
     fn take_field(self, b: &[u8]) -> CustomerFile
         requires { ⌜ self .field < customerLayout (self .head) .count ⌝ }
-        ensures { λ r. ⌜ r ≡ fieldFed self (now (b .entry)) ⌝ }
+        ensures { λ r. ⌜ r ≡ fieldFed customerReader self (now (b .entry)) ⌝ }
     {
         let k = self.field;
         let mut head = self.head;
@@ -142,7 +143,7 @@ impl CustomerFile {
 
     // A day's readings are given to the customer's year.
     fn give_day(self, day: &[u32]) -> CustomerFile
-        ensures { λ r. ⌜ r ≡ dayGiven self (now (day .entry)) ⌝ }
+        ensures { λ r. ⌜ r ≡ dayGiven customerReader self (now (day .entry)) ⌝ }
     {
         let step = self.customer.day(day);
         let answer = step.answer;
@@ -160,7 +161,7 @@ impl CustomerFile {
     }
 
     fn take_day(self, b: &[u8]) -> CustomerFile
-        ensures { λ r. ⌜ r ≡ dayFed self (now (b .entry)) ⌝ }
+        ensures { λ r. ⌜ r ≡ dayFed customerReader self (now (b .entry)) ⌝ }
     {
         let n = readings::day_len(
             Run {
@@ -178,7 +179,7 @@ impl CustomerFile {
 
     // After the last day: a byte that is left over is 4.
     fn take_end(self, b: &[u8]) -> CustomerFile
-        ensures { λ r. ⌜ r ≡ endFed self (now (b .entry)) ⌝ }
+        ensures { λ r. ⌜ r ≡ endFed customerReader self (now (b .entry)) ⌝ }
     {
         if b.len() > 0 {
             return self.ended(Stage::Refused(4));

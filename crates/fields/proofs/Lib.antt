@@ -4,3 +4,4 @@ pub mod Header
 pub mod Days
 pub mod Driven
 pub mod Fed
+pub mod Machine

@@ -3,3 +3,4 @@ pub mod Common
 pub mod Series
 pub mod File
 pub mod Stages
+pub mod Machine

@@ -1,3 +1,2 @@
 pub mod GridLayout
-pub mod GridCases
 pub mod GridClosed

@@ -13,7 +13,8 @@ ghost use Rattle.lines.specs.Text.{lengthIn, putIn};
 ghost use Rattle.lines.specs.Figures.{figuresIn, refusedLine};
 ghost use Rattle.grid_file.specs.Grid.{gridLayout, windowLines};
 ghost use Rattle.fields.specs.Stages.{stageOf};
-ghost use Rattle.grid_file.specs.GridMachine.{gridStart, gridEnded, gridWants, fieldFed, dayGiven, dayFed, endFed, gridFed, closedGrid, gridText};
+ghost use Rattle.fields.specs.Machine.{fieldFed, dayGiven, dayFed, endFed};
+ghost use Rattle.grid_file.specs.GridMachine.{gridStart, gridEnded, gridReader, gridWants, gridFed, closedGrid, gridText};
 use answers::Place;
 use fields::Stage;
 use grid::Grid;
@@ -188,7 +189,7 @@ impl GridFile {
 
     fn take_field(self, b: &[u8]) -> GridFile
         requires { ⌜ self .field < 4 ⌝ }
-        ensures { λ r. ⌜ r ≡ fieldFed self (now (b .entry)) ⌝ }
+        ensures { λ r. ⌜ r ≡ fieldFed gridReader self (now (b .entry)) ⌝ }
     {
         let k = self.field;
         let mut head = self.head;
@@ -214,7 +215,7 @@ impl GridFile {
 
     // A day's readings are given to the grid's series.
     fn give_day(self, day: &[u32]) -> GridFile
-        ensures { λ r. ⌜ r ≡ dayGiven self (now (day .entry)) ⌝ }
+        ensures { λ r. ⌜ r ≡ dayGiven gridReader self (now (day .entry)) ⌝ }
     {
         let step = self.grid.day(day);
         let answer = step.answer;
@@ -232,7 +233,7 @@ impl GridFile {
     }
 
     fn take_day(self, b: &[u8]) -> GridFile
-        ensures { λ r. ⌜ r ≡ dayFed self (now (b .entry)) ⌝ }
+        ensures { λ r. ⌜ r ≡ dayFed gridReader self (now (b .entry)) ⌝ }
     {
         let n = readings::day_len(
             Run {
@@ -250,7 +251,7 @@ impl GridFile {
 
     // After the last day: a byte that is left over is 4.
     fn take_end(self, b: &[u8]) -> GridFile
-        ensures { λ r. ⌜ r ≡ endFed self (now (b .entry)) ⌝ }
+        ensures { λ r. ⌜ r ≡ endFed gridReader self (now (b .entry)) ⌝ }
     {
         if b.len() > 0 {
             return self.ended(Stage::Refused(4));

@@ -6,8 +6,7 @@ use mathlib.Core.Bool.{false}
 use mathlib.Core.List.{List}
 use Prim.Native.Nat.{ℕ, _+_, _≤_, _<_}
 use native.Mathlib.Omega.{arith}
-use borrow.Author.Tests.{lt-ltb, le-ltb, ltb-false}
-use lib.Dec.{eqb}
+use borrow.Author.Tests.{eq-eqb, lt-ltb, le-ltb, ltb-false}
 use lib.ListN.{length, take, drop, replicate, length-append}
 use lib.Seq.{take-all, length-take-le}
 use Rattle.over.proofs.Tests.{Passed, passed-all}
@@ -40,9 +39,10 @@ use Rattle.fields.specs.declared.Stage.the-variants.{Going, Refused, Complete}
 use Rattle.customer_file.specs.declared.CustomerFile.{CustomerFile}
 use Rattle.fields.specs.Stages.{going, stageOf, saidOfStage}
 use Rattle.customer_file.specs.Customer.{sheetPart, optionOf, holidaysOf, pricesOf, customerLayout, customerAnswer, statementPrinted}
-use Rattle.customer_file.specs.CustomerMachine.{openedIn, openedWith, customerHead, customerStart, customerEnded, customerWants, customerFed, customerText}
+use Rattle.customer_file.specs.CustomerMachine.{openedIn, openedWith, customerHead, customerStart, customerEnded, customerReader, customerWants, customerFed, customerText}
 use Rattle.customer_file.proofs.CustomerLayout.{count-few, count-is}
-use Rattle.customer_file.proofs.CustomerCases.{day-cases, field-cut, field-refused, field-taken, day-cut, day-refused, day-taken, end-left, end-done, field-wants, field-fed, day-wants, day-fed, end-wants, end-fed, ended-fed}
+use Rattle.fields.proofs.Machine.{wants-field, wants-day, wants-end, fed-none, fed-field, fed-day, fed-end, field-cut, field-refused, field-taken, day-cut, day-refused, day-taken, end-left, end-done}
+use Rattle.customer_file.proofs.CustomerCases.{day-cases}
 use Rattle.printed.proofs.CustomerHeader.{looks-back, opened-same}
 use Rattle.printed.proofs.CustomerOpening.{year-is, opens}
 
@@ -51,7 +51,7 @@ Halted s x = Stopped customerWants customerFed customerText statementLine s x
 
 -- a machine that has ended stays, and prints its answer
 halted : {s : CustomerFile} {x : Said} (t : CustomerFile) → t ≡ s → going (t .stage) ≡ false → saidOfStage (t .stage) (closeAnswer (t .customer)) ≡ x → Halted s x
-halted t e g x = rw (← e) (record { says = ap statementLine x; stays = λ b. sym (ended-fed t b g) })
+halted t e g x = rw (← e) (record { says = ap statementLine x; stays = λ b. sym (fed-none customerReader t g b) })
 
 -- a day's refusal says what the machine of days answers
 day-ends : (closing : Said) (c : Customer) (day : List ℕ) → (going (stageOf (dayAnswer c day)) ≡ false) × (saidOfStage (stageOf (dayAnswer c day)) closing ≡ dayAnswer c day)
@@ -71,11 +71,11 @@ open-now head k l = rw (le-ltb k (customerLayout head .count) l)
 feeds-head : (k : ℕ) (buffer : List ℕ) → k < customerLayout buffer .count → FeedsField customerWants customerFed customerText statementLine customerLayout (customerHead shut) k buffer
 feeds-head k buffer l =
     record {
-      size = sym (field-wants s refl l);
-      cut = λ b m. halted (customerEnded s (Refused 12)) (field-cut s b m ∙ field-fed s refl l b) refl refl;
-      refused = λ b next m e z. halted (customerEnded s (Refused (customerLayout next .refusal k))) (field-refused s b (omega arith) e z ∙ field-fed s refl l b) refl refl;
+      size = sym (wants-field customerReader s refl l);
+      cut = λ b m. halted (customerEnded s (Refused 12)) (field-cut customerReader s b m ∙ fed-field customerReader s refl l b) refl refl;
+      refused = λ b next m e z. halted (customerEnded s (Refused (customerLayout next .refusal k))) (field-refused customerReader s b (omega arith) e refl z ∙ fed-field customerReader s refl l b) refl refl;
       taken = λ b next m e z.
-          sym (field-taken s b (omega arith) e z ∙ field-fed s refl l b)
+          sym (field-taken customerReader s b (omega arith) e z ∙ fed-field customerReader s refl l b)
           ∙ ap (λ (c : Customer). customerHead c (k + 1) next) (unopened buffer k l);
     }
   where
@@ -151,18 +151,15 @@ module _ (bytes : List ℕ) where
     feeds-day : (d : ℕ) → d < runDays run → FeedsDay customerWants customerFed customerText statementLine run dayAnswer dayCustomer inside (heldAfter run (holding terms) h bytes d) d
     feeds-day d m =
         record {
-          size = sym (day-wants s refl over left);
-          cut = λ b o. halted (customerEnded s (Refused 4)) (day-cut s b o ∙ day-fed s refl over left b) refl refl;
+          size = sym (wants-day customerReader s refl over left);
+          cut = λ b o. halted (customerEnded s (Refused 4)) (day-cut customerReader s b o ∙ fed-day customerReader s refl over left b) refl refl;
           refused = λ b o z.
               halted (customerEnded s (stageOf (dayAnswer c (readingsOf b))))
-              (ap (λ (day : List ℕ). customerEnded s (stageOf (dayAnswer c day))) (sym (all b o))
-              ∙ day-refused s b (omega arith) (ap (λ (day : List ℕ). eqb (dayAnswer c day .number) 0) (all b o) ∙ z)
-              ∙ day-fed s refl over left b)
+              (day-refused customerReader s (readingsOf b) b (omega arith) (all b o) z ∙ fed-day customerReader s refl over left b)
               (day-ends (closeAnswer c) c (readingsOf b) .0)
               (day-ends (closeAnswer c) c (readingsOf b) .1);
           taken = λ b o e.
-              sym (day-taken s b (omega arith) (sym (ap (dayAnswer c) (all b o) ∙ e)) ∙ day-fed s refl over left b)
-              ∙ ap (λ (day : List ℕ). inside (dayCustomer c day)) (all b o);
+              sym (day-taken customerReader s (readingsOf b) b (omega arith) (all b o) (eq-eqb _ 0 (ap (λ (x : Said). x .number) e)) ∙ fed-day customerReader s refl over left b);
         }
       where
         c : Customer
@@ -174,8 +171,8 @@ module _ (bytes : List ℕ) where
         left : d < yearDays (terms .year)
         left = omega (arith, year-run (terms .year))
 
-        all : (b : List ℕ) → length b ≡ daySize run d → readingsOf (take (daySize run d) b) ≡ readingsOf b
-        all b o = ap readingsOf (take-all (daySize run d) b (omega arith))
+        all : (b : List ℕ) → length b ≡ daySize run d → readingsOf b ≡ readingsOf (take (daySize run d) b)
+        all b o = ap readingsOf (sym (take-all (daySize run d) b (omega arith)))
 
     -- the end: what closing says is what the whole series is answered
     closes : Passed (badIn run customerMost xs) (runDays run) → length bytes ≡ fileSize run h → closeAnswer (inDays (runDays run) .customer) ≡ done
@@ -189,9 +186,9 @@ module _ (bytes : List ℕ) where
     takes-end : Passed (badIn run customerMost xs) (runDays run) → TakesEnd customerWants customerFed customerText statementLine bytes run customerMost h inDays done
     takes-end c =
         record {
-          size = sym (end-wants s refl over none);
-          left = λ o. halted (customerEnded s (Refused 4)) (end-left s p (omega (arith, part-long bytes (fileSize run h) 1 (omega arith))) ∙ end-fed s refl over none p) refl refl;
-          closed = λ z. halted (customerEnded s Complete) (end-done s p (part-none bytes (fileSize run h) 1 (omega arith)) ∙ end-fed s refl over none p) refl (closes c z);
+          size = sym (wants-end customerReader s refl over none);
+          left = λ o. halted (customerEnded s (Refused 4)) (end-left customerReader s p (omega (arith, part-long bytes (fileSize run h) 1 (omega arith))) ∙ fed-end customerReader s refl over none p) refl refl;
+          closed = λ z. halted (customerEnded s Complete) (end-done customerReader s p (part-none bytes (fileSize run h) 1 (omega arith)) ∙ fed-end customerReader s refl over none p) refl (closes c z);
         }
       where
         s : CustomerFile

@@ -42,11 +42,11 @@ use Rattle.fields.specs.declared.Stage.the-variants.{Going, Refused, Complete}
 use Rattle.grid_file.specs.declared.GridFile.{GridFile}
 use Rattle.grid_file.specs.Grid.{gridMark, gridLayout, gridYear, gridLevel, blankSheet, withSheet, wholeGrid, gridAnswer, windowLines, windowsPrinted}
 use Rattle.fields.specs.Stages.{stageOf}
-use Rattle.grid_file.specs.GridMachine.{gridHead, gridStart, gridEnded, gridWants, gridFed, closedGrid, gridText}
+use Rattle.grid_file.specs.GridMachine.{gridHead, gridStart, gridEnded, gridReader, gridWants, gridFed, closedGrid, gridText}
 use Rattle.packed.proofs.Bytes.{two-same}
 use Rattle.fields.proofs.Common.{mark-own, version-own, year-own, level-own, year-no, level-no, unrefused}
 use Rattle.grid_file.proofs.GridLayout.{grid-count, grid-width, grid-start, grid-size, refuses-mark, refuses-version, refuses-year, refuses-level}
-use Rattle.grid_file.proofs.GridCases.{wants-field, wants-day, wants-end, fed-none, fed-field, fed-day, fed-end, field-cut, field-refused, field-taken, day-cut, day-refused, day-taken, end-left, end-none}
+use Rattle.fields.proofs.Machine.{wants-field, wants-day, wants-end, fed-none, fed-field, fed-day, fed-end, field-cut, field-refused, field-taken, day-cut, day-refused, day-taken, end-left, end-done}
 
 -- no field's number looks at a byte behind it
 looks-back : (bytes : List ℕ) → LooksBack gridLayout bytes
@@ -78,23 +78,20 @@ line-of n z = simp (ne-eqb n 0 z)
 
 ended-with : (s : GridFile) {t : GridFile} (n : ℕ) → (n ≡ 0 → ⊥) → gridEnded s (Refused n) ≡ t → Ended t (only n)
 ended-with s n z e =
-    rw (← e) (record { says = line-of n z; stays = λ b. sym (fed-none (gridEnded s (Refused n)) refl b) })
+    rw (← e) (record { says = line-of n z; stays = λ b. sym (fed-none gridReader (gridEnded s (Refused n)) refl b) })
 
 -- the header
 feeds : (k : ℕ) (buffer : List ℕ) → k < gridLayout buffer .count → FeedsField gridWants gridFed gridText windowLines gridLayout gridHead k buffer
 feeds k buffer h =
     record {
-      size = sym (wants-field s refl l);
-      cut = λ b c. ended-with s 12 (omega arith) (field-cut s b c ∙ fed-field s refl b l);
-      refused = λ b next w e z. ended-with s _ z (field-refused s b (omega arith) e refl z ∙ fed-field s refl b l);
-      taken = λ b next w e z. sym (field-taken s b (omega arith) e z ∙ fed-field s refl b l);
+      size = sym (wants-field gridReader s refl h);
+      cut = λ b c. ended-with s 12 (omega arith) (field-cut gridReader s b c ∙ fed-field gridReader s refl h b);
+      refused = λ b next w e z. ended-with s _ z (field-refused gridReader s b (omega arith) e refl z ∙ fed-field gridReader s refl h b);
+      taken = λ b next w e z. sym (field-taken gridReader s b (omega arith) e z ∙ fed-field gridReader s refl h b);
     }
   where
     s : GridFile
     s = gridHead k buffer
-
-    l : k < 4
-    l = omega (arith, grid-count buffer)
 
 module _ (bytes : List ℕ) where
   abbrev l : Layout
@@ -118,6 +115,10 @@ module _ (bytes : List ℕ) where
   -- the state whose machine of days stands at g
   abbrev inside : Grid → GridFile
   inside g = record { field = 4; head = held 4; grid = g; stage = Going }
+
+  -- it stands behind the header
+  over : gridLayout (held 4) .count ≤ 4
+  over = omega (arith, grid-count (held 4))
 
   head-size : headSize l ≡ 8
   head-size = ap (startOf l) (grid-count bytes) ∙ grid-size bytes
@@ -174,7 +175,7 @@ module _ (bytes : List ℕ) where
       long = omega (arith, length-readings b)
 
       ends : gridEnded s (stageOf (dayAnswer t (readingsOf b))) ≡ gridFed s b
-      ends = day-refused s b (omega arith) (day-whole b d w) z ∙ fed-day s refl (omega arith) b more
+      ends = day-refused gridReader s (readingsOf b) b (omega arith) (day-whole b d w) z ∙ fed-day gridReader s refl over more b
 
       bad : Ended (gridFed s b) (dayAnswer t (readingsOf b))
       unfolding stageOf windowLines
@@ -183,7 +184,7 @@ module _ (bytes : List ℕ) where
           go : Dec (gridMost < highestOf (readingsOf b)) → Ended (gridFed s b) (dayAnswer t (readingsOf b))
           go (yes v) =
               let five = next-bad run gridMost d (readingsOf b) h long v refl in
-              rw (← ends, ← five) (record { says = refl; stays = λ c. sym (fed-none (gridEnded s _) refl c) })
+              rw (← ends, ← five) (record { says = refl; stays = λ c. sym (fed-none gridReader (gridEnded s _) refl c) })
           go (no v) =
               let taken = next-taken run gridMost d (readingsOf b) h long (omega arith) in
               absurd (clash (ap (λ (x : Said). eqb (x .number) 0) (sym taken)) z)
@@ -191,10 +192,10 @@ module _ (bytes : List ℕ) where
     day-feeds : FeedsDay gridWants gridFed gridText windowLines run dayAnswer dayGrid inside t d
     day-feeds =
         record {
-          size = sym (wants-day s refl (omega arith) more);
-          cut = λ b c. ended-with s 4 (omega arith) (day-cut s b c ∙ fed-day s refl (omega arith) b more);
+          size = sym (wants-day gridReader s refl over more);
+          cut = λ b c. ended-with s 4 (omega arith) (day-cut gridReader s b c ∙ fed-day gridReader s refl over more b);
           refused = bad;
-          taken = λ b w e. sym (day-taken s b (omega arith) (day-whole b d w) (eq-eqb _ 0 (ap (λ (x : Said). x .number) e)) ∙ fed-day s refl (omega arith) b more);
+          taken = λ b w e. sym (day-taken gridReader s (readingsOf b) b (omega arith) (day-whole b d w) (eq-eqb _ 0 (ap (λ (x : Said). x .number) e)) ∙ fed-day gridReader s refl over more b);
         }
 
   -- after the last day
@@ -228,16 +229,16 @@ module _ (bytes : List ℕ) where
     ends-complete : (e : length bytes ≡ fileSize run (headSize l)) → Ended (gridFed last rest) (wholeGrid y level xs)
     ends-complete e =
         let ends : gridEnded last Complete ≡ gridFed last rest =
-        end-none last rest (part-none bytes (fileSize run (headSize l)) 1 (omega arith)) ∙ fed-end last refl (omega arith) rest full in
-        rw (← ends) (record { says = ap windowLines (closed-is e); stays = λ b. sym (fed-none (gridEnded last Complete) refl b) })
+        end-done gridReader last rest (part-none bytes (fileSize run (headSize l)) 1 (omega arith)) ∙ fed-end gridReader last refl over full rest in
+        rw (← ends) (record { says = ap windowLines (closed-is e); stays = λ b. sym (fed-none gridReader (gridEnded last Complete) refl b) })
 
     takes-end : TakesEnd gridWants gridFed gridText windowLines bytes run gridMost (headSize l) (λ d. inside (heldAfter run (holding y level) (headSize l) bytes d)) (wholeGrid y level xs)
     takes-end =
         record {
-          size = sym (wants-end last refl (omega arith) full);
+          size = sym (wants-end gridReader last refl over full);
           left = λ o.
               ended-with last 4 (omega arith)
-              (end-left last rest (omega (arith, part-long bytes (fileSize run (headSize l)) 1 (omega arith))) ∙ fed-end last refl (omega arith) rest full);
+              (end-left gridReader last rest (omega (arith, part-long bytes (fileSize run (headSize l)) 1 (omega arith))) ∙ fed-end gridReader last refl over full rest);
           closed = ends-complete;
         }
 

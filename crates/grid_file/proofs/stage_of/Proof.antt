@@ -6,7 +6,7 @@ use Prim.Native.Nat.{ℕ}
 use borrow.Author.Needs.{needs}
 use Rattle.fields.specs.Stages.{stageOf}
 use Rattle.fields.specs.declared.Stage.the-variants.{Refused}
-use Rattle.grid_file.proofs.GridCases.{not-five}
+use Rattle.grid_file.proofs.GridClosed.{not-five}
 use types.Run.{miss}
 use Rattle.grid_file.proofs.stage_of.Statement.{statement}
 use Rattle.grid_file.proofs.stage_of.Tie as tie

@@ -9,12 +9,10 @@ use Rattle.fields.specs.declared.Stage.the-variants.{Going}
 use Rattle.customer.specs.declared.Customer.{Customer}
 use Rattle.answers.specs.Said.{Said}
 use Rattle.figured.specs.declared.Flat.{Flat}
-use Rattle.customer_file.proofs.CustomerCases.{given-refused, given-taken}
+use Rattle.fields.proofs.Machine.{given-refused, given-taken}
+use Rattle.customer_file.specs.CustomerMachine.{customerReader}
 use Rattle.customer_file.proofs.CustomerFile.give_day.Statement.{statement}
 use Rattle.customer_file.proofs.CustomerFile.give_day.Tie as tie
-
--- `customer_file::CustomerFile::give_day` meets its contract, a case for each return.
--- Assumes nothing.
 
 returns : tie.Need-returns
 returns c =
@@ -22,14 +20,14 @@ returns c =
     let said = c .before .before .before .before .before .day .ensures .0 in
     c .ended .ensures
     ∙ ap (customerEnded (a .self)) (c .before .stage-of .ensures ∙ ap stageOf said)
-    ∙ given-refused (a .self) (a .day .now) (ne-eqb _ 0 (λ k. c .before .before .if1 .taken (ap (λ (f : Flat). f .number) (c .before .before .before .before .of-decision .ensures) ∙ ap (λ (x : Said). x .number) said ∙ k)))
+    ∙ given-refused customerReader (a .self) (a .day .now) (ne-eqb _ 0 (λ k. c .before .before .if1 .taken (ap (λ (f : Flat). f .number) (c .before .before .before .before .of-decision .ensures) ∙ ap (λ (x : Said). x .number) said ∙ k)))
 
 returns-2 : tie.Need-returns-2
 returns-2 c =
     let a = c .before .before .before .before .before .before .before .args in
     let number = ap (λ (f : Flat). f .number) (c .before .before .before .before .of-decision .ensures) ∙ ap (λ (x : Said). x .number) (c .before .before .before .before .before .day .ensures .0) in
     ap (λ (t : Customer). record { field = a .self .field; head = a .self .head; customer = t; stage = Going }) (c .before .before .before .before .before .day .ensures .1)
-    ∙ given-taken (a .self) (a .day .now) (eq-eqb _ 0 (sym number ∙ c .before .before .if1 .left))
+    ∙ given-taken customerReader (a .self) (a .day .now) (eq-eqb _ 0 (sym number ∙ c .before .before .if1 .left))
 
 pub give-day-spec : {M : Type 1} → statement M
 give-day-spec =

@@ -1,48 +1,50 @@
 -- `customer_file::CustomerFile::take_day` meets its contract, a case for each return.
 -- Assumes nothing.
+use Rattle.customer.specs.Counts.{yearRun}
 use mathlib.Core.Path.{_≡_, sym, ap, _∙_}
 use Prim.Native.Nat.{ℕ, _*_}
 use native.Mathlib.Omega.{arith}
 use borrow.Author.Needs.{needs}
 use lib.Seq.{length-take-le}
 use lib.ListN.{length, take}
-use Rattle.customer_file.specs.CustomerMachine.{customerRun, dayGiven}
+use Rattle.fields.specs.Machine.{dayGiven}
 use Rattle.fields.specs.Series.{readingsOf}
 use Rattle.fields.proofs.Bytes.{readings-held}
-use Rattle.customer_file.proofs.CustomerCases.{day-cut, day-held}
+use Rattle.fields.proofs.Machine.{day-cut, day-held}
+use Rattle.customer_file.specs.CustomerMachine.{customerReader}
 use Rattle.readings.proofs.Runs.{len-most}
 use Rattle.customer_file.proofs.CustomerFile.take_day.Statement.{statement}
 use Rattle.customer_file.proofs.CustomerFile.take_day.Tie as tie
 
 mul-if1 : tie.Need-mul-if1
-mul-if1 c = let s = c .before .before .args .self in omega (arith, c .day-len .ensures, len-most (customerRun s) (s .customer .seen))
+mul-if1 c = let s = c .before .before .args .self in omega (arith, c .day-len .ensures, len-most (yearRun (s .customer .terms .year)) (s .customer .seen))
 
 returns : tie.Need-returns
-returns c = let a = c .before .before .before .before .args in c .ended .ensures ∙ day-cut (a .self) (a .b .now) (omega (arith, c .before .before .day-len .ensures))
+returns c = let a = c .before .before .before .before .args in c .ended .ensures ∙ day-cut customerReader (a .self) (a .b .now) (omega (arith, c .before .before .day-len .ensures))
 
 array-share-prefix-readings : tie.Need-array-share-prefix-readings
 array-share-prefix-readings c =
     let s = c .before .before .before .before .args .self in
     let h : length (c .readings-in .result) ≡ 100 = search needs in
-    omega (arith, c .before .before .day-len .ensures, len-most (customerRun s) (s .customer .seen))
+    omega (arith, c .before .before .day-len .ensures, len-most (yearRun (s .customer .terms .year)) (s .customer .seen))
 
 slice-aggregate-give-day : tie.Need-slice-aggregate-give-day
 slice-aggregate-give-day c =
     let s = c .before .before .before .before .before .args .self in
     let h : length (c .before .readings-in .result) ≡ 100 = search needs in
-    sym (length-take-le _ _ (omega (arith, c .before .before .before .day-len .ensures, len-most (customerRun s) (s .customer .seen))))
+    sym (length-take-le _ _ (omega (arith, c .before .before .before .day-len .ensures, len-most (yearRun (s .customer .terms .year)) (s .customer .seen))))
 
 returns-2 : tie.Need-returns-2
 returns-2 c =
     let a = c .before .before .before .before .before .before .args in
     let n = c .before .before .before .before .day-len .result in
-    let few = len-most (customerRun (a .self)) (a .self .customer .seen) in
+    let few = len-most (yearRun (a .self .customer .terms .year)) (a .self .customer .seen) in
     let held = readings-held (a .b .now) n (omega (arith, c .before .before .before .before .day-len .ensures, few)) (omega arith) in
     let day =
     ap (take n) (c .before .before .readings-in .ensures)
     ∙ held
     ∙ ap (λ (n : ℕ). readingsOf (take (4 * n) (a .b .now))) (c .before .before .before .before .day-len .ensures) in
-    c .give-day .ensures ∙ ap (dayGiven (a .self)) day ∙ day-held (a .self) (a .b .now) (omega (arith, c .before .before .before .before .day-len .ensures))
+    c .give-day .ensures ∙ ap (dayGiven customerReader (a .self)) day ∙ day-held customerReader (a .self) (a .b .now) (omega (arith, c .before .before .before .before .day-len .ensures))
 
 pub take-day-spec : {M : Type 1} → statement M
 take-day-spec =

@@ -3,15 +3,16 @@
 use mathlib.Core.Path.{_∙_}
 use native.Mathlib.Omega.{arith}
 use borrow.Author.Needs.{needs}
-use Rattle.customer_file.proofs.CustomerCases.{end-left, end-done}
+use Rattle.fields.proofs.Machine.{end-left, end-done}
+use Rattle.customer_file.specs.CustomerMachine.{customerReader}
 use Rattle.customer_file.proofs.CustomerFile.take_end.Statement.{statement}
 use Rattle.customer_file.proofs.CustomerFile.take_end.Tie as tie
 
 returns : tie.Need-returns
-returns c = let a = c .before .before .before .args in c .ended .ensures ∙ end-left (a .self) (a .b .now) (omega arith)
+returns c = let a = c .before .before .before .args in c .ended .ensures ∙ end-left customerReader (a .self) (a .b .now) (omega arith)
 
 returns-2 : tie.Need-returns-2
-returns-2 c = let a = c .before .before .before .args in c .ended2 .ensures ∙ end-done (a .self) (a .b .now) (omega arith)
+returns-2 c = let a = c .before .before .before .args in c .ended2 .ensures ∙ end-done customerReader (a .self) (a .b .now) (omega arith)
 
 pub take-end-spec : {M : Type 1} → statement M
 take-end-spec =

@@ -1,39 +1,35 @@
 -- `customer_file::CustomerFile::take_field` meets its contract, a law for each return.
 -- Assumes nothing.
-use mathlib.Core.Path.{_≡_, sym, ap, _∙_}
-use Prim.Native.Nat.{ℕ, _+_, _≤_}
+use mathlib.Core.Path.{_≡_, sym, _∙_}
+use Prim.Native.Nat.{_+_, _≤_}
 use native.Mathlib.Omega.{arith}
 use borrow.Author.Needs.{needs}
 use lib.ListN.{length}
-use lib.Seq.{paste, length-take-le}
-use Rattle.fields.specs.declared.Stage.the-variants.{Going, Refused}
-use Rattle.customer_file.specs.CustomerMachine.{customerEnded, headWith}
+use lib.Seq.{length-take-le}
+use Rattle.fields.specs.declared.Stage.the-variants.{Going}
+use Rattle.fields.specs.Machine.{headWith}
 use Rattle.customer_file.specs.Customer.{customerLayout}
-use Rattle.packed.proofs.Bytes.{laid-whole}
 use Rattle.customer_file.proofs.CustomerLayout.{count-is}
-use Rattle.customer_file.proofs.CustomerCases.{still-field, field-refused, field-taken, field-cut}
+use Rattle.fields.proofs.Machine.{head-with, field-cut, field-refused, field-taken}
+use Rattle.customer_file.specs.CustomerMachine.{customerReader}
+use Rattle.customer_file.proofs.CustomerCases.{still-field}
 use Rattle.customer_file.proofs.CustomerFile.take_field.Statement.{statement}
 use Rattle.customer_file.proofs.CustomerFile.take_field.Tie as tie
 
--- `customer_file::CustomerFile::take_field` meets its contract, a law for each return.
--- Assumes nothing.
-
 -- the header with the field laid into it, and the bytes that it takes
-head-at : (e : tie.After-lay) → let a = e .before .before .before .before .before .before .before .before .before .before .args in e .lay .last .0 ≡ headWith (a .self) (a .b .now)
+head-at : (e : tie.After-lay) → let a = e .before .before .before .before .before .before .before .before .before .before .args in e .lay .last .0 ≡ headWith customerReader (a .self) (a .b .now)
 head-at e =
     let a = e .before .before .before .before .before .before .before .before .before .before .args in
     let long : length (a .self .head) ≡ 159 = search needs in
-    let at = e .before .before .before .start-of .result in
-    let size = e .before .before .before .before .before .before .width .result in
-    e .lay .ensures
-    ∙ laid-whole (a .self .head) at (a .b .now) size (omega (arith, e .before .before .before .start-of .ensures .1, e .before .before .before .before .before .before .width .ensures .0)) (omega arith)
-    ∙ (λ i. paste (a .self .head) (e .before .before .before .start-of .ensures .0 i) (a .b .now) (e .before .before .before .before .before .before .width .ensures .0 i))
+    let at = e .before .before .before .start-of .ensures in
+    let size = e .before .before .before .before .before .before .width .ensures .0 in
+    head-with customerReader (a .self) (a .b .now) (at .0) size (omega (arith, at .1, size)) (omega arith) (e .lay .ensures)
 
 long-at : (e : tie.After-lay) → let a = e .before .before .before .before .before .before .before .before .before .before .args in customerLayout (a .self .head) .width (a .self .field) ≤ length (a .b .now)
 long-at e = omega (arith, e .before .before .before .before .before .if1 .left, e .before .before .before .before .before .before .width .ensures .0)
 
 returns : tie.Need-returns
-returns c = let a = c .before .before .before .before .before .before .args in c .ended .ensures ∙ field-cut (a .self) (a .b .now) (omega arith)
+returns c = let a = c .before .before .before .before .before .before .args in c .ended .ensures ∙ field-cut customerReader (a .self) (a .b .now) (omega arith)
 
 refusal-requires : tie.Need-refusal-requires
 refusal-requires c κs =
@@ -46,9 +42,7 @@ returns-2 : tie.Need-returns-2
 returns-2 c =
     let a = c .before .before .before .before .before .before .before .before .before .before .before .before .before .before .before .args in
     let e = c .before .before .before .before .before in
-    c .ended2 .ensures
-    ∙ ap (λ (n : ℕ). customerEnded (a .self) (Refused n)) (c .before .before .refusal .ensures)
-    ∙ field-refused (a .self) (a .b .now) (long-at e) (head-at e) (λ z. c .before .if2 .taken (c .before .before .refusal .ensures ∙ z))
+    c .ended2 .ensures ∙ field-refused customerReader (a .self) (a .b .now) (long-at e) (head-at e) (c .before .before .refusal .ensures) (c .before .if2 .taken)
 
 add-t10 : tie.Need-add-t10
 add-t10 c = omega (arith, count-is (c .before .before .before .before .before .before .before .before .before .before .before .before .before .before .args .self .head))
@@ -61,7 +55,7 @@ returns-3 c =
     let a = c .before .before .before .before .before .before .before .before .before .before .before .before .before .before .before .before .args in
     let e = c .before .before .before .before .before .before in
     (λ i. record { field = a .self .field + 1; head = e .lay .last .0; customer = c .opened-after .ensures i; stage = Going })
-    ∙ field-taken (a .self) (a .b .now) (long-at e) (head-at e) (sym (c .before .before .before .refusal .ensures) ∙ c .before .before .if2 .left)
+    ∙ field-taken customerReader (a .self) (a .b .now) (long-at e) (head-at e) (sym (c .before .before .before .refusal .ensures) ∙ c .before .before .if2 .left)
 
 pub take-field-spec : {M : Type 1} → statement M
 take-field-spec =

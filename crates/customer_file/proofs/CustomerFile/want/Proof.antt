@@ -6,12 +6,13 @@ use native.Mathlib.Omega.{arith}
 use borrow.Author.Needs.{needs}
 use Rattle.readings.proofs.Runs.{len-most}
 use Rattle.customer.specs.Counts.{yearRun}
-use Rattle.customer_file.proofs.CustomerCases.{field-wants, day-wants, end-wants, ended-wants}
+use Rattle.fields.proofs.Machine.{wants-field, wants-day, wants-end, wants-none}
+use Rattle.customer_file.specs.CustomerMachine.{customerReader}
 use Rattle.customer_file.proofs.CustomerFile.want.Statement.{statement}
 use Rattle.customer_file.proofs.CustomerFile.want.Tie as tie
 
 returns : tie.Need-returns
-returns c = (c .width .ensures .0 ∙ field-wants (c .before .before .before .before .before .before .before .before .args .self) (sym (c .before .before .before .before .before .before .before .is-going .ensures) ∙ c .before .before .before .before .before .before .if1 .taken) (omega arith), omega arith)
+returns c = (c .width .ensures .0 ∙ wants-field customerReader (c .before .before .before .before .before .before .before .before .args .self) (sym (c .before .before .before .before .before .before .before .is-going .ensures) ∙ c .before .before .before .before .before .before .if1 .taken) (omega arith), omega arith)
 
 mul-result : tie.Need-mul-result
 mul-result c = let s = c .before .before .before .before .before .before .before .before .before .args .self in omega (arith, len-most (yearRun (s .customer .terms .year)) (s .customer .seen))
@@ -19,13 +20,13 @@ mul-result c = let s = c .before .before .before .before .before .before .before
 returns-2 : tie.Need-returns-2
 returns-2 c =
     let s = c .before .before .before .before .before .before .before .before .before .args .self in
-    (ap (λ (n : ℕ). 4 * n) (c .day-len .ensures) ∙ day-wants s (sym (c .before .before .before .before .before .before .before .before .is-going .ensures) ∙ c .before .before .before .before .before .before .before .if1 .taken) (omega arith) (omega arith), omega (arith, len-most (yearRun (s .customer .terms .year)) (s .customer .seen)))
+    (ap (λ (n : ℕ). 4 * n) (c .day-len .ensures) ∙ wants-day customerReader s (sym (c .before .before .before .before .before .before .before .before .is-going .ensures) ∙ c .before .before .before .before .before .before .before .if1 .taken) (omega arith) (omega arith), omega (arith, len-most (yearRun (s .customer .terms .year)) (s .customer .seen)))
 
 returns-3 : tie.Need-returns-3
-returns-3 c = (end-wants (c .before .before .before .before .before .before .before .before .args .self) (sym (c .before .before .before .before .before .before .before .is-going .ensures) ∙ c .before .before .before .before .before .before .if1 .taken) (omega arith) (omega arith), omega arith)
+returns-3 c = (wants-end customerReader (c .before .before .before .before .before .before .before .before .args .self) (sym (c .before .before .before .before .before .before .before .is-going .ensures) ∙ c .before .before .before .before .before .before .if1 .taken) (omega arith) (omega arith), omega arith)
 
 returns-4 : tie.Need-returns-4
-returns-4 c = (ended-wants (c .before .before .args .self) (sym (c .before .is-going .ensures) ∙ c .if1 .left), omega arith)
+returns-4 c = (wants-none customerReader (c .before .before .args .self) (sym (c .before .is-going .ensures) ∙ c .if1 .left), omega arith)
 
 pub want-spec : {M : Type 1} → statement M
 want-spec =

@@ -8,7 +8,8 @@ use Rattle.fields.specs.Stages.{stageOf}
 use Rattle.fields.specs.declared.Stage.the-variants.{Going}
 use Rattle.grid.specs.declared.Grid.{Grid}
 use Rattle.answers.specs.Said.{Said}
-use Rattle.grid_file.proofs.GridCases.{given-refused, given-taken}
+use Rattle.fields.proofs.Machine.{given-refused, given-taken}
+use Rattle.grid_file.specs.GridMachine.{gridReader}
 use Rattle.grid_file.proofs.GridFile.give_day.Statement.{statement}
 use Rattle.grid_file.proofs.GridFile.give_day.Tie as tie
 
@@ -18,14 +19,14 @@ returns c =
     let said = c .before .before .before .before .day .ensures .0 in
     c .ended .ensures
     ∙ ap (gridEnded (a .self)) (c .before .stage-of .ensures ∙ ap stageOf said)
-    ∙ given-refused (a .self) (a .day .now) (ne-eqb _ 0 (λ k. c .before .before .if1 .taken (c .before .before .before .number-of .ensures ∙ ap (λ (x : Said). x .number) said ∙ k)))
+    ∙ given-refused gridReader (a .self) (a .day .now) (ne-eqb _ 0 (λ k. c .before .before .if1 .taken (c .before .before .before .number-of .ensures ∙ ap (λ (x : Said). x .number) said ∙ k)))
 
 returns-2 : tie.Need-returns-2
 returns-2 c =
     let a = c .before .before .before .before .before .before .args in
     let number = c .before .before .before .number-of .ensures ∙ ap (λ (x : Said). x .number) (c .before .before .before .before .day .ensures .0) in
     ap (λ (t : Grid). record { field = a .self .field; head = a .self .head; grid = t; stage = Going }) (c .before .before .before .before .day .ensures .1)
-    ∙ given-taken (a .self) (a .day .now) (eq-eqb _ 0 (sym number ∙ c .before .before .if1 .left))
+    ∙ given-taken gridReader (a .self) (a .day .now) (eq-eqb _ 0 (sym number ∙ c .before .before .if1 .left))
 
 pub give-day-spec : {M : Type 1} → statement M
 give-day-spec =

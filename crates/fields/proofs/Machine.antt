@@ -1,0 +1,125 @@
+-- The cases of a machine that reads a file, each with the code's answer on the left: what it wants, and what a field, a day and the end do to it.
+-- Assumes nothing.
+use mathlib.Core.Path.{_≡_, sym, ap, _∙_}
+use mathlib.Core.Bool.{Bool, true, false, cond}
+use mathlib.Core.List.{List}
+use Prim.Native.Nat.{ℕ, _+_, _≤_, _<_}
+use native.Mathlib.Omega.{arith}
+use borrow.Author.Tests.{lt-ltb, le-ltb, eq-eqb, ne-eqb}
+use lib.Dec.{eqb}
+use lib.ListN.{length, take}
+use lib.Seq.{paste}
+use Rattle.packed.specs.Bytes.{laid}
+use Rattle.packed.proofs.Bytes.{laid-whole}
+use Rattle.fields.specs.declared.Stage.the-variants.{Refused, Complete}
+use Rattle.fields.specs.Layout.{startOf}
+use Rattle.fields.specs.Stages.{going, stageOf}
+use Rattle.fields.specs.Machine.{Reader, layoutIn, fieldSize, nextSize, wants, headWith, numberWith, fieldFed, dayIn, dayGiven, dayFed, endFed, fed}
+
+module _ {S : Type 0} (r : Reader S) (s : S) where
+  -- a machine that has ended wants nothing and stays
+  module _ (g : going (r .stage s) ≡ false) where
+    pub wants-none : 0 ≡ wants r s
+    unfolding wants
+    wants-none = rw g
+
+    pub fed-none : (b : List ℕ) → s ≡ fed r s b
+    unfolding fed
+    fed-none b = rw g
+
+  module _ (g : going (r .stage s) ≡ true) where
+    -- in the header
+    module _ (l : r .field s < layoutIn r s .count) where
+      pub wants-field : fieldSize r s ≡ wants r s
+      unfolding wants
+      wants-field = rw (g, lt-ltb (r .field s) (layoutIn r s .count) l)
+
+      pub fed-field : (b : List ℕ) → fieldFed r s b ≡ fed r s b
+      unfolding fed
+      fed-field b = rw (g, lt-ltb (r .field s) (layoutIn r s .count) l)
+
+    module _ (l : layoutIn r s .count ≤ r .field s) where
+      -- in the days
+      module _ (m : r .seen s < r .days s) where
+        pub wants-day : nextSize r s ≡ wants r s
+        unfolding wants
+        wants-day = rw (g, le-ltb (r .field s) (layoutIn r s .count) l, lt-ltb (r .seen s) (r .days s) m)
+
+        pub fed-day : (b : List ℕ) → dayFed r s b ≡ fed r s b
+        unfolding fed
+        fed-day b = rw (g, le-ltb (r .field s) (layoutIn r s .count) l, lt-ltb (r .seen s) (r .days s) m)
+
+      -- at the end
+      module _ (m : r .days s ≤ r .seen s) where
+        pub wants-end : 1 ≡ wants r s
+        unfolding wants
+        wants-end = rw (g, le-ltb (r .field s) (layoutIn r s .count) l, le-ltb (r .seen s) (r .days s) m)
+
+        pub fed-end : (b : List ℕ) → endFed r s b ≡ fed r s b
+        unfolding fed
+        fed-end b = rw (g, le-ltb (r .field s) (layoutIn r s .count) l, le-ltb (r .seen s) (r .days s) m)
+
+  module _ (b : List ℕ) where
+    -- a field; the header after it, by the place and the size that the code works out
+    pub field-cut : length b < fieldSize r s → r .ended s (Refused 12) ≡ fieldFed r s b
+    unfolding fieldFed
+    field-cut l = rw (lt-ltb (length b) (fieldSize r s) l)
+
+    pub head-with :
+        {next : List ℕ} {at size : ℕ}
+        → at ≡ startOf (layoutIn r s) (r .field s)
+        → size ≡ fieldSize r s
+        → at + size ≤ length (r .head s)
+        → size ≤ length b
+        → next ≡ laid (r .head s) at (take size b)
+        → next ≡ headWith r s b
+    head-with {at = at} {size = size} e f room has g =
+        g ∙ laid-whole (r .head s) at b size room has ∙ (λ i. paste (r .head s) (e i) b (f i))
+
+    module _ {next : List ℕ} (l : fieldSize r s ≤ length b) (e : next ≡ headWith r s b) where
+      pub field-refused : {n : ℕ} → n ≡ r .layout next .refusal (r .field s) → (n ≡ 0 → ⊥) → r .ended s (Refused n) ≡ fieldFed r s b
+      unfolding fieldFed
+      field-refused {n} k z =
+          let m : n ≡ numberWith r s b = k ∙ ap (λ (d : List ℕ). r .layout d .refusal (r .field s)) e in
+          simp (le-ltb (length b) (fieldSize r s) l, ← m, ne-eqb n 0 z)
+
+      pub field-taken : r .layout next .refusal (r .field s) ≡ 0 → r .headed s next ≡ fieldFed r s b
+      unfolding fieldFed
+      field-taken z =
+          let m : numberWith r s b ≡ 0 = ap (λ (d : List ℕ). r .layout d .refusal (r .field s)) (sym e) ∙ z in
+          simp (le-ltb (length b) (fieldSize r s) l, eq-eqb _ 0 m) (ap (r .headed s) e)
+
+    -- a day
+    pub day-cut : length b < nextSize r s → r .ended s (Refused 4) ≡ dayFed r s b
+    unfolding dayFed
+    day-cut l = rw (lt-ltb (length b) (nextSize r s) l)
+
+    pub day-held : nextSize r s ≤ length b → dayGiven r s (dayIn r s b) ≡ dayFed r s b
+    unfolding dayFed
+    day-held l = rw (le-ltb (length b) (nextSize r s) l)
+
+    -- what comes after the last day
+    pub end-left : 0 < length b → r .ended s (Refused 4) ≡ endFed r s b
+    unfolding endFed
+    end-left l = ap (λ (t : Bool). r .ended s (cond t (Refused 4) Complete)) (sym (lt-ltb 0 (length b) l))
+
+    pub end-done : length b ≡ 0 → r .ended s Complete ≡ endFed r s b
+    unfolding endFed
+    end-done l = ap (λ (t : Bool). r .ended s (cond t (Refused 4) Complete)) (sym (le-ltb 0 (length b) (omega arith)))
+
+  -- a day's readings, given to the machine of days
+  module _ (day : List ℕ) where
+    pub given-refused : eqb (r .said s day .number) 0 ≡ false → r .ended s (stageOf (r .said s day)) ≡ dayGiven r s day
+    unfolding dayGiven
+    given-refused z = rw z
+
+    pub given-taken : eqb (r .said s day .number) 0 ≡ true → r .added s day ≡ dayGiven r s day
+    unfolding dayGiven
+    given-taken z = rw z
+
+    module _ (b : List ℕ) (l : nextSize r s ≤ length b) (e : day ≡ dayIn r s b) where
+      pub day-refused : eqb (r .said s day .number) 0 ≡ false → r .ended s (stageOf (r .said s day)) ≡ dayFed r s b
+      day-refused z = given-refused z ∙ ap (dayGiven r s) e ∙ day-held b l
+
+      pub day-taken : eqb (r .said s day .number) 0 ≡ true → r .added s day ≡ dayFed r s b
+      day-taken z = given-taken z ∙ ap (dayGiven r s) e ∙ day-held b l
