@@ -1,7 +1,7 @@
 -- The cases of opening, of a day, of closing and of a whole series, each with the code's answer, and the next state, on the left.
 -- Assumes nothing.
 use mathlib.Core.Path.{_≡_, refl, sym, ap, _∙_}
-use mathlib.Core.Bool.{Bool, true, false, cond}
+use mathlib.Core.Bool.{Bool, true, false}
 use mathlib.Core.List.{List, [], _∷_}
 use Prim.Native.Nat.{ℕ, _≤_, _<_}
 use native.Mathlib.Decide.{ℕ-discrete}
@@ -37,7 +37,7 @@ use Rattle.customer.specs.declared.Terms.{Terms}
 use Rattle.customer.specs.declared.Customer.{Customer}
 use Rattle.customer.specs.Counts.{yearRun}
 use Rattle.figures.specs.Figures.{figuresOf}
-use Rattle.customer.specs.Answers.{termsOf, listsAnswer, openAnswer, opened, shut, openCustomer, overfull, dayAnswer, taken, dayCustomer, closeAnswer, judged, figuresUnder, wholeAnswer, decideAnswer}
+use Rattle.customer.specs.Answers.{termsOf, listsAnswer, openAnswer, opened, shut, openCustomer, overfull, dayUnder, dayAnswer, taken, dayCustomer, closeAnswer, judged, figuresUnder, wholeAnswer, decideAnswer}
 
 -- opening
 module _ (b hs : List ℕ) (p : Prices) where
@@ -88,7 +88,7 @@ module _ (c : Customer) (day : List ℕ) where
   unfolding dayCustomer
   day-taken z e = (z, e ∙ done-hands (only 0) (taken c day) c z refl .1)
 
-  pub day-said : {a : Said} → a ≡ cond (overfull c) (only 13) (nextAnswer (yearRun (c .terms .year)) customerMost (c .seen) day) → a ≡ dayAnswer c day
+  pub day-said : {a : Said} → a ≡ dayUnder (c .terms .year) (c .seen) (c .figures .sum) day → a ≡ dayAnswer c day
   unfolding dayAnswer
   day-said e = e
 

@@ -90,16 +90,22 @@ shut = record { terms = noTerms; seen = 65535; figures = noFigures }
 unfoldable pub openCustomer : List ℕ → List ℕ → Prices → Bool → Customer
 openCustomer b hs p option = after (openAnswer b hs p) (opened (termsOf (sheetIn b) hs p option)) shut
 
--- a state whose sum is above what its days can have, at most 100 legal readings each: no call hands it back, and it takes no day
+-- a sum above what so many days can have, at most 100 legal readings each: no call hands back a state with one, and it takes no day
 abbrev pub sumMost : ℕ → ℕ
 sumMost n = 100 * customerMost * n
 
-abbrev pub overfull : Customer → Bool
-overfull c = ltb (sumMost (c .seen)) (c .figures .sum)
+abbrev pub tooMuch : ℕ → ℕ → Bool
+tooMuch seen sum = ltb (sumMost seen) sum
 
--- a day: 13, then what the run answers where as many days are taken
+abbrev pub overfull : Customer → Bool
+overfull c = tooMuch (c .seen) (c .figures .sum)
+
+-- a day: 13, then what the run answers where as many days are taken; by the year, the days taken and their sum
+abbrev pub dayUnder : ℕ → ℕ → ℕ → List ℕ → Said
+dayUnder y seen sum day = cond (tooMuch seen sum) (only 13) (nextAnswer (yearRun y) customerMost seen day)
+
 unfoldable pub dayAnswer : Customer → List ℕ → Said
-dayAnswer c day = cond (overfull c) (only 13) (nextAnswer (yearRun (c .terms .year)) customerMost (c .seen) day)
+dayAnswer c day = dayUnder (c .terms .year) (c .seen) (c .figures .sum) day
 
 abbrev pub taken : Customer → List ℕ → Customer
 taken c day =

@@ -4,20 +4,16 @@
 mod day;
 
 ghost use mathlib.Core.Path.{_≡_};
-ghost use mathlib.Core.Bool.{cond};
 ghost use Prim.Native.Nat.{_≤_, _<_};
-ghost use lib.Dec.{ltb};
 ghost use lib.ListN.{length};
-ghost use Rattle.answers.specs.Ruling.{customerMost};
-ghost use Rattle.answers.specs.Said.{only, orElse};
+ghost use Rattle.answers.specs.Said.{orElse};
 ghost use Rattle.dates.specs.Dates.{yearDays};
 ghost use Rattle.readings.specs.Runs.{dayLen, runReadings};
-ghost use Rattle.readings.specs.Days.{nextAnswer};
 ghost use Rattle.sheet.specs.Answers.{saidOfSheet};
 ghost use Rattle.tariff.specs.Answers.{saidOf};
 ghost use Rattle.figures.specs.Figures.{noFigures};
 ghost use Rattle.customer.specs.Counts.{yearRun};
-ghost use Rattle.customer.specs.Answers.{termsOf, listsAnswer, openAnswer, opened, shut, openCustomer, sumMost, dayAnswer, taken, dayCustomer, closeAnswer, figuresUnder, wholeAnswer, decideAnswer};
+ghost use Rattle.customer.specs.Answers.{termsOf, listsAnswer, openAnswer, opened, shut, openCustomer, sumMost, dayUnder, dayAnswer, taken, dayCustomer, closeAnswer, figuresUnder, wholeAnswer, decideAnswer};
 use answers::Place;
 use readings::Run;
 use sheet::Sheet;
@@ -173,7 +169,7 @@ pub fn decide(
 
 // What a day is answered where so many days are taken, with this sum: 13, also for a sum that no legal days have, then 4, then 5.
 fn day_answer(year: u16, seen: u16, sum: u64, day: &[u32]) -> Decision
-    ensures { λ r. ⌜ saidOf r ≡ cond (ltb (sumMost seen) sum) (only 13) (nextAnswer (yearRun year) customerMost seen (now (day .entry))) ⌝ }
+    ensures { λ r. ⌜ saidOf r ≡ dayUnder year seen sum (now (day .entry)) ⌝ }
 {
     if DAY_SUM_MOST * (seen as u64) < sum {
         return Decision::DayOut;

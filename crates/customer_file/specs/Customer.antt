@@ -9,18 +9,16 @@ use Rattle.over.specs.Over.{counted, table}
 use Rattle.answers.specs.Ruling.{customerMost, holidaysMost}
 use Rattle.answers.specs.Said.{Said}
 use Rattle.calendar.specs.Holidays.{badEntry}
-use Rattle.packed.specs.Bytes.{twoAt}
+use Rattle.packed.specs.Bytes.{twoAt, fourAt, markSize}
 use Rattle.sheet.specs.Bytes.{mark, yearAt, sheetSize, seasonBytes, seasonFull}
 use Rattle.tariff.specs.declared.Prices.{Prices}
 use Rattle.tariff.specs.Prices.{capacityOut, energyOut}
 use Rattle.customer.specs.Counts.{yearRun}
 use Rattle.customer.specs.Answers.{decideAnswer}
 use Rattle.fields.specs.Layout.{Field, Layout, layoutOf, headSize}
-use Rattle.packed.specs.Bytes.{fourAt}
 use Rattle.fields.specs.Series.{seriesIn}
 use Rattle.fields.specs.File.{fileAnswer, part}
 use Rattle.lines.specs.Figures.{statementLine}
-use Rattle.packed.specs.Bytes.{markSize}
 use Rattle.fields.specs.Common.{markField, versionField, yearField, levelField}
 
 -- "CUS"

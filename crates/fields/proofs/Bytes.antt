@@ -10,7 +10,7 @@ use Rattle.over.specs.Over.{table}
 use Rattle.over.proofs.Tables.{length-table, getD-table, is-table}
 use Rattle.packed.specs.Bytes.{fourAt}
 use Rattle.packed.proofs.Bytes.{four-same}
-use Rattle.fields.specs.Series.{readingBytes, dayMost, readingsOf, seriesIn}
+use Rattle.fields.specs.Series.{readingBytes, mostReadings, readingsOf, seriesIn}
 use Rattle.fields.specs.File.{part}
 
 -- the part of a file that a machine is handed
@@ -69,18 +69,18 @@ four-take b size i l = four-same (take size b) b i i (λ k m. getD-take size b (
 
 pub readings-held :
     (b : List ℕ) (n : ℕ)
-    → n ≤ dayMost
+    → n ≤ mostReadings
     → readingBytes * n ≤ length b
-    → take n (table (λ i. fourAt b (readingBytes * i)) dayMost) ≡ readingsOf (take (readingBytes * n) b)
+    → take n (table (λ i. fourAt b (readingBytes * i)) mostReadings) ≡ readingsOf (take (readingBytes * n) b)
 unfolding readingsOf
 readings-held b n few h =
-    let xs = table (λ (i : ℕ). fourAt b (readingBytes * i)) dayMost in
-    let long : length xs ≡ dayMost = length-table _ dayMost in
+    let xs = table (λ (i : ℕ). fourAt b (readingBytes * i)) mostReadings in
+    let long : length xs ≡ mostReadings = length-table _ mostReadings in
     let size : length (take (readingBytes * n) b) / readingBytes ≡ n = omega (arith, length-take-le (readingBytes * n) b h) in
     rw size
     (is-table (λ i. fourAt (take (readingBytes * n) b) (readingBytes * i)) n 0 (take n xs)
     (length-take-le n xs (omega arith))
-    (λ i l. getD-take n xs i 0 l ∙ getD-table _ dayMost i 0 (omega arith) ∙ sym (four-take b (readingBytes * n) (readingBytes * i) (omega arith))))
+    (λ i l. getD-take n xs i 0 l ∙ getD-table _ mostReadings i 0 (omega arith) ∙ sym (four-take b (readingBytes * n) (readingBytes * i) (omega arith))))
 
 -- the readings that bytes hold
 module _ (b : List ℕ) where

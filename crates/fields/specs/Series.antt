@@ -17,8 +17,8 @@ abbrev pub readingBytes : ℕ
 readingBytes = 4
 
 -- the most readings of a day
-abbrev pub dayMost : ℕ
-dayMost = 100
+abbrev pub mostReadings : ℕ
+mostReadings = 100
 
 -- the readings that bytes hold, and the series of a file
 unfoldable pub readingsOf : List ℕ → List ℕ

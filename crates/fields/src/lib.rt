@@ -4,7 +4,7 @@ ghost use mathlib.Core.Path.{_≡_};
 ghost use Prim.Native.Nat.{ℕ, _*_};
 ghost use Rattle.over.specs.Over.{counted, table};
 ghost use Rattle.packed.specs.Bytes.{fourAt};
-ghost use Rattle.fields.specs.Series.{readingBytes, dayMost};
+ghost use Rattle.fields.specs.Series.{readingBytes, mostReadings};
 ghost use Rattle.fields.specs.Stages.{going};
 use answers::Place;
 
@@ -41,7 +41,7 @@ pub fn number_if(fails: bool, number: u8) -> u8
 
 // The readings in a day's bytes, 0 behind the last.
 pub fn readings_in(b: &[u8]) -> [u32; DAY_MOST]
-    ensures { λ r. ⌜ r ≡ table (λ (i : ℕ). fourAt (now (b .entry)) (readingBytes * i)) dayMost ⌝ }
+    ensures { λ r. ⌜ r ≡ table (λ (i : ℕ). fourAt (now (b .entry)) (readingBytes * i)) mostReadings ⌝ }
 {
     let mut out = [0; DAY_MOST];
     for i in 0..DAY_MOST {

@@ -8,7 +8,7 @@ use lib.ListN.{getD, replicate}
 use Rattle.answers.specs.Ruling.{gridMost}
 use Rattle.answers.specs.Said.{Said, after}
 use Rattle.sheet.specs.declared.Sheet.{Sheet}
-use Rattle.packed.specs.Bytes.{twoAt}
+use Rattle.packed.specs.Bytes.{twoAt, markSize}
 use Rattle.sheet.specs.Bytes.{sheetSize}
 use Rattle.sheet.specs.Answers.{readSheet}
 use Rattle.grid.specs.Curves.{periodRun}
@@ -18,7 +18,6 @@ use Rattle.fields.specs.Series.{seriesIn}
 use Rattle.fields.specs.File.{fileAnswer}
 use Rattle.lines.specs.Figures.{figuresIn, refusedLine}
 use Rattle.window_lines.specs.Runs.{windowsText}
-use Rattle.packed.specs.Bytes.{markSize}
 use Rattle.fields.specs.Common.{markField, versionField, yearField, levelField}
 
 -- "GRD"

@@ -5,16 +5,16 @@ use Prim.Native.Nat.{_-_, _*_}
 use native.Mathlib.Omega.{arith}
 use borrow.Author.Needs.{needs}
 use Rattle.packed.specs.Bytes.{fourAt}
-use Rattle.fields.specs.Series.{readingBytes, dayMost}
+use Rattle.fields.specs.Series.{readingBytes, mostReadings}
 use Rattle.over.proofs.Tables.{Filled, filled-none, filled-more, filled-all}
 use Rattle.fields.proofs.readings_in.Statement.{statement}
 use Rattle.fields.proofs.readings_in.Tie as tie
 
 abbrev Inv-loop : tie.InvT-loop
-Inv-loop b out₀ i₀ out i = Filled (λ k. fourAt b (readingBytes * k)) dayMost 0 i out
+Inv-loop b out₀ i₀ out i = Filled (λ k. fourAt b (readingBytes * k)) mostReadings 0 i out
 
 abbrev μ-loop : tie.MeasureT-loop
-μ-loop b out₀ i₀ out i = dayMost - i
+μ-loop b out₀ i₀ out i = mostReadings - i
 
 pub readings-in-spec : {M : Type 1} → statement M
 readings-in-spec =

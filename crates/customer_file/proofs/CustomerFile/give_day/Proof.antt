@@ -3,14 +3,13 @@
 use mathlib.Core.Path.{sym, ap, _∙_}
 use borrow.Author.Tests.{eq-eqb, ne-eqb}
 use borrow.Author.Needs.{needs}
-use Rattle.customer_file.specs.CustomerMachine.{customerEnded}
+use Rattle.customer_file.specs.CustomerMachine.{customerEnded, customerReader}
 use Rattle.fields.specs.Stages.{stageOf}
 use Rattle.fields.specs.declared.Stage.the-variants.{Going}
 use Rattle.customer.specs.declared.Customer.{Customer}
 use Rattle.answers.specs.Said.{Said}
 use Rattle.figured.specs.declared.Flat.{Flat}
 use Rattle.fields.proofs.Machine.{given-refused, given-taken}
-use Rattle.customer_file.specs.CustomerMachine.{customerReader}
 use Rattle.customer_file.proofs.CustomerFile.give_day.Statement.{statement}
 use Rattle.customer_file.proofs.CustomerFile.give_day.Tie as tie
 

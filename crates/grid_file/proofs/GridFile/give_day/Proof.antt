@@ -3,13 +3,12 @@
 use mathlib.Core.Path.{sym, ap, _∙_}
 use borrow.Author.Tests.{eq-eqb, ne-eqb}
 use borrow.Author.Needs.{needs}
-use Rattle.grid_file.specs.GridMachine.{gridEnded}
+use Rattle.grid_file.specs.GridMachine.{gridEnded, gridReader}
 use Rattle.fields.specs.Stages.{stageOf}
 use Rattle.fields.specs.declared.Stage.the-variants.{Going}
 use Rattle.grid.specs.declared.Grid.{Grid}
 use Rattle.answers.specs.Said.{Said}
 use Rattle.fields.proofs.Machine.{given-refused, given-taken}
-use Rattle.grid_file.specs.GridMachine.{gridReader}
 use Rattle.grid_file.proofs.GridFile.give_day.Statement.{statement}
 use Rattle.grid_file.proofs.GridFile.give_day.Tie as tie
 
