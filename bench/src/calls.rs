@@ -1,4 +1,7 @@
-//! The proved calls as Rust sees them (crates/bench_calls). A slice is a pointer and then a length.
+//! The proved calls as Rust sees them (crates/bench_calls). A slice is a pointer and then a length. The answer is written where the first
+//! argument points: so C on x86-64 hands back a struct of this size, and the module says it in so many words, for any processor.
+
+use std::mem::MaybeUninit;
 
 use independent::decision::Prices;
 
@@ -11,13 +14,14 @@ pub struct Flat {
     pub figures: [u64; 7],
 }
 
-type GridCall = unsafe extern "C" fn(u16, u8, *const u32, usize, *mut u8, usize) -> Flat;
-type CustomerCall = unsafe extern "C" fn(*const u8, usize, *const u16, usize, u32, u32, u32, u32, bool, *const u32, usize) -> Flat;
+type GridCall = unsafe extern "C" fn(*mut Flat, u16, u8, *const u32, usize, *mut u8, usize) -> *mut Flat;
+type CustomerCall = unsafe extern "C" fn(*mut Flat, *const u8, usize, *const u16, usize, u32, u32, u32, u32, bool, *const u32, usize) -> *mut Flat;
 
 unsafe extern "C" {
-    fn bench_windows(year: u16, level: u8, series: *const u32, length: usize, out: *mut u8, room: usize) -> Flat;
-    fn bench_grid_days(year: u16, level: u8, series: *const u32, length: usize, out: *mut u8, room: usize) -> Flat;
+    fn bench_windows(answer: *mut Flat, year: u16, level: u8, series: *const u32, length: usize, out: *mut u8, room: usize) -> *mut Flat;
+    fn bench_grid_days(answer: *mut Flat, year: u16, level: u8, series: *const u32, length: usize, out: *mut u8, room: usize) -> *mut Flat;
     fn bench_decide(
+        answer: *mut Flat,
         sheet: *const u8,
         sheet_length: usize,
         holidays: *const u16,
@@ -29,8 +33,9 @@ unsafe extern "C" {
         option: bool,
         series: *const u32,
         length: usize,
-    ) -> Flat;
+    ) -> *mut Flat;
     fn bench_customer_days(
+        answer: *mut Flat,
         sheet: *const u8,
         sheet_length: usize,
         holidays: *const u16,
@@ -42,7 +47,7 @@ unsafe extern "C" {
         option: bool,
         series: *const u32,
         length: usize,
-    ) -> Flat;
+    ) -> *mut Flat;
 }
 
 /// A customer's year without its readings.
@@ -54,15 +59,21 @@ pub struct Basis {
 }
 
 fn grid_call(call: GridCall, year: u16, level: u8, series: &[u32], out: &mut [u8]) -> Flat {
-    // SAFETY: the pointers and lengths are those of slices that live through the call
-    unsafe { call(year, level, series.as_ptr(), series.len(), out.as_mut_ptr(), out.len()) }
+    let mut answer = MaybeUninit::uninit();
+    // SAFETY: the pointers and lengths are those of slices that live through the call, which writes the whole answer
+    unsafe {
+        call(answer.as_mut_ptr(), year, level, series.as_ptr(), series.len(), out.as_mut_ptr(), out.len());
+        answer.assume_init()
+    }
 }
 
 fn customer_call(call: CustomerCall, basis: &Basis, series: &[u32]) -> Flat {
     let Basis { sheet, holidays, prices: Prices { low, high }, option } = basis;
+    let mut answer = MaybeUninit::uninit();
     // SAFETY: as above
     unsafe {
         call(
+            answer.as_mut_ptr(),
             sheet.as_ptr(),
             sheet.len(),
             holidays.as_ptr(),
@@ -74,7 +85,8 @@ fn customer_call(call: CustomerCall, basis: &Basis, series: &[u32]) -> Flat {
             *option,
             series.as_ptr(),
             series.len(),
-        )
+        );
+        answer.assume_init()
     }
 }
 
