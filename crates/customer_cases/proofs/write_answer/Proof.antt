@@ -1,0 +1,31 @@
+-- `customer_cases::write_answer` ends: it looks at the eight numbers of the list.
+-- Assumes nothing.
+use Prim.Native.Nat.{_≤_, _-_}
+use borrow.Author.Needs.{needs}
+use Rattle.customer_cases.proofs.write_answer.Statement.{statement}
+use Rattle.customer_cases.proofs.write_answer.Tie as tie
+
+abbrev Inv-loop : tie.InvT-loop
+Inv-loop last line i₀ end i = i ≤ 8
+
+abbrev μ-loop : tie.MeasureT-loop
+μ-loop last line i₀ end i = 8 - i
+
+pub write-answer-spec : {M : Type 1} → statement M
+write-answer-spec =
+    tie.close
+    (tie.spec
+    Inv-loop
+    μ-loop
+    (λ c κs. search needs)  -- of-decision-requires
+    (λ c κs. search needs)  -- line-of-requires
+    (λ c. search needs)  -- loop-holds
+    (λ c. search needs)  -- mul-write-next
+    (λ c. search needs)  -- array-read-write-next
+    (λ c κs. search needs)  -- write-next-requires
+    (λ c. search needs)  -- add-i
+    (λ c. search needs)  -- loop-less
+    (λ c. search needs)  -- loop-again
+    (λ c. search needs)  -- slice-aggregate-write-text
+    (λ c κs. search needs)  -- write-text-requires
+    (λ c. search needs))
