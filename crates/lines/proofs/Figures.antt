@@ -14,7 +14,7 @@ use lib.ListN.{length, getD, length-append}
 use Rattle.io.specs.Digits.{digits, glyph, Fewest}
 use Rattle.over.proofs.First.{first-at, first-le}
 use Rattle.lines.specs.Text.{textOver}
-use Rattle.lines.specs.Figures.{digitsIn, decimalOf, fieldOf, fieldIn, figuresLine, refusedMark, refusedLine, headMark, headLine}
+use Rattle.lines.specs.Figures.{digitsIn, decimalOf, fieldOf, fieldIn, figuresLine, refusedMark, refusedLine}
 use Rattle.lines.proofs.Text.{text-more, text-short, text-room}
 
 -- digits: how many, and the fewest that hold the number
@@ -65,7 +65,7 @@ pub field-next : (i x : ℕ) → (i ≡ 0 → ⊥) → (32 ∷ []) ++ decimalOf 
 unfolding fieldOf
 field-next i x e = rw (ne-eqb i 0 e)
 
-field-short : (i x : ℕ) → length (fieldOf i x) ≤ 22
+pub field-short : (i x : ℕ) → length (fieldOf i x) ≤ 22
 field-short i x = go (ℕ-discrete i 0)
   where
     go : Dec (i ≡ 0) → length (fieldOf i x) ≤ 22
@@ -81,7 +81,7 @@ pub figures-is : (figures : List ℕ) → textOver (fieldIn figures) (length fig
 unfolding figuresLine
 figures-is figures = refl
 
--- a refusal, and the head
+-- a refusal
 pub refused-is : (figures : List ℕ) → refusedMark ++ figuresLine figures ≡ refusedLine figures
 unfolding refusedLine
 refused-is figures = refl
@@ -89,19 +89,6 @@ refused-is figures = refl
 pub refused-long : (figures : List ℕ) → length (refusedLine figures) ≡ 8 + length (figuresLine figures)
 unfolding refusedLine
 refused-long figures = length-append refusedMark (figuresLine figures)
-
-pub head-is : (year level : ℕ) → headMark ++ figuresLine (year ∷ level ∷ []) ≡ headLine year level
-unfolding headLine
-head-is year level = refl
-
-pub head-long : (year level : ℕ) → length (headLine year level) ≡ 4 + length (figuresLine (year ∷ level ∷ []))
-unfolding headLine
-head-long year level = length-append headMark (figuresLine (year ∷ level ∷ []))
-
-pub head-short : (year level : ℕ) → length (headLine year level) ≤ 49
-head-short year level =
-    let figures = year ∷ level ∷ [] in
-    omega (arith, head-long year level, figures-long figures, text-short (fieldIn figures) 2 22 (λ k l. field-short k (getD figures k 0)))
 
 -- does a line fit: i fields are counted, and what is left of the room
 module _ (figures : List ℕ) (left i : ℕ) {room : ℕ} (h : left + length (textOver (fieldIn figures) i) ≡ room) where

@@ -42,10 +42,3 @@ refusedMark = 82 ∷ 69 ∷ 70 ∷ 85 ∷ 83 ∷ 69 ∷ 68 ∷ 32 ∷ []
 
 unfoldable pub refusedLine : List ℕ → List ℕ
 refusedLine figures = refusedMark ++ figuresLine figures
-
--- "It prints the line `HLZ`, year, level"
-abbrev pub headMark : List ℕ
-headMark = 72 ∷ 76 ∷ 90 ∷ 32 ∷ []
-
-unfoldable pub headLine : ℕ → ℕ → List ℕ
-headLine year level = headMark ++ figuresLine (year ∷ level ∷ [])

@@ -11,8 +11,8 @@ use Rattle.over.specs.Over.{joined, anyOver, firstOver}
 use Rattle.answers.specs.Said.{only, badPlace}
 use Rattle.sheet.specs.Windows.{isSet}
 use Rattle.lines.specs.Text.{textOver}
-use Rattle.lines.specs.Figures.{decimalOf, fieldOf, figuresLine, figuresIn, statementLine, refusedLine, headLine}
-use Rattle.window_lines.specs.Runs.{timeOf, runLine, runText, seasonText, windowsText}
+use Rattle.lines.specs.Figures.{decimalOf, fieldOf, figuresLine, figuresIn, statementLine, refusedLine}
+use Rattle.window_lines.specs.Runs.{headLine, timeOf, runLine, runText, seasonText, windowsText}
 
 -- a text of the definitions, and the bytes that are printed
 pub record Case : Type 0 where

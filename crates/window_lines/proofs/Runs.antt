@@ -2,21 +2,35 @@
 -- Assumes nothing.
 use mathlib.Core.Path.{_≡_, refl, sym, ap}
 use mathlib.Core.Bool.{Bool, true, false, cond, not, _&&_, and-true}
-use mathlib.Core.List.{List, [], _++_}
+use mathlib.Core.List.{List, [], _∷_, _++_}
 use Prim.Native.Nat.{ℕ, _+_, _-_, _≤_, _<_}
 use native.Mathlib.Omega.{arith}
 use borrow.Author.Tests.{eq-eqb, ne-eqb}
-use lib.ListN.{length, length-append}
+use lib.ListN.{length, getD, length-append}
 use Rattle.over.specs.Over.{anyOver}
 use Rattle.over.proofs.Tests.{Passed}
 use Rattle.over.proofs.First.{first-at, first-fails}
 use Rattle.answers.specs.Ruling.{dayQuarters}
 use Rattle.sheet.specs.Windows.{seasons, isSet}
 use Rattle.lines.specs.Text.{textOver}
-use Rattle.lines.specs.Figures.{headLine}
-use Rattle.window_lines.specs.Runs.{timeOf, runLine, noneLine, begins, runEnd, runText, seasonText, seasonIn, windowsText}
+use Rattle.lines.specs.Figures.{fieldIn, figuresLine}
+use Rattle.window_lines.specs.Runs.{headMark, headLine, timeOf, runLine, noneLine, begins, runEnd, runText, seasonText, seasonIn, windowsText}
 use Rattle.lines.proofs.Text.{text-short}
-use Rattle.lines.proofs.Figures.{head-long, head-short}
+use Rattle.lines.proofs.Figures.{field-short, figures-long}
+
+-- the head
+pub head-is : (year level : ℕ) → headMark ++ figuresLine (year ∷ level ∷ []) ≡ headLine year level
+unfolding headLine
+head-is year level = refl
+
+pub head-long : (year level : ℕ) → length (headLine year level) ≡ 4 + length (figuresLine (year ∷ level ∷ []))
+unfolding headLine
+head-long year level = length-append headMark (figuresLine (year ∷ level ∷ []))
+
+pub head-short : (year level : ℕ) → length (headLine year level) ≤ 49
+head-short year level =
+    let figures = year ∷ level ∷ [] in
+    omega (arith, head-long year level, figures-long figures, text-short (fieldIn figures) 2 22 (λ k l. field-short k (getD figures k 0)))
 
 pub time-long : (q : ℕ) → length (timeOf q) ≡ 5
 unfolding timeOf

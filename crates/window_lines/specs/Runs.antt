@@ -1,5 +1,5 @@
--- Document 01, Two programs: "then per season in order its number and `none`, or one line per unbroken run, number and from-to times."
--- f tells which quarters of the season are set. Times have two digits; no run wraps round midnight.
+-- Document 01, Two programs: "It prints the line `HLZ`, year, level; then per season in order its number and `none`, or one line per
+-- unbroken run, number and from-to times." f tells which quarters of the season are set. Times have two digits; no run wraps round midnight.
 use mathlib.Core.Bool.{Bool, cond, not, _&&_, _||_}
 use mathlib.Core.List.{List, [], _∷_, _++_}
 use Prim.Native.Nat.{ℕ, _+_, _-_, _*_, _/_, _%_}
@@ -8,7 +8,14 @@ use Rattle.over.specs.Over.{anyOver, firstOver}
 use Rattle.answers.specs.Ruling.{dayQuarters}
 use Rattle.sheet.specs.Windows.{seasons, isSet}
 use Rattle.lines.specs.Text.{textOver}
-use Rattle.lines.specs.Figures.{headLine}
+use Rattle.lines.specs.Figures.{figuresLine}
+
+-- "It prints the line `HLZ`, year, level"
+abbrev pub headMark : List ℕ
+headMark = 72 ∷ 76 ∷ 90 ∷ 32 ∷ []
+
+unfoldable pub headLine : ℕ → ℕ → List ℕ
+headLine year level = headMark ++ figuresLine (year ∷ level ∷ [])
 
 -- a digit, and two of them
 abbrev pub digit : ℕ → ℕ

@@ -9,8 +9,7 @@ ghost use Rattle.over.specs.Over.{anyOver};
 ghost use Rattle.answers.specs.Ruling.{dayQuarters};
 ghost use Rattle.sheet.specs.Windows.{seasons, isSet};
 ghost use Rattle.lines.specs.Text.{textOver, lengthIn, putIn, Wrote};
-ghost use Rattle.lines.specs.Figures.{headLine};
-ghost use Rattle.window_lines.specs.Runs.{timeOf, runLine, runEnd, runText, seasonText, seasonIn, windowsText};
+ghost use Rattle.window_lines.specs.Runs.{headLine, timeOf, runLine, runEnd, runText, seasonText, seasonIn, windowsText};
 ghost use Rattle.window_lines.specs.Runs.{begins as beginsAt};
 
 // Bytes that are enough for every text of windows: the head, and 14 for each quarter.

@@ -8,7 +8,7 @@ use lib.ListN.{length, take}
 use lib.Seq.{length-take-le}
 use Rattle.lines.specs.Figures.{figuresLine}
 use Rattle.lines.proofs.Text.{wrote-as, then, fitted, within, taken}
-use Rattle.lines.proofs.Figures.{head-is, head-long, head-short}
+use Rattle.window_lines.proofs.Runs.{head-is, head-long, head-short}
 use Rattle.window_lines.proofs.add_head.Statement.{statement}
 use Rattle.window_lines.proofs.add_head.Tie as tie
 
