@@ -1,5 +1,6 @@
-//! The proved calls as Rust sees them (crates/bench_calls). A slice is a pointer and then a length. The answer is written where the first
-//! argument points: so C on x86-64 hands back a struct of this size, and the module says it in so many words, for any processor.
+//! The proved calls as Rust sees them (crates/bench_grid and bench_customer). A slice is a pointer and then a length. The answer is written
+//! where the first argument points: so C on x86-64 hands back a struct of this size, and the module says it in so many words, for any
+//! processor.
 
 use std::mem::MaybeUninit;
 

@@ -3,3 +3,4 @@ pub mod Part
 pub mod Legal
 pub mod Days
 pub mod Machines
+pub mod Given

@@ -12,13 +12,13 @@ use lib.Dec.{eqb}
 use lib.ListN.{length, getD}
 use Rattle.over.proofs.Largest.{largest-cong}
 use Rattle.over.proofs.First.{first-cong, first-below, first-holds}
-use Rattle.over.proofs.Tables.{table-none, table-more}
 use Rattle.answers.specs.Said.{Said, only, badPlace, after}
 use Rattle.readings.specs.declared.Run.{Run}
 use Rattle.readings.specs.Runs.{runDays, dayLen, dayStart, runReadings}
 use Rattle.readings.specs.Legal.{illegal, highestOf, firstAbove, dayPeak, peakOf, badIn, badAt, badDay, firstIllegal}
 use Rattle.readings.specs.Part.{dayPart}
 use Rattle.readings.specs.Days.{seriesAnswer, nextAnswer, offered, takenReadings, daysOf, BadThere}
+use Rattle.readings.proofs.Given.{days-none, days-more}
 use Rattle.readings.proofs.Runs.{run-all, run-held}
 use Rattle.readings.proofs.Legal.{peak-illegal, illegal-at, bad-peak}
 use Rattle.readings.proofs.Part.{length-part, part-at}
@@ -112,12 +112,6 @@ module _ {S : Type 0} {run : Run} {limit : ℕ} {answer : S → List ℕ → Sai
       full-holds (takenReadings answer step start days) (offered step start days) h
       (sym (counts (takenReadings answer step start days) (h .days)) ∙ sym (ap seen (h .is)) ∙ full)
 
-  -- days after days
-  offered-more : (days : List (List ℕ)) (s : S) (day : List ℕ) → offered step s (days ++ (day ∷ [])) ≡ step (offered step s days) day
-  unfolding offered
-  offered-more [] s day = refl
-  offered-more (first ∷ days) s day = offered-more days (step s first) day
-
   -- the state after the first n days of a series
   abbrev stateAt : List ℕ → ℕ → S
   stateAt xs n = offered step (holding [] 0) (daysOf xs n)
@@ -149,16 +143,6 @@ module _ {S : Type 0} {run : Run} {limit : ℕ} {answer : S → List ℕ → Sai
     unfolding badDay
     there-bad = ltb-true _ _ (sym (bad-peak run limit xs (badDay run limit xs)) ∙ first-holds (badIn run limit xs) (runDays run) found)
 
-    state-none : stateAt xs 0 ≡ holding [] 0
-    unfolding offered daysOf
-    state-none = ap (offered step (holding [] 0)) (table-none (λ d. dayPart xs (d + 1)))
-
-    state-more : (n : ℕ) → stateAt xs (n + 1) ≡ step (stateAt xs n) (dayPart xs (n + 1))
-    unfolding daysOf
-    state-more n =
-        ap (offered step (holding [] 0)) (table-more (λ d. dayPart xs (d + 1)) n)
-        ∙ offered-more (daysOf xs n) (holding [] 0) (dayPart xs (n + 1))
-
     -- the first n days are taken
     record Took (n : ℕ) : Type 0 where
       taken : List ℕ
@@ -182,11 +166,11 @@ module _ {S : Type 0} {run : Run} {limit : ℕ} {answer : S → List ℕ → Sai
         record {
           taken = t .taken ++ dayPart xs (n + 1);
           read = read-more run (t .taken) (dayPart xs (n + 1)) n (t .read .long) (t .read .legal) low long;
-          is = state-more n ∙ ap (λ (s : S). step s (dayPart xs (n + 1))) (t .is) ∙ m .takes (t .taken) n (t .read) _ long said;
+          is = days-more step (holding [] 0) xs n ∙ ap (λ (s : S). step s (dayPart xs (n + 1))) (t .is) ∙ m .takes (t .taken) n (t .read) _ long said;
         }
 
     took : (n : ℕ) → n ≤ badDay run limit xs → Took n
-    took zero h = record { taken = []; read = read-none run limit; is = state-none }
+    took zero h = record { taken = []; read = read-none run limit; is = days-none step (holding [] 0) xs }
     took (suc n) h =
         let more : n + 1 ≡ suc n = omega arith in
         rw more at (took-more n (omega arith) (took n (omega arith)))

@@ -1,4 +1,4 @@
--- `bench_calls::bench_grid_days` meets its contract: it closes the state after all days.
+-- `bench_grid::bench_grid_days` meets its contract: it closes the state after all days.
 -- Assumes nothing.
 use mathlib.Core.Path.{ap, _∙_}
 use borrow.Author.Needs.{needs}
@@ -6,8 +6,8 @@ use lib.ListN.{length}
 use Rattle.grid.specs.declared.Grid.{Grid}
 use Rattle.grid.specs.Answers.{closeAnswer, closeBuffer}
 use Rattle.figured.specs.Flat.{flatOf}
-use Rattle.bench_calls.proofs.bench_grid_days.Statement.{statement}
-use Rattle.bench_calls.proofs.bench_grid_days.Tie as tie
+use Rattle.bench_grid.proofs.bench_grid_days.Statement.{statement}
+use Rattle.bench_grid.proofs.bench_grid_days.Tie as tie
 
 returns : tie.Need-returns
 returns c =

@@ -1,4 +1,4 @@
--- `bench_calls::all_grid_days` meets its contract. The loop's invariant: the state is that after the first d days of the series.
+-- `bench_grid::all_grid_days` meets its contract. The loop's invariant: the state is that after the first d days of the series.
 -- Assumes nothing.
 use mathlib.Core.Path.{_≡_, sym, ap, _∙_}
 use Prim.Native.Nat.{_≤_, _-_, _+_}
@@ -9,10 +9,10 @@ use Rattle.readings.specs.Days.{offered, daysOf}
 use Rattle.readings.specs.Part.{dayPart}
 use Rattle.grid.specs.declared.Grid.{Grid}
 use Rattle.grid.specs.Answers.{dayGrid}
-use Rattle.bench_calls.specs.Days.{gridAfter}
-use Rattle.bench_calls.proofs.Days.{days-none, days-more}
-use Rattle.bench_calls.proofs.all_grid_days.Statement.{statement}
-use Rattle.bench_calls.proofs.all_grid_days.Tie as tie
+use Rattle.bench_grid.specs.Days.{gridAfter}
+use Rattle.readings.proofs.Given.{days-none, days-more}
+use Rattle.bench_grid.proofs.all_grid_days.Statement.{statement}
+use Rattle.bench_grid.proofs.all_grid_days.Tie as tie
 
 abbrev Inv-loop : tie.InvT-loop
 Inv-loop year level series state₀ d₀ d-end state d = (d-end ≡ periodDays year) × (d ≤ d-end) × (state ≡ offered dayGrid state₀ (daysOf series d))

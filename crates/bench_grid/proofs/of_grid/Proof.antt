@@ -1,8 +1,8 @@
--- `bench_calls::of_grid` meets its contract, case by case.
+-- `bench_grid::of_grid` meets its contract, case by case.
 -- Assumes nothing.
 use borrow.Author.Needs.{needs}
-use Rattle.bench_calls.proofs.of_grid.Statement.{statement}
-use Rattle.bench_calls.proofs.of_grid.Tie as tie
+use Rattle.bench_grid.proofs.of_grid.Statement.{statement}
+use Rattle.bench_grid.proofs.of_grid.Tie as tie
 
 returns : tie.Need-returns
 returns c = rw (c .before .enum-told .given .1) (c .bare .ensures)

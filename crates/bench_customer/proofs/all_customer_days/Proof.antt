@@ -1,4 +1,4 @@
--- `bench_calls::all_customer_days` meets its contract. The loop's invariant: the state is that after the first d days of the series.
+-- `bench_customer::all_customer_days` meets its contract. The loop's invariant: the state is that after the first d days of the series.
 -- Assumes nothing.
 use mathlib.Core.Path.{_≡_, sym, ap, _∙_}
 use Prim.Native.Nat.{_≤_, _-_, _+_}
@@ -9,10 +9,10 @@ use Rattle.readings.specs.Days.{offered, daysOf}
 use Rattle.readings.specs.Part.{dayPart}
 use Rattle.customer.specs.declared.Customer.{Customer}
 use Rattle.customer.specs.Answers.{dayCustomer}
-use Rattle.bench_calls.specs.Days.{customerAfter}
-use Rattle.bench_calls.proofs.Days.{days-none, days-more}
-use Rattle.bench_calls.proofs.all_customer_days.Statement.{statement}
-use Rattle.bench_calls.proofs.all_customer_days.Tie as tie
+use Rattle.bench_customer.specs.Days.{customerAfter}
+use Rattle.readings.proofs.Given.{days-none, days-more}
+use Rattle.bench_customer.proofs.all_customer_days.Statement.{statement}
+use Rattle.bench_customer.proofs.all_customer_days.Tie as tie
 
 abbrev Inv-loop : tie.InvT-loop
 Inv-loop sheet holidays option series state₀ d₀ d-end state d = (d-end ≡ yearDays (state₀ .terms .year)) × (d ≤ d-end) × (state ≡ offered dayCustomer state₀ (daysOf series d))

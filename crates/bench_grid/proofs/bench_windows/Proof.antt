@@ -1,10 +1,10 @@
--- `bench_calls::bench_windows` meets its contract: it is the called function's.
+-- `bench_grid::bench_windows` meets its contract: it is the called function's.
 -- Assumes nothing.
 use mathlib.Core.Path.{ap, _∙_}
 use borrow.Author.Needs.{needs}
 use Rattle.figured.specs.Flat.{flatOf}
-use Rattle.bench_calls.proofs.bench_windows.Statement.{statement}
-use Rattle.bench_calls.proofs.bench_windows.Tie as tie
+use Rattle.bench_grid.proofs.bench_windows.Statement.{statement}
+use Rattle.bench_grid.proofs.bench_windows.Tie as tie
 
 returns : tie.Need-returns
 returns c =

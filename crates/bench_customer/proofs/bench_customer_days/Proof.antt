@@ -1,13 +1,13 @@
--- `bench_calls::bench_customer_days` meets its contract: it closes the state after all days, over the price list.
+-- `bench_customer::bench_customer_days` meets its contract: it closes the state after all days, over the price list.
 -- Assumes nothing.
 use mathlib.Core.Path.{ap, _∙_}
 use borrow.Author.Needs.{needs}
 use Rattle.tariff.specs.declared.Prices.{Prices}
 use Rattle.customer.specs.Answers.{closeAnswer}
 use Rattle.figured.specs.Flat.{flatOf}
-use Rattle.bench_calls.specs.Days.{customerDaysAnswer}
-use Rattle.bench_calls.proofs.bench_customer_days.Statement.{statement}
-use Rattle.bench_calls.proofs.bench_customer_days.Tie as tie
+use Rattle.bench_customer.specs.Days.{customerDaysAnswer}
+use Rattle.bench_customer.proofs.bench_customer_days.Statement.{statement}
+use Rattle.bench_customer.proofs.bench_customer_days.Tie as tie
 
 returns : tie.Need-returns
 returns c =

@@ -1,12 +1,12 @@
--- `bench_calls::bench_decide` meets its contract: it is the called function's, over the price list.
+-- `bench_customer::bench_decide` meets its contract: it is the called function's, over the price list.
 -- Assumes nothing.
 use mathlib.Core.Path.{ap, _∙_}
 use borrow.Author.Needs.{needs}
 use Rattle.tariff.specs.declared.Prices.{Prices}
 use Rattle.customer.specs.Answers.{decideAnswer}
 use Rattle.figured.specs.Flat.{flatOf}
-use Rattle.bench_calls.proofs.bench_decide.Statement.{statement}
-use Rattle.bench_calls.proofs.bench_decide.Tie as tie
+use Rattle.bench_customer.proofs.bench_decide.Statement.{statement}
+use Rattle.bench_customer.proofs.bench_decide.Tie as tie
 
 returns : tie.Need-returns
 returns c =

@@ -1,0 +1,20 @@
+-- A lent series that is given to a machine day by day, from its opening to its closing: each day as it is handed out, and where one is
+-- refused the next ones all the same.
+use mathlib.Core.List.{List}
+use Prim.Native.Nat.{ℕ}
+use Rattle.answers.specs.Said.{Said}
+use Rattle.dates.specs.Period.{periodDays}
+use Rattle.readings.specs.Days.{offered, daysOf}
+use Rattle.grid.specs.declared.Grid.{Grid}
+use Rattle.grid.specs.Answers.{openGrid, dayGrid, closeAnswer, closeBuffer}
+
+-- the grid after the first n days of a series
+abbrev pub gridAfter : ℕ → ℕ → List ℕ → ℕ → Grid
+gridAfter y level xs n = offered dayGrid (openGrid y level) (daysOf xs n)
+
+-- what closing answers after as many days as the period has, and the buffer then
+abbrev pub gridDaysAnswer : ℕ → ℕ → List ℕ → ℕ → Said
+gridDaysAnswer y level xs room = closeAnswer (gridAfter y level xs (periodDays y)) room
+
+abbrev pub gridDaysBuffer : ℕ → ℕ → List ℕ → List ℕ → List ℕ
+gridDaysBuffer y level xs buffer = closeBuffer (gridAfter y level xs (periodDays y)) buffer
