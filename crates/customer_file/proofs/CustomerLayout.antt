@@ -14,10 +14,10 @@ use Rattle.over.specs.Over.{joined, sumOver, allOver, counted, table}
 use Rattle.over.proofs.Sums.{sum-none, sum-suc, sum-add, sum-cong}
 use Rattle.over.proofs.Tests.{all-at}
 use Rattle.over.proofs.Tables.{length-table, getD-table}
+use Rattle.answers.specs.Ruling.{capacityOut, energyOut}
 use Rattle.calendar.specs.Holidays.{before, badEntry}
 use Rattle.packed.specs.Bytes.{twoAt, fourAt}
 use Rattle.sheet.specs.Bytes.{seasonFull}
-use Rattle.tariff.specs.Prices.{capacityOut, energyOut}
 use Rattle.fields.specs.Layout.{Field, noField, fieldAt, widthAt, layoutOf, startOf, headSize}
 use Rattle.fields.specs.Common.{markField, versionField, yearField, levelField}
 use Rattle.customer_file.specs.Customer.{customerYear, holidaysPlace, holidayCount, holidaysOf, pricesPlace, seasonField, optionField, countField, holidayField, capacityField, energyField, firstFields, priceFields, customerFields, customerLayout}

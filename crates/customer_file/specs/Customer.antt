@@ -6,13 +6,12 @@ use Prim.Native.Nat.{ℕ, _+_, _*_, min}
 use lib.Dec.{ltb, eqb}
 use lib.ListN.{getD}
 use Rattle.over.specs.Over.{counted, table}
-use Rattle.answers.specs.Ruling.{customerMost, holidaysMost}
+use Rattle.answers.specs.Ruling.{customerMost, holidaysMost, capacityOut, energyOut}
 use Rattle.answers.specs.Said.{Said}
 use Rattle.calendar.specs.Holidays.{badEntry}
 use Rattle.packed.specs.Bytes.{twoAt, fourAt, markSize}
 use Rattle.sheet.specs.Bytes.{mark, yearAt, sheetSize, seasonBytes, seasonFull}
 use Rattle.tariff.specs.declared.Prices.{Prices}
-use Rattle.tariff.specs.Prices.{capacityOut, energyOut}
 use Rattle.customer.specs.Counts.{yearRun}
 use Rattle.customer.specs.Answers.{decideAnswer}
 use Rattle.fields.specs.Layout.{Field, Layout, layoutOf, headSize}

@@ -151,9 +151,9 @@ fn price_no(head: &[u8], i: usize, j: usize) -> u8
 {
     let price = packed::four_at(head, i);
     if j % 2 == 0 {
-        return fields::number_if(tariff::capacity_out(price), 6);
+        return fields::number_if(answers::capacity_out(price), 6);
     }
-    fields::number_if(tariff::energy_out(price), 6)
+    fields::number_if(answers::energy_out(price), 6)
 }
 
 pub(crate) fn refusal(head: &[u8], k: usize) -> u8

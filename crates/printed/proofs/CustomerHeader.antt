@@ -12,14 +12,13 @@ use lib.ListN.{length, getD}
 use lib.Seq.{ext-getD}
 use Rattle.over.specs.Over.{counted, table}
 use Rattle.over.proofs.Tables.{table-cong}
-use Rattle.answers.specs.Ruling.{holidaysMost}
+use Rattle.answers.specs.Ruling.{holidaysMost, capacityOut, energyOut}
 use Rattle.packed.specs.Bytes.{twoAt, fourAt}
 use Rattle.packed.proofs.Bytes.{two-same, four-same}
 use Rattle.calendar.specs.Holidays.{before, unfit, badEntry}
 use Rattle.sheet.specs.Windows.{tooMany}
 use Rattle.sheet.specs.Bytes.{mark, yearAt, sheetSize, seasonBytes}
 use Rattle.sheet.proofs.Bytes.{set-same}
-use Rattle.tariff.specs.Prices.{capacityOut, energyOut}
 use Rattle.customer.specs.Answers.{openCustomer}
 use Rattle.fields.specs.Layout.{Layout, fieldAt, startOf, headSize}
 use Rattle.fields.proofs.Bytes.{part-long, part-at, Same}

@@ -11,7 +11,7 @@ use lib.ListN.{length, getD}
 use Rattle.over.specs.Over.{counted}
 use Rattle.over.proofs.Tables.{length-table}
 use Rattle.over.proofs.Tests.{any-fails, Passed}
-use Rattle.answers.specs.Ruling.{yearOut, levelOut}
+use Rattle.answers.specs.Ruling.{yearOut, levelOut, capacityOut, energyOut}
 use Rattle.answers.specs.Said.{only}
 use Rattle.packed.specs.Bytes.{twoAt, versionOut}
 use Rattle.packed.proofs.Bytes.{two-same, unlike-same}
@@ -23,7 +23,7 @@ use Rattle.sheet.specs.Bytes.{mark, versionAt, yearAt, levelAt, windowsAt, shee
 use Rattle.sheet.specs.Answers.{readAnswer}
 use Rattle.sheet.proofs.Bytes.{season-set, set-same}
 use Rattle.sheet.proofs.Answered.{marked, read-accepted}
-use Rattle.tariff.specs.Prices.{capacityOut, energyOut, rowOut, pricesOut}
+use Rattle.tariff.specs.Prices.{rowOut, pricesOut}
 use Rattle.customer.specs.Answers.{openAnswer}
 use Rattle.customer.proofs.Answered.{open-done}
 use Rattle.fields.specs.Layout.{Layout, fieldAt, headSize, stops}

@@ -6,11 +6,11 @@ use mathlib.Core.Logic.{_↔_}
 use Prim.Native.Nat.{ℕ}
 use borrow.Author.Tests.{le-ltb, ltb-false}
 use Rattle.over.proofs.Bools.{neither}
-use Rattle.answers.specs.Ruling.{levelOut}
+use Rattle.answers.specs.Ruling.{levelOut, capacityOut, energyOut}
 use Rattle.answers.proofs.Laws.{level-of}
 use Rattle.tariff.specs.declared.Row.{Row}
 use Rattle.tariff.specs.declared.Prices.{Prices}
-use Rattle.tariff.specs.Prices.{capacityOut, energyOut, rowOut, pricesOut, LegalRow, LegalPrices}
+use Rattle.tariff.specs.Prices.{rowOut, pricesOut, LegalRow, LegalPrices}
 use Rattle.tariff.specs.Rows.{Legal}
 
 row-legal : (row : Row) → (rowOut row ≡ false) ↔ LegalRow row

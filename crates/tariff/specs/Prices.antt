@@ -1,19 +1,10 @@
--- Document 01, Numbers: the limits of a price, of a row and of a list. "A price list has two rows, for use below 2,500 hours and for
+-- Document 01, Numbers: the limits of a row and of a list. "A price list has two rows, for use below 2,500 hours and for
 -- 2,500 and more."
 use mathlib.Core.Bool.{Bool, _||_}
-use Prim.Native.Nat.{ℕ, _≤_}
-use lib.Dec.{ltb}
-use Rattle.answers.specs.Ruling.{capacityMost, energyMost}
+use Prim.Native.Nat.{_≤_}
+use Rattle.answers.specs.Ruling.{capacityMost, energyMost, capacityOut, energyOut}
 use Rattle.tariff.specs.declared.Row.{Row}
 use Rattle.tariff.specs.declared.Prices.{Prices}
-
--- a capacity price, cent per kW and year, is above its limit: "0 to 100,000"
-abbrev pub capacityOut : ℕ → Bool
-capacityOut price = ltb capacityMost price
-
--- an energy price, thousandths of a cent per kWh, is above its limit: "0 to 50,000"
-abbrev pub energyOut : ℕ → Bool
-energyOut price = ltb energyMost price
 
 -- a price of the row is above its limit
 unfoldable pub rowOut : Row → Bool

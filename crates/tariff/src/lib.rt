@@ -4,16 +4,11 @@
 ghost use mathlib.Core.Path.{_≡_};
 ghost use Prim.Native.Nat.{_≤_, max};
 ghost use Rattle.answers.specs.Ruling.{shareOf, Level};
-ghost use Rattle.tariff.specs.Prices.{capacityOut, energyOut, rowOut, pricesOut, LegalRow, LegalPrices};
+ghost use Rattle.tariff.specs.Prices.{rowOut, pricesOut, LegalRow, LegalPrices};
 ghost use Rattle.tariff.specs.Charges.{fewHours, rowOf, chargeFor, chargeMost, general, reduced, floorOf};
 ghost use Rattle.tariff.specs.Answers.{saidOf, plainOf, peaksOf};
 ghost use Rattle.tariff.specs.Decision.{moved, shareShort, eligibleAnswer, chargeAnswer, judgeAnswer};
 use answers::Place;
-
-// Document 01, Numbers: the highest capacity price, cent per kW and year, and energy price, thousandth of a cent per kWh.
-const CAPACITY_MOST: u32 = 100_000;
-
-const ENERGY_MOST: u32 = 50_000;
 
 // The share that each level code, from 1, asks for, in percent: a constant table, as document 01 names it.
 const SHARES: [u8; 7] = [5, 10, 10, 20, 20, 30, 30];
@@ -102,24 +97,10 @@ pub enum Decision {
     DayOut,
 }
 
-// Is a capacity price above its limit? Any price has an answer.
-pub fn capacity_out(price: u32) -> bool
-    ensures { λ r. ⌜ r ≡ capacityOut price ⌝ }
-{
-    CAPACITY_MOST < price
-}
-
-// Is an energy price above its limit? Any price has an answer.
-pub fn energy_out(price: u32) -> bool
-    ensures { λ r. ⌜ r ≡ energyOut price ⌝ }
-{
-    ENERGY_MOST < price
-}
-
 fn row_out(row: Row) -> bool
     ensures { λ r. ⌜ r ≡ rowOut row ⌝ }
 {
-    capacity_out(row.capacity) | energy_out(row.energy)
+    answers::capacity_out(row.capacity) | answers::energy_out(row.energy)
 }
 
 // Is a price of a price list above its limit (answer 6)? Any list has an answer.

@@ -3,7 +3,7 @@
 use mathlib.Core.Path.{ap, _∙_}
 use native.Mathlib.Omega.{arith}
 use borrow.Author.Needs.{needs}
-use Rattle.tariff.specs.Prices.{capacityOut, energyOut}
+use Rattle.answers.specs.Ruling.{capacityOut, energyOut}
 use Rattle.customer_file.proofs.CustomerLayout.{capacity-no, energy-no}
 use Rattle.customer_file.proofs.head.price_no.Statement.{statement}
 use Rattle.customer_file.proofs.head.price_no.Tie as tie
