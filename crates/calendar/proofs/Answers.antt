@@ -12,15 +12,15 @@ use Rattle.over.proofs.Bools.{decided, refutes, within}
 use Rattle.answers.specs.Ruling.{yearOut}
 use Rattle.answers.specs.Said.{Said, only, yesNo}
 use Rattle.answers.proofs.Laws.{one-answer, charge-year}
+use Rattle.dates.specs.Dates.{yearDays, mostDays}
+use Rattle.dates.proofs.Leaps.{leap-small}
+use Rattle.holidays.specs.Holidays.{badHolidays}
+use Rattle.holidays.proofs.Lists.{legal-holidays}
 use Rattle.calendar.specs.declared.DayAnswer.{DayAnswer}
 use Rattle.calendar.specs.declared.DayAnswer.the-variants.{Carries, YearOut, BadList, DayOut}
-use Rattle.dates.specs.Dates.{yearDays, mostDays}
-use Rattle.calendar.specs.Holidays.{badHolidays}
 use Rattle.calendar.specs.Free.{carries}
 use Rattle.calendar.specs.Answer.DayRow.{one, three, thirteen, zero}
 use Rattle.calendar.specs.Answer.{saidOfDay, dayOut, dayAnswer, DayOfYear, DayRow}
-use Rattle.dates.proofs.Leaps.{leap-small}
-use Rattle.calendar.proofs.Lists.{legal-holidays}
 
 -- a day is refused exactly when it is no day of the year
 pub day-of-year : (y d : ℕ) → (dayOut y d ≡ false) ↔ DayOfYear y d

@@ -1,4 +1,3 @@
-pub mod Lists
 pub mod Marked
 pub mod Rules
 pub mod Answers

@@ -13,7 +13,7 @@ use lib.Seq.{getD-set-same, getD-set-other}
 use Rattle.over.specs.Over.{anyOver}
 use Rattle.over.proofs.Tests.{any-none, any-more}
 use Rattle.dates.specs.Dates.{mostDays}
-use Rattle.calendar.specs.Holidays.{listed}
+use Rattle.holidays.specs.Holidays.{listed}
 use Rattle.calendar.specs.Free.{candidate, free, bridge, kindBy, kindOf}
 use Rattle.calendar.specs.Within.{lastPlace, places, placeOf, marked, Marks}
 

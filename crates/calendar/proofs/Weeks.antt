@@ -12,9 +12,9 @@ use lib.Dec.{eqb}
 use lib.ListN.{getD}
 use Rattle.over.proofs.Bools.{decided, both, either, neither, clash}
 use Rattle.over.proofs.Tables.{getD-table}
-use Rattle.calendar.specs.declared.DayKind.the-variants.{Windows, Weekend, Listed, Christmas, Bridge}
 use Rattle.dates.specs.Dates.{yearDays, mostDays, weekdayOf, monday, friday}
-use Rattle.calendar.specs.Holidays.{listed}
+use Rattle.holidays.specs.Holidays.{listed}
+use Rattle.calendar.specs.declared.DayKind.the-variants.{Windows, Weekend, Listed, Christmas, Bridge}
 use Rattle.calendar.specs.Free.{weekend, christmas, free, candidate, mondayCandidate, fridayCandidate, bridge, kindBy, isWindows, carries, windowDays}
 use Rattle.calendar.proofs.Rules.{christmas-late}
 

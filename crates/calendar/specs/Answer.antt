@@ -5,10 +5,10 @@ use Prim.Native.Nat.{ℕ}
 use Rattle.over.specs.Limits.{Within, outside}
 use Rattle.answers.specs.Ruling.{yearOut, ChargeYear}
 use Rattle.answers.specs.Said.{Said, only, yesNo}
+use Rattle.dates.specs.Dates.{yearDays}
+use Rattle.holidays.specs.Holidays.{badHolidays, LegalHolidays}
 use Rattle.calendar.specs.declared.DayAnswer.{DayAnswer}
 use Rattle.calendar.specs.declared.DayAnswer.the-variants.{Carries, YearOut, BadList, DayOut}
-use Rattle.dates.specs.Dates.{yearDays}
-use Rattle.calendar.specs.Holidays.{badHolidays, LegalHolidays}
 use Rattle.calendar.specs.Free.{carries}
 
 -- the number and the figures of each case of the code's answer

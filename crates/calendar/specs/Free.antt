@@ -5,10 +5,10 @@ use mathlib.Core.List.{List}
 use Prim.Native.Nat.{ℕ, _+_, _-_}
 use lib.Dec.{leb, eqb}
 use Rattle.over.specs.Over.{table}
+use Rattle.dates.specs.Dates.{mostDays, dayOf, weekdayOf, monday, friday, saturday}
+use Rattle.holidays.specs.Holidays.{listed}
 use Rattle.calendar.specs.declared.DayKind.{DayKind}
 use Rattle.calendar.specs.declared.DayKind.the-variants.{Windows, Weekend, Listed, Christmas, Bridge}
-use Rattle.dates.specs.Dates.{mostDays, dayOf, weekdayOf, monday, friday, saturday}
-use Rattle.calendar.specs.Holidays.{listed}
 
 -- Saturday and Sunday
 abbrev pub weekend : ℕ → ℕ → Bool

@@ -1,4 +1,3 @@
-pub mod Holidays
 pub mod Free
 pub mod Answer
 pub mod Within

@@ -5,7 +5,7 @@ use mathlib.Core.List.{List}
 use Prim.Native.Nat.{ℕ, _<_}
 use lib.Dec.{ltb}
 use lib.ListN.{getD}
-use Rattle.calendar.specs.Holidays.{listed}
+use Rattle.holidays.specs.Holidays.{listed}
 
 -- the places that mark days: one for each of days 0 to 367, so for a year's days and the days beside them, and a last one
 -- for all others

@@ -1,9 +1,8 @@
-// The calendar of document 01: holiday lists, and the days that carry windows.
+// The calendar of document 01: the days that carry windows.
 // Main theorem: whatever year, list and day are given, the answer is the paper's, and nothing else meets the promise.
 ghost use mathlib.Core.Path.{_≡_};
 ghost use Prim.Native.Nat.{_-_, _≤_, _<_};
 ghost use Rattle.dates.specs.Dates.{mostDays};
-ghost use Rattle.calendar.specs.Holidays.{unfit, badHolidays};
 ghost use Rattle.calendar.specs.Free.{christmas, free, candidate, bridge, kindBy, isWindows, windowDays};
 ghost use Rattle.calendar.specs.Answer.{saidOfDay, dayOut, dayAnswer};
 ghost use Rattle.calendar.specs.Within.{places, lastPlace, placeOf, marked, Marks};
@@ -158,32 +157,6 @@ pub fn window_days(year: u16, holidays: &[u16]) -> [bool; dates::MOST_DAYS]
     out
 }
 
-// Does a listed day break its rule: it does not rise above the one before (0 before the first), or lies past the year's end? Any day
-// has an answer.
-pub fn unfit(year: u16, last: u16, day: u16) -> bool
-    ensures { λ r. ⌜ r ≡ unfit year last day ⌝ }
-{
-    (day <= last) | (dates::year_days(year) < day)
-}
-
-// Does a holiday list break its row (answer 3): more than 40 days, a day that does not rise, a day outside the year?
-pub fn bad_holidays(year: u16, holidays: &[u16]) -> bool
-    ensures { λ r. ⌜ r ≡ badHolidays year (now (holidays .entry)) ⌝ }
-{
-    if answers::HOLIDAYS_MOST < holidays.len() {
-        return true;
-    }
-    let mut last = 0;
-    for k in 0..holidays.len() {
-        let day = holidays[k];
-        if unfit(year, last, day) {
-            return true;
-        }
-        last = day;
-    }
-    false
-}
-
 fn day_out(year: u16, day: u16) -> bool
     ensures { λ r. ⌜ r ≡ dayOut year day ⌝ }
 {
@@ -197,7 +170,7 @@ pub fn carries_windows(year: u16, holidays: &[u16], day: u16) -> DayAnswer
     if answers::year_out(year) {
         return DayAnswer::YearOut;
     }
-    if bad_holidays(year, holidays) {
+    if holidays::bad_holidays(year, holidays) {
         return DayAnswer::BadList;
     }
     if day_out(year, day) {

@@ -139,7 +139,7 @@ fn write_window_days(year: u16, list: &[u16]) {
 fn whole_list(year: u16, list: &[u16]) {
     write(b"L ");
     write_number(year as u64);
-    if calendar::bad_holidays(year, list) {
+    if holidays::bad_holidays(year, list) {
         write(b" bad");
     } else {
         write(b" taken");

@@ -14,7 +14,7 @@ use Rattle.answers.specs.Said.{Said, only, badPlace, orElse}
 use Rattle.answers.specs.declared.Place.{Place}
 use Rattle.answers.proofs.Laws.{refusal-keeps, done-hands, refusal-stands, next-speaks}
 use Rattle.dates.specs.Dates.{yearDays}
-use Rattle.calendar.specs.Holidays.{badHolidays}
+use Rattle.holidays.specs.Holidays.{badHolidays}
 use Rattle.readings.specs.Runs.{runDays, runReadings}
 use Rattle.readings.specs.Legal.{peakOf, firstIllegal}
 use Rattle.readings.specs.Days.{seriesAnswer, nextAnswer}

@@ -13,8 +13,8 @@ use Rattle.over.proofs.Bools.{decided, refutes}
 use Rattle.answers.specs.Ruling.{customerMost}
 use Rattle.answers.specs.Said.{Said, only, badPlace}
 use Rattle.dates.specs.Dates.{yearDays}
-use Rattle.calendar.specs.Holidays.{badHolidays}
-use Rattle.calendar.proofs.Lists.{legal-holidays}
+use Rattle.holidays.specs.Holidays.{badHolidays}
+use Rattle.holidays.proofs.Lists.{legal-holidays}
 use Rattle.readings.specs.Runs.{runReadings}
 use Rattle.readings.specs.Legal.{firstIllegal}
 use Rattle.readings.specs.Days.{nextAnswer}

@@ -9,7 +9,7 @@ use lib.ListN.{replicate}
 use Rattle.answers.specs.Ruling.{customerMost}
 use Rattle.answers.specs.Said.{Said, only, after, orElse}
 use Rattle.dates.specs.Dates.{yearDays, mostDays}
-use Rattle.calendar.specs.Holidays.{badHolidays}
+use Rattle.holidays.specs.Holidays.{badHolidays}
 use Rattle.calendar.specs.Free.{windowDays}
 use Rattle.readings.specs.Days.{seriesAnswer, nextAnswer}
 use Rattle.sheet.specs.declared.Sheet.{Sheet}

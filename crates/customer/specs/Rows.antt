@@ -8,7 +8,7 @@ use Prim.Native.Nat.{ℕ, _≤_, _<_}
 use lib.ListN.{length}
 use Rattle.answers.specs.Ruling.{customerMost}
 use Rattle.dates.specs.Dates.{yearDays}
-use Rattle.calendar.specs.Holidays.{LegalHolidays}
+use Rattle.holidays.specs.Holidays.{LegalHolidays}
 use Rattle.readings.specs.Runs.{runReadings}
 use Rattle.readings.specs.Legal.{peakOf}
 use Rattle.readings.specs.Rows.{NextRow}

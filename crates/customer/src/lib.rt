@@ -120,7 +120,7 @@ fn open_answer(read: SheetAnswer, year: u16, holidays: &[u16], prices: Prices) -
     let Decision::Taken = answer else {
         return answer;
     };
-    if calendar::bad_holidays(year, holidays) {
+    if holidays::bad_holidays(year, holidays) {
         return Decision::BadHolidays;
     }
     if tariff::prices_out(prices) {

@@ -15,7 +15,7 @@ use Rattle.over.proofs.Sums.{sum-none, sum-suc, sum-add, sum-cong}
 use Rattle.over.proofs.Tests.{all-at}
 use Rattle.over.proofs.Tables.{length-table, getD-table}
 use Rattle.answers.specs.Ruling.{capacityOut, energyOut}
-use Rattle.calendar.specs.Holidays.{before, badEntry}
+use Rattle.holidays.specs.Holidays.{before, badEntry}
 use Rattle.packed.specs.Bytes.{twoAt, fourAt}
 use Rattle.sheet.specs.Bytes.{seasonFull}
 use Rattle.fields.specs.Layout.{Field, noField, fieldAt, widthAt, layoutOf, startOf, headSize}

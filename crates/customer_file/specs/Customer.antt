@@ -8,7 +8,7 @@ use lib.ListN.{getD}
 use Rattle.over.specs.Over.{counted, table}
 use Rattle.answers.specs.Ruling.{customerMost, holidaysMost, capacityOut, energyOut}
 use Rattle.answers.specs.Said.{Said}
-use Rattle.calendar.specs.Holidays.{badEntry}
+use Rattle.holidays.specs.Holidays.{badEntry}
 use Rattle.packed.specs.Bytes.{twoAt, fourAt, markSize}
 use Rattle.sheet.specs.Bytes.{mark, yearAt, sheetSize, seasonBytes, seasonFull}
 use Rattle.tariff.specs.declared.Prices.{Prices}

@@ -4,7 +4,7 @@ ghost use mathlib.Core.Path.{_≡_};
 ghost use Prim.Native.Nat.{_+_, _≤_, _<_};
 ghost use lib.ListN.{length, take};
 ghost use Rattle.over.specs.Over.{counted};
-ghost use Rattle.calendar.specs.Holidays.{before, badEntry};
+ghost use Rattle.holidays.specs.Holidays.{before, badEntry};
 ghost use Rattle.fields.specs.Layout.{fieldAt, startOf};
 ghost use Rattle.customer_file.specs.Customer.{customerYear, holidayCount, holidaysOf, priceOf, pricesOf, priceFields, customerLayout};
 ghost use Rattle.customer_file.specs.CustomerMachine.{openedIn, openedWith};
@@ -141,7 +141,7 @@ fn holiday_no(head: &[u8], j: usize) -> u8
 {
     let day = packed::two_at(head, HOLIDAYS_AT + 2 * j);
     let last = holiday_before(head, j);
-    fields::number_if(calendar::unfit(packed::two_at(head, YEAR_AT), last, day), 3)
+    fields::number_if(holidays::unfit(packed::two_at(head, YEAR_AT), last, day), 3)
 }
 
 // Price j, at place i: in each row the capacity price, then the energy price.

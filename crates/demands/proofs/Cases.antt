@@ -4,7 +4,7 @@ use mathlib.Core.Path.{refl}
 use Rattle.over.specs.Over.{joined, largestOver, sumOver, countOver, anyOver, table, inBase}
 use Rattle.answers.specs.Ruling.{shareOf, levelOut}
 use Rattle.dates.specs.Dates.{leap, leapDay, daysTo, weekdayOf}
-use Rattle.calendar.specs.Holidays.{listed}
+use Rattle.holidays.specs.Holidays.{listed}
 use Rattle.calendar.specs.Free.{christmas, free, candidate, bridge}
 use Rattle.readings.specs.Legal.{highestOf}
 use Rattle.sheet.specs.Windows.{flatOf}

@@ -16,7 +16,7 @@ use Rattle.over.proofs.Tables.{getD-table}
 use Rattle.answers.specs.Ruling.{capacityMost, customerMost, yearOut, levelOut, shareOf}
 use Rattle.answers.specs.Said.{Said, only}
 use Rattle.dates.specs.Dates.{leap, leapDay, daysTo, monthOf, seasonOf, weekdayOf, mostDays}
-use Rattle.calendar.specs.Holidays.{listed, badHolidays}
+use Rattle.holidays.specs.Holidays.{listed, badHolidays}
 use Rattle.calendar.specs.Free.{christmas, free, candidate, bridge, kindBy, carries, windowDays}
 use Rattle.readings.specs.Runs.{runDays, dayLen, quarterOf}
 use Rattle.readings.proofs.Runs.{len-is, year-run}

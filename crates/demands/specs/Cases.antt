@@ -8,7 +8,7 @@ use lib.ListN.{replicate}
 use Rattle.answers.specs.Ruling.{dayQuarters}
 use Rattle.answers.specs.Said.{Said}
 use Rattle.dates.specs.Dates.{dayOf, weekdayOf, saturday}
-use Rattle.calendar.specs.Holidays.{listed}
+use Rattle.holidays.specs.Holidays.{listed}
 use Rattle.calendar.specs.Free.{bridge}
 use Rattle.sheet.specs.Bytes.{sheetBytes}
 use Rattle.windows.specs.Chosen.{aboveLine, keptOf}

@@ -15,7 +15,7 @@ use Rattle.over.proofs.Tables.{table-cong}
 use Rattle.answers.specs.Ruling.{holidaysMost, capacityOut, energyOut}
 use Rattle.packed.specs.Bytes.{twoAt, fourAt}
 use Rattle.packed.proofs.Bytes.{two-same, four-same}
-use Rattle.calendar.specs.Holidays.{before, unfit, badEntry}
+use Rattle.holidays.specs.Holidays.{before, unfit, badEntry}
 use Rattle.sheet.specs.Windows.{tooMany}
 use Rattle.sheet.specs.Bytes.{mark, yearAt, sheetSize, seasonBytes}
 use Rattle.sheet.proofs.Bytes.{set-same}

@@ -15,8 +15,8 @@ use Rattle.answers.specs.Ruling.{yearOut, levelOut, capacityOut, energyOut}
 use Rattle.answers.specs.Said.{only}
 use Rattle.packed.specs.Bytes.{twoAt, versionOut}
 use Rattle.packed.proofs.Bytes.{two-same, unlike-same}
-use Rattle.calendar.specs.Holidays.{badEntry, badHolidays}
-use Rattle.calendar.proofs.Lists.{bad-none}
+use Rattle.holidays.specs.Holidays.{badEntry, badHolidays}
+use Rattle.holidays.proofs.Lists.{bad-none}
 use Rattle.sheet.specs.Rows.{Formed}
 use Rattle.sheet.specs.Windows.{seasons, setIn, tooMany, tooFull}
 use Rattle.sheet.specs.Bytes.{mark, versionAt, yearAt, levelAt, windowsAt, sheetSize, windowsIn, sheetIn, unmarked, seasonBytes, setFrom}

@@ -12,7 +12,7 @@ use borrow.Author.Tests.{eq-eqb, ne-eqb}
 use lib.ListN.{length}
 use Rattle.over.proofs.Bools.{clash}
 use Rattle.answers.specs.Said.{Said, only}
-use Rattle.calendar.proofs.Lists.{bad-at}
+use Rattle.holidays.proofs.Lists.{bad-at}
 use Rattle.sheet.specs.Windows.{seasons}
 use Rattle.sheet.specs.Bytes.{windowsIn, sheetIn}
 use Rattle.sheet.specs.Answers.{readAnswer}

@@ -4,7 +4,7 @@ use mathlib.Core.Path.{_≡_, sym, ap, _∙_}
 use mathlib.Core.Bool.{false}
 use borrow.Author.Needs.{needs}
 use Rattle.answers.specs.Ruling.{yearOut}
-use Rattle.calendar.specs.Holidays.{badHolidays}
+use Rattle.holidays.specs.Holidays.{badHolidays}
 use Rattle.calendar.specs.Free.{isWindows}
 use Rattle.calendar.specs.Answer.{dayOut}
 use Rattle.calendar.proofs.Marked.{by-marks}

@@ -5,7 +5,7 @@ use mathlib.Core.Bool.{Bool}
 use native.Mathlib.Omega.{arith}
 use borrow.Author.Needs.{needs}
 use Rattle.over.specs.Over.{counted}
-use Rattle.calendar.specs.Holidays.{unfit}
+use Rattle.holidays.specs.Holidays.{unfit}
 use Rattle.customer_file.proofs.CustomerLayout.{holiday-is}
 use Rattle.customer_file.proofs.head.holiday_no.Statement.{statement}
 use Rattle.customer_file.proofs.head.holiday_no.Tie as tie

@@ -1,8 +1,8 @@
--- `calendar::unfit` meets its contract: the code's two orders are the definition's.
+-- `holidays::unfit` meets its contract: the code's two orders are the definition's.
 -- Assumes nothing.
 use borrow.Author.Needs.{needs}
-use Rattle.calendar.proofs.unfit.Statement.{statement}
-use Rattle.calendar.proofs.unfit.Tie as tie
+use Rattle.holidays.proofs.unfit.Statement.{statement}
+use Rattle.holidays.proofs.unfit.Tie as tie
 
 pub unfit-spec : {M : Type 1} → statement M
 unfit-spec =

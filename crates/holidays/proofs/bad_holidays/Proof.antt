@@ -1,15 +1,15 @@
--- `calendar::bad_holidays` meets its contract. The loop's invariant: no entry so far breaks its rule, and `last` is the entry before.
+-- `holidays::bad_holidays` meets its contract. The loop's invariant: no entry so far breaks its rule, and `last` is the entry before.
 -- Assumes nothing.
 use mathlib.Core.Path.{_≡_, refl, sym, _∙_}
 use Prim.Native.Nat.{_≤_, _-_}
 use native.Mathlib.Omega.{arith}
 use borrow.Author.Needs.{needs}
 use lib.ListN.{length}
-use Rattle.calendar.specs.Holidays.{before, badEntry}
 use Rattle.over.proofs.Tests.{Passed, passed-none, passed-more}
-use Rattle.calendar.proofs.Lists.{before-next, entry, bad-long, bad-at, bad-none}
-use Rattle.calendar.proofs.bad_holidays.Statement.{statement}
-use Rattle.calendar.proofs.bad_holidays.Tie as tie
+use Rattle.holidays.specs.Holidays.{before, badEntry}
+use Rattle.holidays.proofs.Lists.{before-next, entry, bad-long, bad-at, bad-none}
+use Rattle.holidays.proofs.bad_holidays.Statement.{statement}
+use Rattle.holidays.proofs.bad_holidays.Tie as tie
 
 abbrev Inv-loop : tie.InvT-loop
 Inv-loop year holidays last₀ k₀ k-end last k = (k ≤ length holidays) × (last ≡ before holidays k) × Passed (badEntry year holidays) k

@@ -15,7 +15,7 @@ use Rattle.over.proofs.Bools.{neither}
 use Rattle.over.proofs.Tests.{Passed, any-at, any-fails, all-passed}
 use Rattle.answers.specs.Ruling.{holidaysMost}
 use Rattle.dates.specs.Dates.{yearDays}
-use Rattle.calendar.specs.Holidays.{before, unfit, badEntry, badHolidays, LegalHolidays}
+use Rattle.holidays.specs.Holidays.{before, unfit, badEntry, badHolidays, LegalHolidays}
 
 -- the entry before the next one is this one
 pub before-next : (hs : List ℕ) (k : ℕ) → getD hs k 0 ≡ before hs (k + 1)
