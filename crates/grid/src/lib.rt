@@ -104,8 +104,8 @@ fn finish(year: u16, level: u8, curves: &[u32; 384], peak: u32, out: &mut [u8]) 
     if peak == 0 {
         return GridAnswer::NoPeak;
     }
-    let windows = sheet::flat(windows::chosen(peak, curves));
-    told(sheet::write(
+    let windows = quarters::flat(windows::chosen(peak, curves));
+    told(sheet_write::write(
         Sheet {
             year,
             level,

@@ -93,7 +93,7 @@ module _ (s : Sheet) where
       → eqb n 0 ≡ false
       → (only n ≡ writeAnswer s (length out)) × (out ≡ written s out)
   unfolding written
-  write-refused out e z = refusal-keeps _ (sheetBytes s ++ drop sheetSize out) out e z
+  write-refused out e z = refusal-keeps _ _ out e z
 
   pub write-taken :
       (out next : List ℕ)

@@ -15,7 +15,7 @@ use Rattle.over.specs.Over.{bit, inBase, digitOf, table}
 use Rattle.over.proofs.Bools.{bit-le}
 use Rattle.over.proofs.Tests.{count-cong}
 use Rattle.over.proofs.Tables.{length-table, getD-table}
-use Rattle.over.proofs.Digits.{base-more, base-cong, base-lt, base-digit, base-back}
+use Rattle.over.proofs.Digits.{base-cong, base-lt, base-digit, base-back}
 use Rattle.answers.specs.Ruling.{dayQuarters}
 use Rattle.packed.specs.Bytes.{formatVersion}
 use Rattle.sheet.specs.Windows.{seasons, places, placeOf, setIn, tooFull}
@@ -69,16 +69,10 @@ module _ (w : List Bool) (k : ℕ) where
       let p : 2 ^ n ≤ 2 ^ 8 = pow-mono h in
       omega (arith, base-lt 2 (omega arith) quarter n (digits n))
 
-  -- a turn of the loop that packs
-  pub packs : (n : ℕ) {v b : ℕ} → n < 8 → v ≡ inBase 2 quarter n → b ≡ quarter n → (n + 1 ≤ 8) × (2 * v + b < 256) × (2 * v + b ≡ inBase 2 quarter (n + 1))
-  packs n {v} {b} h e f =
-      let r : 2 * v + b ≡ inBase 2 quarter (n + 1) = rw (base-more, e, f) in
-      (omega arith, omega (arith, byte-lt (n + 1) (omega arith)), r)
-
   -- the quarters of a byte, back from its bits
   pub byte-bit : (j : ℕ) → j < 8 → bitOf (windowByte w k) j ≡ getD w (8 * k + j) false
   unfolding windowByte
-  byte-bit j h = rw (base-digit 2 (omega arith) quarter 8 j h (digits 8)) (bit-digit (getD w (8 * k + j) false))
+  byte-bit j h = ap (λ (d : ℕ). eqb d 1) (base-digit 2 (omega arith) quarter 8 j h (digits 8)) ∙ bit-digit (getD w (8 * k + j) false)
 
 -- a byte is its bits
 pub bits-byte : (x : ℕ) → x < 256 → inBase 2 (λ j. bit (bitOf x j)) 8 ≡ x

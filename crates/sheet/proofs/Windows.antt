@@ -6,7 +6,7 @@ use mathlib.Core.Logic.{_↔_}
 use mathlib.Core.List.{List, []}
 use Prim.Native.Nat.{ℕ, _+_, _-_, _/_, _%_, _≤_, _<_}
 use native.Mathlib.Omega.{arith}
-use borrow.Author.Tests.{lt-ltb, le-ltb, le-leb, lt-leb, ltb-false}
+use borrow.Author.Tests.{lt-ltb, le-ltb, le-leb, ltb-false}
 use lib.Dec.{ltb}
 use lib.ListN.{length, getD}
 use Rattle.over.specs.Limits.{Within}
@@ -16,23 +16,10 @@ use Rattle.over.proofs.Tables.{length-table, getD-table}
 use Rattle.answers.specs.Ruling.{dayQuarters, windowsMost}
 use Rattle.sheet.specs.Windows.{seasons, places, placeOf, isSet, setIn, tooMany, tooFull, Roomy, flatOf}
 
--- is a quarter set: the code's cases
-module _ (w : List Bool) (s q : ℕ) where
-  pub set-early : s < 1 → false ≡ isSet w s q
-  unfolding isSet
-  set-early h = simp (lt-leb 1 s h)
-
-  pub set-late : 1 ≤ s → seasons < s → false ≡ isSet w s q
-  unfolding isSet
-  set-late h l = simp (le-leb 1 s h, lt-leb s seasons l)
-
-  pub set-past : Within 1 seasons s → dayQuarters ≤ q → false ≡ isSet w s q
-  unfolding isSet
-  set-past h l = simp (le-leb 1 s (h .from), le-leb s seasons (h .to), le-ltb q dayQuarters l)
-
-  pub set-at : Within 1 seasons s → q < dayQuarters → getD w (placeOf s q) false ≡ isSet w s q
-  unfolding isSet
-  set-at h l = simp (le-leb 1 s (h .from), le-leb s seasons (h .to), lt-ltb q dayQuarters l)
+-- is a quarter inside the seasons and the day set
+pub set-at : (w : List Bool) (s q : ℕ) → Within 1 seasons s → q < dayQuarters → getD w (placeOf s q) false ≡ isSet w s q
+unfolding isSet
+set-at w s q h l = simp (le-leb 1 s (h .from), le-leb s seasons (h .to), lt-ltb q dayQuarters l)
 
 -- a season is too full exactly when not every one has room
 full-at : (w : List Bool) → tooFull w ≡ false → (k : ℕ) → k < seasons → setIn w (k + 1) ≤ windowsMost

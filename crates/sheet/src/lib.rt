@@ -1,13 +1,11 @@
-// The window sheet of document 01: 56 bytes, read and written.
+// The window sheet of document 01: 56 bytes and their meaning; reading them.
 // Main theorem: what is written reads back as the same meaning, and what is read is written back as the same bytes.
 ghost use mathlib.Core.Path.{_≡_};
-ghost use Prim.Native.Nat.{_+_, _-_, _≤_, _<_};
-ghost use mathlib.Core.List.{_++_};
-ghost use lib.ListN.{length, drop};
-ghost use Rattle.over.specs.Limits.{Within};
-ghost use Rattle.sheet.specs.Windows.{seasons, isSet, setIn, tooFull, flatOf};
-ghost use Rattle.sheet.specs.Bytes.{windowBytes, sheetSize, windowByte, byteAt, bytesOf, bitOf, windowsIn, seasonFull};
-ghost use Rattle.sheet.specs.Answers.{saidOfSheet, shownOf, readOf, refusal, writeAnswer, written};
+ghost use Prim.Native.Nat.{_<_};
+ghost use lib.ListN.{length};
+ghost use Rattle.sheet.specs.Windows.{tooFull};
+ghost use Rattle.sheet.specs.Bytes.{sheetSize, bitOf, windowsIn, seasonFull};
+ghost use Rattle.sheet.specs.Answers.{shownOf, readOf, refusal};
 
 // Bytes of a sheet; where its version, year, level and the windows of its seasons begin.
 pub const SHEET_SIZE: usize = 56;
@@ -18,7 +16,7 @@ const YEAR_AT: usize = 5;
 
 const LEVEL_AT: usize = 7;
 
-const WINDOWS_AT: usize = 8;
+pub const WINDOWS_AT: usize = 8;
 
 const SEASONS_AT: [usize; 4] = [8, 20, 32, 44];
 
@@ -45,119 +43,6 @@ pub enum SheetAnswer {
 pub struct Reading {
     pub answer: SheetAnswer,
     pub sheet: Sheet,
-}
-
-// Is quarter `quarter` (from 0) of season `season` (from 1) set? False outside both.
-pub fn is_set(windows: &[bool; PLACES], season: u8, quarter: usize) -> bool
-    ensures { λ r. ⌜ r ≡ isSet (now (windows .entry)) season quarter ⌝ }
-{
-    if season < 1 {
-        return false;
-    }
-    if 4 < season {
-        return false;
-    }
-    if answers::DAY_QUARTERS <= quarter {
-        return false;
-    }
-    windows[answers::DAY_QUARTERS * (season as usize - 1) + quarter]
-}
-
-// How many quarters of a season, from 1, are set.
-fn set_in(windows: &[bool; PLACES], season: usize) -> usize
-    requires { ⌜ Within 1 seasons season ⌝ }
-    ensures { λ r. ⌜ r ≡ setIn (now (windows .entry)) season ⌝ }
-{
-    let mut n: usize = 0;
-    for q in 0..answers::DAY_QUARTERS {
-        n += answers::one_if(windows[answers::DAY_QUARTERS * (season - 1) + q]);
-    }
-    n
-}
-
-// Does some season have more than 40?
-fn too_full(windows: &[bool; PLACES]) -> bool
-    ensures { λ r. ⌜ r ≡ tooFull (now (windows .entry)) ⌝ }
-{
-    (answers::WINDOWS_MOST < set_in(windows, 1))
-        | (answers::WINDOWS_MOST < set_in(windows, 2))
-        | (answers::WINDOWS_MOST < set_in(windows, 3))
-        | (answers::WINDOWS_MOST < set_in(windows, 4))
-}
-
-// The chosen quarters of four seasons, laid one after the other.
-pub fn flat(chosen: [[bool; 96]; 4]) -> [bool; PLACES]
-    ensures { λ r. ⌜ r ≡ flatOf chosen ⌝ }
-{
-    let mut out = [false; PLACES];
-    for p in 0..PLACES {
-        out[p] = chosen[p / 96][p % 96];
-    }
-    out
-}
-
-// Byte k of the windows: eight quarters, the earliest at the top.
-fn pack(windows: &[bool; PLACES], k: usize) -> u8
-    requires { ⌜ k < windowBytes ⌝ }
-    ensures { λ r. ⌜ r ≡ windowByte (now (windows .entry)) k ⌝ }
-{
-    let mut byte: usize = 0;
-    for j in 0..8 {
-        byte = 2 * byte + answers::one_if(windows[8 * k + j]);
-    }
-    byte as u8
-}
-
-// Byte i of a sheet with this head.
-fn byte_at(head: &[u8; 8], windows: &[bool; PLACES], i: usize) -> u8
-    requires { ⌜ i < sheetSize ⌝ }
-    ensures { λ r. ⌜ r ≡ byteAt (now (head .entry)) (now (windows .entry)) i ⌝ }
-{
-    if i < WINDOWS_AT {
-        return head[i];
-    }
-    pack(windows, i - WINDOWS_AT)
-}
-
-// Fills the first 56 bytes of a buffer that has them; all further bytes stay.
-fn fill(year: u16, level: u8, windows: &[bool; PLACES], out: &mut [u8])
-    requires { ⌜ sheetSize ≤ length (now out) ⌝ }
-    ensures { λ r. ⌜ now (out .exit) ≡ bytesOf year level (now (windows .entry)) ++ drop sheetSize (now (out .entry)) ⌝ }
-{
-    let head = [
-        b'H',
-        b'L',
-        b'Z',
-        0,
-        1,
-        (year / 256) as u8,
-        (year % 256) as u8,
-        level,
-    ];
-    for i in 0..SHEET_SIZE {
-        out[i] = byte_at(&head, windows, i);
-    }
-}
-
-// Writes a sheet into a lent buffer. Refuses 14, 1, 2, 12 in this order, and then changes no byte.
-pub fn write(sheet: Sheet, out: &mut [u8]) -> SheetAnswer
-    ensures { λ r. ⌜ (saidOfSheet r ≡ writeAnswer sheet (length (now (out .entry)))) × (now (out .exit) ≡ written sheet (now (out .entry))) ⌝ }
-{
-    let windows = sheet.windows;
-    if out.len() < SHEET_SIZE {
-        return SheetAnswer::Short;
-    }
-    if answers::year_out(sheet.year) {
-        return SheetAnswer::YearOut;
-    }
-    if answers::level_out(sheet.level) {
-        return SheetAnswer::LevelOut;
-    }
-    if too_full(&windows) {
-        return SheetAnswer::Malformed;
-    }
-    fill(sheet.year, sheet.level, &windows, out);
-    SheetAnswer::Accepted
 }
 
 // Bit j of a byte, from the top.

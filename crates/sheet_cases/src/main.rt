@@ -86,9 +86,9 @@ fn one_writing() {
     let year = next_two();
     let level = next_byte();
     let room = within_room(next_byte());
-    let windows = sheet::flat(next_chosen(next_two()));
+    let windows = quarters::flat(next_chosen(next_two()));
     let mut buffer = [170u8; ROOM];
-    let answer = sheet::write(
+    let answer = sheet_write::write(
         Sheet {
             year,
             level,
@@ -104,7 +104,7 @@ fn one_writing() {
 }
 
 fn write_if_set(windows: &[bool; 384], season: u8, quarter: usize) {
-    if sheet::is_set(windows, season, quarter) {
+    if quarters::is_set(windows, season, quarter) {
         write_text(b" ");
         write_number(season as u64);
         write_text(b":");

@@ -58,14 +58,14 @@ fn add_line(buf: &mut [u8], at: usize, season: u8, from: usize, to: usize) -> us
 fn is_clear(windows: &[bool; sheet::PLACES], season: u8, q: usize) -> bool
     ensures { λ r. ⌜ r ≡ not (isSet (now (windows .entry)) season q) ⌝ }
 {
-    !sheet::is_set(windows, season, q)
+    !quarters::is_set(windows, season, q)
 }
 
 // Does a run begin at quarter q?
 fn begins(windows: &[bool; sheet::PLACES], season: u8, q: usize) -> bool
     ensures { λ r. ⌜ r ≡ beginsAt (isSet (now (windows .entry)) season) q ⌝ }
 {
-    let here = sheet::is_set(windows, season, q);
+    let here = quarters::is_set(windows, season, q);
     if q == 0 {
         return here;
     }
@@ -121,7 +121,7 @@ fn any_set(windows: &[bool; sheet::PLACES], season: u8) -> bool
 {
     let mut any = false;
     for q in 0..answers::DAY_QUARTERS {
-        any = any | sheet::is_set(windows, season, q);
+        any = any | quarters::is_set(windows, season, q);
     }
     any
 }

@@ -1,9 +1,9 @@
--- `sheet::byte_at` meets its contract: the code's test is the definition's.
+-- `sheet_write::byte_at` meets its contract: the code's test is the definition's.
 -- Assumes nothing.
 use borrow.Author.Tests.{lt-ltb, le-ltb}
 use borrow.Author.Needs.{needs}
-use Rattle.sheet.proofs.byte_at.Statement.{statement}
-use Rattle.sheet.proofs.byte_at.Tie as tie
+use Rattle.sheet_write.proofs.byte_at.Statement.{statement}
+use Rattle.sheet_write.proofs.byte_at.Tie as tie
 
 pub byte-at-spec : {M : Type 1} → statement M
 byte-at-spec =

@@ -1,14 +1,14 @@
--- `sheet::fill` meets its contract. The loop's invariant: the first i bytes are written, and all further ones stay.
+-- `sheet_write::fill` meets its contract. The loop's invariant: the first i bytes are written, and all further ones stay.
 -- Assumes nothing.
 use mathlib.Core.Path.{_∙_}
 use Prim.Native.Nat.{_-_}
 use native.Mathlib.Omega.{arith}
 use borrow.Author.Needs.{needs}
 use Rattle.sheet.specs.Bytes.{sheetSize, bytesOf}
 use Rattle.over.proofs.Buffers.{Copied, copied-none, copied-more, copied-all}
 use Rattle.sheet.proofs.Bytes.{length-bytes, byte-at}
-use Rattle.sheet.proofs.fill.Statement.{statement}
-use Rattle.sheet.proofs.fill.Tie as tie
+use Rattle.sheet_write.proofs.fill.Statement.{statement}
+use Rattle.sheet_write.proofs.fill.Tie as tie
 
 abbrev Inv-loop : tie.InvT-loop
 Inv-loop year level windows out₀ head i₀ out i = Copied (bytesOf year level windows) out₀ i out

@@ -1,9 +1,9 @@
--- `sheet::too_full` meets its contract: four seasons are counted.
+-- `sheet_write::too_full` meets its contract: four seasons are counted.
 -- Assumes nothing.
 use borrow.Author.Needs.{needs}
 use Rattle.sheet.proofs.Windows.{too-full}
-use Rattle.sheet.proofs.too_full.Statement.{statement}
-use Rattle.sheet.proofs.too_full.Tie as tie
+use Rattle.sheet_write.proofs.too_full.Statement.{statement}
+use Rattle.sheet_write.proofs.too_full.Tie as tie
 
 returns : tie.Need-returns
 returns c = too-full _ _ _ _ _ (c .before .before .before .set-in .ensures) (c .before .before .set-in2 .ensures) (c .before .set-in3 .ensures) (c .set-in4 .ensures)

@@ -1,4 +1,4 @@
--- `sheet::flat` meets its contract. The loop's invariant: the first p places are filled in.
+-- `quarters::flat` meets its contract. The loop's invariant: the first p places are filled in.
 -- Assumes nothing.
 use mathlib.Core.Path.{refl}
 use mathlib.Core.Bool.{false}
@@ -8,10 +8,10 @@ use native.Mathlib.Omega.{arith}
 use borrow.Author.Needs.{needs}
 use lib.ListN.{getD}
 use Rattle.answers.specs.Ruling.{dayQuarters}
 use Rattle.sheet.specs.Windows.{places, flatOf}
 use Rattle.over.proofs.Tables.{Filled, filled-none, filled-more, filled-all}
-use Rattle.sheet.proofs.flat.Statement.{statement}
-use Rattle.sheet.proofs.flat.Tie as tie
+use Rattle.quarters.proofs.flat.Statement.{statement}
+use Rattle.quarters.proofs.flat.Tie as tie
 
 abbrev Inv-loop : tie.InvT-loop
 Inv-loop chosen out₀ p₀ out p = Filled (λ (k : ℕ). getD (getD chosen (k / dayQuarters) []) (k % dayQuarters) false) places false p out

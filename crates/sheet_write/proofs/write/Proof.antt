@@ -1,13 +1,13 @@
--- `sheet::write` meets its contract, a law for each return; a refusal leaves the buffer as it was.
+-- `sheet_write::write` meets its contract, a law for each return; a refusal leaves the buffer as it was.
 -- Assumes nothing.
 use mathlib.Core.Path.{_≡_, refl, sym, _∙_}
 use mathlib.Core.Bool.{false}
 use native.Mathlib.Omega.{arith}
 use borrow.Author.Needs.{needs}
 use Rattle.answers.specs.Ruling.{yearOut, levelOut}
 use Rattle.sheet.proofs.Answered.{write-refused, write-taken, write-short, write-year, write-level, write-full, write-accepted}
-use Rattle.sheet.proofs.write.Statement.{statement}
-use Rattle.sheet.proofs.write.Tie as tie
+use Rattle.sheet_write.proofs.write.Statement.{statement}
+use Rattle.sheet_write.proofs.write.Tie as tie
 
 year-at : (e : tie.Else2) → yearOut (e .before .before .before .before .before .args .sheet .year) ≡ false
 year-at e = sym (e .before .year-out .ensures) ∙ e .if2 .left

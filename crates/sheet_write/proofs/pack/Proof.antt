@@ -1,21 +1,34 @@
--- `sheet::pack` meets its contract. The loop's invariant: the first j quarters are packed.
+-- `sheet_write::pack` meets its contract. The loop's invariant: the first j quarters are packed.
 -- Assumes nothing.
 use mathlib.Core.Path.{_≡_, sym}
-use Prim.Native.Nat.{_≤_, _<_, _-_}
+use mathlib.Core.Bool.{Bool}
+use mathlib.Core.List.{List}
+use Prim.Native.Nat.{ℕ, _+_, _-_, _*_, _≤_, _<_}
 use native.Mathlib.Omega.{arith}
 use borrow.Author.Needs.{needs}
 use Rattle.over.specs.Over.{inBase}
 use Rattle.sheet.specs.Bytes.{windowByte}
-use Rattle.over.proofs.Digits.{base-none}
-use Rattle.sheet.proofs.Bytes.{quarter, packs}
-use Rattle.sheet.proofs.pack.Statement.{statement}
-use Rattle.sheet.proofs.pack.Tie as tie
+use Rattle.over.proofs.Digits.{base-none, base-more}
+use Rattle.sheet.proofs.Bytes.{quarter, byte-lt}
+use Rattle.sheet_write.proofs.pack.Statement.{statement}
+use Rattle.sheet_write.proofs.pack.Tie as tie
 
 abbrev Inv-loop : tie.InvT-loop
 Inv-loop windows k byte₀ j₀ byte j = (j ≤ 8) × (byte < 256) × (byte ≡ inBase 2 (quarter windows k) j)
 
 abbrev μ-loop : tie.MeasureT-loop
 μ-loop windows k byte₀ j₀ byte j = 8 - j
+
+-- a turn of the loop
+packs :
+    (w : List Bool) (k n : ℕ) {v b : ℕ}
+    → n < 8
+    → v ≡ inBase 2 (quarter w k) n
+    → b ≡ quarter w k n
+    → (n + 1 ≤ 8) × (2 * v + b < 256) × (2 * v + b ≡ inBase 2 (quarter w k) (n + 1))
+packs w k n {v} {b} h e f =
+    let r : 2 * v + b ≡ inBase 2 (quarter w k) (n + 1) = rw (base-more, e, f) in
+    (omega arith, omega (arith, byte-lt w k (n + 1) (omega arith)), r)
 
 loop-again : tie.Need-loop-again Inv-loop μ-loop
 loop-again c = let a = c .before .before .before .before .args in packs (a .windows .now) (a .k) _ (omega arith) (c .before .before .before .loop .inv .2) (c .one-if .ensures .0)

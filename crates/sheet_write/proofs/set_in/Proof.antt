@@ -1,4 +1,4 @@
--- `sheet::set_in` meets its contract. The loop's invariant: n quarters of the first q are set.
+-- `sheet_write::set_in` meets its contract. The loop's invariant: n quarters of the first q are set.
 -- Assumes nothing.
 use mathlib.Core.Path.{_≡_, sym}
 use mathlib.Core.Bool.{false}
@@ -8,10 +8,10 @@ use borrow.Author.Needs.{needs}
 use lib.ListN.{getD}
 use Rattle.over.specs.Over.{countOver}
 use Rattle.answers.specs.Ruling.{dayQuarters}
 use Rattle.sheet.specs.Windows.{placeOf, setIn}
 use Rattle.over.proofs.Tests.{count-none, counted}
-use Rattle.sheet.proofs.set_in.Statement.{statement}
-use Rattle.sheet.proofs.set_in.Tie as tie
+use Rattle.sheet_write.proofs.set_in.Statement.{statement}
+use Rattle.sheet_write.proofs.set_in.Tie as tie
 
 abbrev Inv-loop : tie.InvT-loop
 Inv-loop windows season n₀ q₀ n q = (q ≤ dayQuarters) × (n ≤ q) × (n ≡ countOver (λ (k : ℕ). getD windows (placeOf season k) false) q)

@@ -1,0 +1,98 @@
+// Writing document 01's window sheet into a lent buffer. What its 56 bytes are, and that they read back as the same meaning, stands in
+// crate `sheet`.
+ghost use mathlib.Core.Path.{_≡_};
+ghost use Prim.Native.Nat.{_≤_, _<_};
+ghost use mathlib.Core.List.{_++_};
+ghost use lib.ListN.{length, drop};
+ghost use Rattle.over.specs.Limits.{Within};
+ghost use Rattle.sheet.specs.Windows.{seasons, setIn, tooFull};
+ghost use Rattle.sheet.specs.Bytes.{windowBytes, sheetSize, windowByte, byteAt, bytesOf};
+ghost use Rattle.sheet.specs.Answers.{saidOfSheet, writeAnswer, written};
+use sheet::Sheet;
+use sheet::SheetAnswer;
+
+// How many quarters of a season, from 1, are set.
+fn set_in(windows: &[bool; sheet::PLACES], season: usize) -> usize
+    requires { ⌜ Within 1 seasons season ⌝ }
+    ensures { λ r. ⌜ r ≡ setIn (now (windows .entry)) season ⌝ }
+{
+    let mut n: usize = 0;
+    for q in 0..answers::DAY_QUARTERS {
+        n += answers::one_if(windows[answers::DAY_QUARTERS * (season - 1) + q]);
+    }
+    n
+}
+
+// Does some season have more than 40?
+fn too_full(windows: &[bool; sheet::PLACES]) -> bool
+    ensures { λ r. ⌜ r ≡ tooFull (now (windows .entry)) ⌝ }
+{
+    (answers::WINDOWS_MOST < set_in(windows, 1))
+        | (answers::WINDOWS_MOST < set_in(windows, 2))
+        | (answers::WINDOWS_MOST < set_in(windows, 3))
+        | (answers::WINDOWS_MOST < set_in(windows, 4))
+}
+
+// Byte k of the windows: eight quarters, the earliest at the top.
+fn pack(windows: &[bool; sheet::PLACES], k: usize) -> u8
+    requires { ⌜ k < windowBytes ⌝ }
+    ensures { λ r. ⌜ r ≡ windowByte (now (windows .entry)) k ⌝ }
+{
+    let mut byte: usize = 0;
+    for j in 0..8 {
+        byte = 2 * byte + answers::one_if(windows[8 * k + j]);
+    }
+    byte as u8
+}
+
+// Byte i of a sheet with this head.
+fn byte_at(head: &[u8; 8], windows: &[bool; sheet::PLACES], i: usize) -> u8
+    requires { ⌜ i < sheetSize ⌝ }
+    ensures { λ r. ⌜ r ≡ byteAt (now (head .entry)) (now (windows .entry)) i ⌝ }
+{
+    if i < sheet::WINDOWS_AT {
+        return head[i];
+    }
+    pack(windows, i - sheet::WINDOWS_AT)
+}
+
+// Fills the first 56 bytes of a buffer that has them; all further bytes stay.
+fn fill(year: u16, level: u8, windows: &[bool; sheet::PLACES], out: &mut [u8])
+    requires { ⌜ sheetSize ≤ length (now out) ⌝ }
+    ensures { λ r. ⌜ now (out .exit) ≡ bytesOf year level (now (windows .entry)) ++ drop sheetSize (now (out .entry)) ⌝ }
+{
+    let head = [
+        b'H',
+        b'L',
+        b'Z',
+        0,
+        1,
+        (year / 256) as u8,
+        (year % 256) as u8,
+        level,
+    ];
+    for i in 0..sheet::SHEET_SIZE {
+        out[i] = byte_at(&head, windows, i);
+    }
+}
+
+// Writes a sheet into a lent buffer. Refuses 14, 1, 2, 12 in this order, and then changes no byte.
+pub fn write(sheet: Sheet, out: &mut [u8]) -> SheetAnswer
+    ensures { λ r. ⌜ (saidOfSheet r ≡ writeAnswer sheet (length (now (out .entry)))) × (now (out .exit) ≡ written sheet (now (out .entry))) ⌝ }
+{
+    let windows = sheet.windows;
+    if out.len() < sheet::SHEET_SIZE {
+        return SheetAnswer::Short;
+    }
+    if answers::year_out(sheet.year) {
+        return SheetAnswer::YearOut;
+    }
+    if answers::level_out(sheet.level) {
+        return SheetAnswer::LevelOut;
+    }
+    if too_full(&windows) {
+        return SheetAnswer::Malformed;
+    }
+    fill(sheet.year, sheet.level, &windows, out);
+    SheetAnswer::Accepted
+}
