@@ -89,7 +89,7 @@ fn plain_tops(day: &[u32]) -> Tops
     let mut low: u32 = 0;
     let mut top: u32 = 0;
     for p in 0..day.len() {
-        peak = readings::larger(peak, day[p]);
+        peak = legal::larger(peak, day[p]);
         low += low_half(day[p]);
         top += top_half(day[p]);
     }
@@ -107,10 +107,10 @@ fn window_tops(day: &[u32], windows: &[bool; sheet::PLACES], year: u16, d: u16, 
     let mut top: u32 = 0;
     let mut high = 0;
     for p in 0..day.len() {
-        peak = readings::larger(peak, day[p]);
+        peak = legal::larger(peak, day[p]);
         low += low_half(day[p]);
         top += top_half(day[p]);
-        high = readings::larger(high, if_in(is_in(windows, year, d, base, p), day[p]));
+        high = legal::larger(high, if_in(is_in(windows, year, d, base, p), day[p]));
     }
     let sum = wide(low) + 65536 * wide(top);
     Tops { peak, sum, high }
@@ -159,7 +159,7 @@ fn take_plain(f: Figures, t: Tops) -> Figures
     ensures { λ r. ⌜ r ≡ plainly f t ⌝ }
 {
     Figures {
-        peak: readings::larger(f.peak, t.peak),
+        peak: legal::larger(f.peak, t.peak),
         sum: f.sum + t.sum,
         any: f.any,
         high: f.high,

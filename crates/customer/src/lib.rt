@@ -142,7 +142,7 @@ fn whole_answer(terms: Terms, series: &[u32]) -> Decision
     }
     let figures = collect(terms, series);
     if CUSTOMER_MOST < figures.peak {
-        return Decision::BadReading(readings::first_illegal(run, series, CUSTOMER_MOST));
+        return Decision::BadReading(legal::first_illegal(run, series, CUSTOMER_MOST));
     }
     let list = terms.prices;
     tariff::judge(figures, terms.level, list, terms.option)
@@ -184,8 +184,8 @@ fn day_answer(year: u16, seen: u16, sum: u64, day: &[u32]) -> Decision
     if day.len() != readings::day_len(run, seen) {
         return Decision::WrongLength;
     }
-    if CUSTOMER_MOST < readings::highest(day) {
-        let position = readings::first_above(day, CUSTOMER_MOST) as u16;
+    if CUSTOMER_MOST < legal::highest(day) {
+        let position = legal::first_above(day, CUSTOMER_MOST) as u16;
         return Decision::BadReading(Place {
             day: seen + 1,
             position,

@@ -64,7 +64,7 @@ fn lay(curves: &mut [u32; 384], year: u16, d: u16, season: u8, day: &[u32])
     let base = answers::DAY_QUARTERS * (season as usize - 1);
     for p in 0..day.len() {
         let at = base + readings::quarter_of(Run { year, period: true }, d, p);
-        curves[at] = readings::larger(curves[at], day[p]);
+        curves[at] = legal::larger(curves[at], day[p]);
     }
 }
 
@@ -133,9 +133,9 @@ pub fn windows(year: u16, level: u8, series: &[u32], out: &mut [u8]) -> GridAnsw
         return GridAnswer::WrongLength;
     }
     let curves = collect(year, dates::period_days(year), series);
-    let peak = readings::highest(&curves);
+    let peak = legal::highest(&curves);
     if answers::GRID_MOST < peak {
-        return GridAnswer::BadReading(readings::first_illegal(run, series, answers::GRID_MOST));
+        return GridAnswer::BadReading(legal::first_illegal(run, series, answers::GRID_MOST));
     }
     finish(year, level, &curves, peak, out)
 }
@@ -212,8 +212,8 @@ impl Grid {
                 grid: self,
             };
         }
-        if answers::GRID_MOST < readings::highest(day) {
-            let position = readings::first_above(day, answers::GRID_MOST) as u16;
+        if answers::GRID_MOST < legal::highest(day) {
+            let position = legal::first_above(day, answers::GRID_MOST) as u16;
             return Stepped {
                 answer: GridAnswer::BadReading(Place {
                     day: seen + 1,
@@ -240,7 +240,7 @@ impl Grid {
         if self.seen != dates::period_days(self.year) {
             return GridAnswer::DayOut;
         }
-        let peak = readings::highest(&curves);
+        let peak = legal::highest(&curves);
         finish(self.year, self.level, &curves, peak, out)
     }
 }

@@ -16,7 +16,7 @@ use Rattle.dates.specs.Dates.{yearDays}
 use Rattle.readings.specs.declared.Run.{Run}
 use Rattle.readings.specs.Runs.{runDays}
 use Rattle.readings.specs.Legal.{badIn}
-use Rattle.readings.proofs.Runs.{start-none, days-year, year-run}
+use Rattle.readings.proofs.Runs.{start-none, days-most, year-run}
 use Rattle.readings.proofs.Legal.{bad-run}
 use Rattle.readings.proofs.Days.{series-legal}
 use Rattle.sheet.specs.Bytes.{sheetIn}
@@ -218,5 +218,5 @@ module _ (bytes : List ℕ) where
 pub statement-printed : (bytes : List ℕ) (turns : ℕ) → 423 ≤ turns → customerText (driven customerWants customerFed turns customerStart bytes) ≡ statementPrinted bytes
 statement-printed bytes turns t =
     ap (λ (s : CustomerFile). customerText (driven customerWants customerFed turns s bytes)) (starts bytes)
-    ∙ file-driven (file bytes) turns (omega (arith, count-is bytes, count-few bytes, days-year (run bytes) refl refl))
+    ∙ file-driven (file bytes) turns (omega (arith, count-is bytes, count-few bytes, days-most (run bytes)))
     ∙ ap statementLine (answer-is bytes)

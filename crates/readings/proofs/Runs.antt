@@ -1,7 +1,7 @@
 -- Laws of a run's layout: all that other proofs know of it. The sums follow from `dayLen`, so they stay where it moves.
 -- Assumes nothing.
 use mathlib.Core.Path.{_≡_, refl, sym, ap, _∙_}
-use mathlib.Core.Bool.{true, false}
+use mathlib.Core.Bool.{Bool, true, false, cond}
 use Prim.Native.Nat.{ℕ, zero, suc, _+_, _*_, _≤_, _<_}
 use native.Mathlib.Nat.{not-suc-le-zero}
 use native.Mathlib.Decide.{decLt}
@@ -37,13 +37,22 @@ pub quarter-is : (run : Run) (d p : ℕ) → p ≡ quarterOf run d p
 unfolding quarterOf
 quarter-is run d p = refl
 
-pub days-period : (run : Run) {n : ℕ} → run .period ≡ true → n ≡ periodDays (run .year) → (n ≡ runDays run) × (n ≤ mostDays)
+pub days-period : (run : Run) {n : ℕ} → run .period ≡ true → n ≡ periodDays (run .year) → n ≡ runDays run
 unfolding runDays
-days-period run {n} e f = (f ∙ rw e, omega (arith, period-most (run .year)))
+days-period run e f = f ∙ rw e
 
-pub days-year : (run : Run) {n : ℕ} → run .period ≡ false → n ≡ yearDays (run .year) → (n ≡ runDays run) × (n ≤ mostDays)
+pub days-year : (run : Run) {n : ℕ} → run .period ≡ false → n ≡ yearDays (run .year) → n ≡ runDays run
 unfolding runDays
-days-year run {n} e f = (f ∙ rw e, omega (arith, leap-small (run .year)))
+days-year run e f = f ∙ rw e
+
+-- no run has more days than the longest year
+pub days-most : (run : Run) → runDays run ≤ mostDays
+unfolding runDays
+days-most run = go (run .period)
+  where
+    go : (b : Bool) → cond b (periodDays (run .year)) (yearDays (run .year)) ≤ mostDays
+    go true = omega (arith, period-most (run .year))
+    go false = omega (arith, leap-small (run .year))
 
 module _ (run : Run) where
   pub start-none : dayStart run 0 ≡ 0

@@ -1,13 +1,8 @@
-// Readings of document 01: a lent series by days, the part that is one day, and the first illegal reading.
-// Main theorem: the first illegal reading is found by day and then by position, in any series, and nothing is read past its end.
+// Readings of document 01: a lent series by days, and the part that is one day.
+// Main theorem: a series says the same whole and day by day (`Machine`, `all-taken`, `same-bad`, proofs/Machines).
 ghost use mathlib.Core.Path.{_≡_};
-ghost use Prim.Native.Nat.{_≤_, max};
-ghost use lib.ListN.{getD};
-ghost use Rattle.dates.specs.Dates.{mostDays};
 ghost use Rattle.readings.specs.Runs.{runDays, dayLen, quarterOf, runReadings};
-ghost use Rattle.readings.specs.Legal.{highestOf, firstAbove, firstIllegal};
 ghost use Rattle.readings.specs.Part.{dayPart};
-use answers::Place;
 
 // The days whose readings a series holds: those of a charge year, or of its reference period.
 pub struct Run {
@@ -15,8 +10,9 @@ pub struct Run {
     pub period: bool,
 }
 
-fn run_days(run: Run) -> u16
-    ensures { λ r. ⌜ (r ≡ runDays run) × (r ≤ mostDays) ⌝ }
+// How many days a run has.
+pub fn run_days(run: Run) -> u16
+    ensures { λ r. ⌜ r ≡ runDays run ⌝ }
 {
     if run.period {
         return dates::period_days(run.year);
@@ -58,63 +54,4 @@ pub fn day_part(series: &[u32], day: usize) -> &[u32]
     let end = answers::DAY_QUARTERS * day;
     let at = end - answers::DAY_QUARTERS;
     &series[at..end]
-}
-
-// The larger of two readings.
-pub fn larger(a: u32, b: u32) -> u32
-    ensures { λ r. ⌜ r ≡ max a b ⌝ }
-{
-    if a < b { b } else { a }
-}
-
-// The highest of some readings, and 0 of none.
-pub fn highest(readings: &[u32]) -> u32
-    ensures { λ r. ⌜ r ≡ highestOf (now (readings .entry)) ⌝ }
-{
-    let mut top = 0;
-    for i in 0..readings.len() {
-        top = larger(top, readings[i]);
-    }
-    top
-}
-
-// The place of the first reading above a limit, or how many readings there are.
-pub fn first_above(readings: &[u32], limit: u32) -> usize
-    ensures { λ r. ⌜ r ≡ firstAbove limit (now (readings .entry)) ⌝ }
-{
-    for i in 0..readings.len() {
-        if limit < readings[i] {
-            return i;
-        }
-    }
-    readings.len()
-}
-
-// A reading of a series, and 0 past its end.
-fn reading_at(series: &[u32], i: usize) -> u32
-    ensures { λ r. ⌜ r ≡ getD (now (series .entry)) i 0 ⌝ }
-{
-    if i < series.len() { series[i] } else { 0 }
-}
-
-// The first reading of a run above a limit, by day and then by position.
-pub fn first_illegal(run: Run, series: &[u32], limit: u32) -> Place
-    ensures { λ r. ⌜ r ≡ firstIllegal run limit (now (series .entry)) ⌝ }
-{
-    let days = run_days(run);
-    let mut day = 0;
-    let mut position = 0;
-    let mut start: usize = 0;
-    'search: for d in 0..days {
-        let len = day_len(run, d);
-        for p in 0..len {
-            if limit < reading_at(series, start + p) {
-                day = d + 1;
-                position = p as u16;
-                break 'search;
-            }
-        }
-        start += len;
-    }
-    Place { day, position }
 }

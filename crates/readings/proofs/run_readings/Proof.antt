@@ -12,4 +12,4 @@ run-readings-spec =
     (λ c κs. search needs)  -- run-days-requires
     (λ c. search needs)  -- cast-result
     (λ c. search needs)  -- mul-result
-    (λ c. readings-formula _ _ (c .run-days .ensures .0)))
+    (λ c. readings-formula _ _ (c .run-days .ensures)))

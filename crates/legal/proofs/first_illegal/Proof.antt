@@ -1,14 +1,14 @@
--- `readings::first_illegal` meets its contract. The invariants: no day before d, and no position before p of day d, has an illegal reading.
+-- `legal::first_illegal` meets its contract. The invariants: no day before d, and no position before p of day d, has an illegal reading.
 -- Assumes nothing.
 use mathlib.Core.Path.{refl, sym}
 use Prim.Native.Nat.{_-_, _+_}
 use native.Mathlib.Omega.{arith}
 use borrow.Author.Needs.{needs}
 use Rattle.over.proofs.Tests.{passed-none}
-use Rattle.readings.proofs.Runs.{start-none, start-more, len-most}
+use Rattle.readings.proofs.Runs.{days-most, start-none, start-more, len-most}
 use Rattle.readings.proofs.Legal.{Searching, InDay, legal-more, day-legal, illegal-none, illegal-found}
-use Rattle.readings.proofs.first_illegal.Statement.{statement}
-use Rattle.readings.proofs.first_illegal.Tie as tie
+use Rattle.legal.proofs.first_illegal.Statement.{statement}
+use Rattle.legal.proofs.first_illegal.Tie as tie
 
 abbrev Inv-loop : tie.InvT-loop
 Inv-loop run series limit days day₀ position₀ start d len p₀ day position p = InDay run limit series days day position start d len p
@@ -26,8 +26,8 @@ search-holds : tie.Need-search-holds Inv-loop μ-loop Inv-search μ-search
 search-holds c =
     record {
       some = omega arith;
-      all = c .run-days .ensures .0;
-      few = c .run-days .ensures .1;
+      all = c .run-days .ensures;
+      few = omega (arith, days-most (c .before .before .args .run));
       no-day = refl;
       no-position = refl;
       from = sym (start-none _);

@@ -1,4 +1,4 @@
--- `readings::highest` meets its contract. The loop's invariant: `top` is the highest of the first i readings.
+-- `legal::highest` meets its contract. The loop's invariant: `top` is the highest of the first i readings.
 -- Assumes nothing.
 use mathlib.Core.Path.{_≡_, sym}
 use Prim.Native.Nat.{ℕ, _≤_, _-_}
@@ -6,10 +6,10 @@ use native.Mathlib.Omega.{arith}
 use borrow.Author.Needs.{needs}
 use lib.ListN.{length, getD}
 use Rattle.over.specs.Over.{largestOver}
 use Rattle.readings.specs.Legal.{highestOf}
 use Rattle.over.proofs.Largest.{largest-none, largest-more}
-use Rattle.readings.proofs.highest.Statement.{statement}
-use Rattle.readings.proofs.highest.Tie as tie
+use Rattle.legal.proofs.highest.Statement.{statement}
+use Rattle.legal.proofs.highest.Tie as tie
 
 abbrev Inv-loop : tie.InvT-loop
 Inv-loop readings top₀ i₀ i-end top i = (i ≤ length readings) × (top ≡ largestOver (λ (k : ℕ). getD readings k 0) i)

@@ -1,11 +1,11 @@
--- `readings::reading_at` meets its contract: past the end nothing is read.
+-- `legal::reading_at` meets its contract: past the end nothing is read.
 -- Assumes nothing.
 use mathlib.Core.Path.{sym}
 use native.Mathlib.Omega.{arith}
 use borrow.Author.Needs.{needs}
 use lib.ListN.{List·getD-eq-default}
-use Rattle.readings.proofs.reading_at.Statement.{statement}
-use Rattle.readings.proofs.reading_at.Tie as tie
+use Rattle.legal.proofs.reading_at.Statement.{statement}
+use Rattle.legal.proofs.reading_at.Tie as tie
 
 returns-2 : tie.Need-returns-2
 returns-2 c = let a = c .before .args in sym (List·getD-eq-default (a .series .now) 0 {n = a .i} (omega arith))

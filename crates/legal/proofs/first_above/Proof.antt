@@ -1,4 +1,4 @@
--- `readings::first_above` meets its contract. The loop's invariant: none of the first i readings is above the limit.
+-- `legal::first_above` meets its contract. The loop's invariant: none of the first i readings is above the limit.
 -- Assumes nothing.
 use Prim.Native.Nat.{_≤_, _-_}
 use native.Mathlib.Omega.{arith}
@@ -6,9 +6,9 @@ use borrow.Author.Tests.{le-ltb}
 use borrow.Author.Needs.{needs}
 use lib.ListN.{length}
 use Rattle.over.proofs.Tests.{Passed, passed-none, passed-more}
 use Rattle.readings.proofs.Legal.{above, above-found, above-none}
-use Rattle.readings.proofs.first_above.Statement.{statement}
-use Rattle.readings.proofs.first_above.Tie as tie
+use Rattle.legal.proofs.first_above.Statement.{statement}
+use Rattle.legal.proofs.first_above.Tie as tie
 
 abbrev Inv-loop : tie.InvT-loop
 Inv-loop readings limit i₀ i-end i = (i ≤ length readings) × Passed (above limit readings) i
