@@ -1,8 +1,6 @@
 // A customer's year and the decision over it, whole and day by day.
 // Main theorems: days given one by one, refused ones among them, close as the whole series of the taken days (proofs/Whole); two years
 // that agree in every in-window quarter, with one peak and one energy, are answered the same (proofs/Demand).
-mod day;
-
 ghost use mathlib.Core.Path.{_≡_};
 ghost use Prim.Native.Nat.{_≤_, _<_};
 ghost use lib.ListN.{length};
@@ -12,7 +10,7 @@ ghost use Rattle.readings.specs.Runs.{dayLen, runReadings};
 ghost use Rattle.sheet.specs.Answers.{saidOfSheet};
 ghost use Rattle.tariff.specs.Answers.{saidOf};
 ghost use Rattle.figures.specs.Figures.{noFigures};
-ghost use Rattle.customer.specs.Counts.{yearRun};
+ghost use Rattle.day_figures.specs.Counts.{yearRun};
 ghost use Rattle.customer.specs.Answers.{termsOf, listsAnswer, openAnswer, opened, shut, openCustomer, sumMost, dayUnder, dayAnswer, taken, dayCustomer, closeAnswer, figuresUnder, wholeAnswer, decideAnswer};
 use answers::Place;
 use readings::Run;
@@ -84,7 +82,7 @@ fn collect(terms: Terms, series: &[u32]) -> Figures
                 },
                 d,
             );
-        figures = day::take_day(
+        figures = day_figures::take_day(
             figures,
             year,
             d,
@@ -266,7 +264,7 @@ impl Customer {
     {
         let terms = self.terms;
         let seen = self.seen;
-        let figures = day::take_day(
+        let figures = day_figures::take_day(
             self.figures,
             terms.year,
             seen,

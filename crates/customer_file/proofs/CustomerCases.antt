@@ -19,8 +19,8 @@ use Rattle.readings.specs.Days.{nextAnswer}
 use Rattle.tariff.specs.declared.Decision.{Decision}
 use Rattle.tariff.specs.declared.Decision.the-variants.{Accepted, Eligible, Taken, YearOut, LevelOut, BadHolidays, WrongLength, BadReading, PriceOut, NoWindow, ShareShort, MoveShort, ReductionShort, Malformed, DayOut}
 use Rattle.tariff.specs.Answers.{saidOf}
+use Rattle.day_figures.specs.Counts.{yearRun}
 use Rattle.customer.specs.declared.Customer.{Customer}
-use Rattle.customer.specs.Counts.{yearRun}
 use Rattle.customer.specs.Answers.{overfull, dayAnswer}
 use Rattle.figured.specs.declared.Flat.{Flat}
 use Rattle.figured.specs.Flat.{flatOf}

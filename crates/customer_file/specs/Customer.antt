@@ -12,7 +12,7 @@ use Rattle.holidays.specs.Holidays.{badEntry}
 use Rattle.packed.specs.Bytes.{twoAt, fourAt, markSize}
 use Rattle.sheet.specs.Bytes.{mark, yearAt, sheetSize, seasonBytes, seasonFull}
 use Rattle.tariff.specs.declared.Prices.{Prices}
-use Rattle.customer.specs.Counts.{yearRun}
+use Rattle.day_figures.specs.Counts.{yearRun}
 use Rattle.customer.specs.Answers.{decideAnswer}
 use Rattle.fields.specs.Layout.{Field, Layout, layoutOf, headSize}
 use Rattle.fields.specs.Series.{seriesIn}

@@ -5,8 +5,8 @@ use Prim.Native.Nat.{ℕ, _+_}
 use lib.Dec.{ltb}
 use lib.ListN.{replicate}
 use Rattle.dates.specs.Dates.{yearDays}
+use Rattle.day_figures.specs.Counts.{yearRun}
 use Rattle.customer.specs.declared.Customer.{Customer}
-use Rattle.customer.specs.Counts.{yearRun}
 use Rattle.customer.specs.Answers.{shut, openCustomer, dayAnswer, dayCustomer, closeAnswer}
 use Rattle.fields.specs.declared.Stage.{Stage}
 use Rattle.fields.specs.declared.Stage.the-variants.{Going}

@@ -38,9 +38,9 @@ use Rattle.tariff.specs.Prices.{pricesOut}
 use Rattle.tariff.specs.Charges.{general, charge}
 use Rattle.tariff.specs.Answers.{chargedFigures, chargedOf}
 use Rattle.tariff.specs.Decision.{noWindow, shareShort, moveShort, reductionShort, eligibleRules, chargeRules, judgeRules, eligibleAnswer, chargeAnswer, judgeAnswer}
+use Rattle.day_figures.specs.Counts.{yearRun}
 use Rattle.customer.specs.Answers.{wholeAnswer, decideAnswer, openAnswer as customerOpens, openCustomer, overfull, dayAnswer as customerDay, dayCustomer, closeAnswer as customerCloses}
 use Rattle.customer.specs.declared.Customer.{Customer}
-use Rattle.customer.specs.Counts.{yearRun}
 use Rattle.customer.specs.Demand.{Basis, basisRun}
 use Rattle.customer.proofs.Exactly.{open-zero}
 use Rattle.customer.proofs.Only.{shut-day as customer-shut-day, shut-close as customer-shut-close}

@@ -35,8 +35,9 @@ use Rattle.tariff.specs.Rows.JudgeRow.{two, six, eight, nine, ten, eleven, zero
 use Rattle.tariff.proofs.Answered.{number-is}
 use Rattle.tariff.proofs.Exactly.{judge-exactly}
 use Rattle.tariff.proofs.Limits.{prices-legal}
+use Rattle.day_figures.specs.Counts.{setOn}
 use Rattle.customer.specs.declared.Terms.{Terms}
-use Rattle.customer.specs.Counts.{setOn, counts}
+use Rattle.customer.specs.Counts.{counts}
 use Rattle.customer.specs.Answers.{termsOf, openAnswer}
 use Rattle.customer.specs.Demand.{Basis, basisRun, basisDays, LegalYear}
 use Rattle.customer.specs.Demand.Given.{whole}

@@ -20,9 +20,9 @@ use Rattle.readings.proofs.Runs.{start-none, days-most, year-run}
 use Rattle.readings.proofs.Legal.{bad-run}
 use Rattle.readings.proofs.Days.{series-legal}
 use Rattle.sheet.specs.Bytes.{sheetIn}
+use Rattle.day_figures.specs.Counts.{yearRun}
 use Rattle.customer.specs.declared.Terms.{Terms}
 use Rattle.customer.specs.declared.Customer.{Customer}
-use Rattle.customer.specs.Counts.{yearRun}
 use Rattle.customer.specs.Answers.{termsOf, opened, shut, dayAnswer, dayCustomer, closeAnswer, decideAnswer}
 use Rattle.customer.proofs.Answered.{open-taken, decide-whole}
 use Rattle.customer.proofs.Whole.{holding, opens-holding, machine, closes-holding}

@@ -12,8 +12,10 @@ use Rattle.readings.specs.Runs.{dayLen, dayStart}
 use Rattle.readings.proofs.Runs.{start-none, start-more, run-held, year-run}
 use Rattle.readings.proofs.Part.{cut-at, cut-long}
 use Rattle.tariff.specs.declared.Figures.{Figures}
-use Rattle.customer.specs.Counts.{yearRun, countsOn, counts}
-use Rattle.customer.specs.Within.{alone, dayMost}
+use Rattle.day_figures.specs.Counts.{yearRun, countsOn}
+use Rattle.day_figures.specs.Day.{alone, dayMost}
+use Rattle.day_figures.proofs.Fits.{day-fits}
+use Rattle.customer.specs.Counts.{counts}
 use Rattle.figures.specs.Figures.{anyOn, highOn, quarterOn, figuresOf, recordOf, takenIn}
 use Rattle.figures.proofs.Taken.{figures-none, taken-more}
 use Rattle.customer.proofs.collect.Statement.{statement}
@@ -44,17 +46,6 @@ room e =
     let y = e .before .before .before .before .before .before .before .before .args .terms .year in
     omega (arith, e .before .before .before .before .before .before .before .before .pre, run-held (yearRun y) (e .before .before .loop .d) (omega (arith, year-run y)))
 
-take-day-requires : tie.Need-take-day-requires Inv-loop μ-loop
-take-day-requires c κs =
-    let e = c .before .before in
-    let a = e .before .before .before .before .before .before .before .before .args in
-    let at = e .before .before .loop in
-    let size = at .at + e .day-len .result - at .at in (
-      cut-long (yearRun (a .terms .year)) (a .series .now) (at .d) {size = size} (at .inv .2) (omega arith) (omega (arith, room e)),
-      within (e .before),
-      omega (arith, at .inv .3, within (e .before)),
-    )
-
 loop-again : tie.Need-loop-again Inv-loop μ-loop
 unfolding anyOn highOn quarterOn
 loop-again c =
@@ -69,6 +60,7 @@ loop-again c =
       omega (arith, start-more run (at .d)),
       omega (arith, c .take-day .ensures .1, at .inv .3),
       c .take-day .ensures .0
+          ∙ sym (day-fits _ _ _ _ _ _ (cut-long run (a .series .now) (at .d) {size = size} (at .inv .2) (omega arith) (omega (arith, room e))) (within (e .before)) (omega (arith, at .inv .3, within (e .before))))
           ∙ ap (λ (f : Figures). takenIn f (at .d + 1) (recordOf run (counts (a .terms)) (at .d) (alone (take size (drop (at .at) (a .series .now)))))) (at .inv .4)
           ∙ taken-more run (counts (a .terms)) (a .series .now) (at .d) _ part,
     )
@@ -96,7 +88,7 @@ collect-spec =
     (λ c. search needs)  -- sub-take-day
     (λ c. search needs)  -- part-take-day-start
     (λ c. let h = room (c .before) in search needs)  -- part-take-day-end
-    take-day-requires
+    (λ c κs. search needs)  -- take-day-requires
     (λ c. search needs)  -- add-d
     (λ c. search needs)  -- loop-less
     loop-again

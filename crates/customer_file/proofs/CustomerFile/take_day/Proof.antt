@@ -1,6 +1,5 @@
 -- `customer_file::CustomerFile::take_day` meets its contract, a case for each return.
 -- Assumes nothing.
-use Rattle.customer.specs.Counts.{yearRun}
 use mathlib.Core.Path.{_≡_, sym, ap, _∙_}
 use Prim.Native.Nat.{ℕ, _*_}
 use native.Mathlib.Omega.{arith}
@@ -15,6 +14,7 @@ use Rattle.customer_file.specs.CustomerMachine.{customerReader}
 use Rattle.readings.proofs.Runs.{len-most}
 use Rattle.customer_file.proofs.CustomerFile.take_day.Statement.{statement}
 use Rattle.customer_file.proofs.CustomerFile.take_day.Tie as tie
+use Rattle.day_figures.specs.Counts.{yearRun}
 
 mul-if1 : tie.Need-mul-if1
 mul-if1 c = let s = c .before .before .args .self in omega (arith, c .day-len .ensures, len-most (yearRun (s .customer .terms .year)) (s .customer .seen))

@@ -5,11 +5,11 @@ use Prim.Native.Nat.{ℕ, _*_}
 use native.Mathlib.Omega.{arith}
 use borrow.Author.Needs.{needs}
 use Rattle.readings.proofs.Runs.{len-most}
-use Rattle.customer.specs.Counts.{yearRun}
 use Rattle.fields.proofs.Machine.{wants-field, wants-day, wants-end, wants-none}
 use Rattle.customer_file.specs.CustomerMachine.{customerReader}
 use Rattle.customer_file.proofs.CustomerFile.want.Statement.{statement}
 use Rattle.customer_file.proofs.CustomerFile.want.Tie as tie
+use Rattle.day_figures.specs.Counts.{yearRun}
 
 returns : tie.Need-returns
 returns c = (c .width .ensures .0 ∙ wants-field customerReader (c .before .before .before .before .before .before .before .before .args .self) (sym (c .before .before .before .before .before .before .before .is-going .ensures) ∙ c .before .before .before .before .before .before .if1 .taken) (omega arith), omega arith)

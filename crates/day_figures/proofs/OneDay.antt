@@ -23,9 +23,10 @@ use Rattle.readings.proofs.Runs.{quarter-in}
 use Rattle.sheet.specs.Windows.{places, placeOf}
 use Rattle.sheet.proofs.Windows.{set-at}
 use Rattle.tariff.specs.declared.Figures.{Figures}
-use Rattle.customer.specs.declared.day.Tops.{Tops}
-use Rattle.customer.specs.Counts.{yearRun, setOn, countsOn}
-use Rattle.customer.specs.Within.{alone, topsOf, plainly}
+use Rattle.day_figures.specs.declared.Tops.{Tops}
+use Rattle.day_figures.specs.Counts.{yearRun, setOn, countsOn}
+use Rattle.day_figures.specs.Day.{alone}
+use Rattle.day_figures.specs.Within.{topsOf, plainly}
 use Rattle.figures.specs.Figures.{anyOn, highOn, quarterOn, DayRecord, recordOf, better, takenIn}
 
 -- the windows of the day's season begin at `base`

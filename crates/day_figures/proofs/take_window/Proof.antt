@@ -1,4 +1,4 @@
--- `customer::day::take_window` meets its contract: the day's in-window peak counts where it is the year's first or higher than all before.
+-- `day_figures::take_window` meets its contract: the day's in-window peak counts where it is the year's first or higher than all before.
 -- Assumes nothing.
 use mathlib.Core.Path.{ap, _∙_}
 use native.Mathlib.Omega.{arith}
@@ -7,10 +7,10 @@ use borrow.Author.Needs.{needs}
 use Rattle.over.proofs.Bools.{both}
 use Rattle.tariff.specs.declared.Figures.{Figures}
 use Rattle.readings.proofs.Runs.{quarter-in}
-use Rattle.customer.specs.Counts.{yearRun, setOn}
-use Rattle.customer.proofs.OneDay.{taken-old, position-in, taken-higher}
-use Rattle.customer.proofs.day.take_window.Statement.{statement}
-use Rattle.customer.proofs.day.take_window.Tie as tie
+use Rattle.day_figures.specs.Counts.{yearRun, setOn}
+use Rattle.day_figures.proofs.OneDay.{taken-old, position-in, taken-higher}
+use Rattle.day_figures.proofs.take_window.Statement.{statement}
+use Rattle.day_figures.proofs.take_window.Tie as tie
 
 returns : tie.Need-returns
 returns c =

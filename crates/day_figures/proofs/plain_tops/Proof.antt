@@ -1,13 +1,13 @@
--- `customer::day::plain_tops` meets its contract. The loop's invariant: the figures are those of the first p readings.
+-- `day_figures::plain_tops` meets its contract. The loop's invariant: the figures are those of the first p readings.
 -- Assumes nothing.
 use mathlib.Core.Bool.{false}
 use Prim.Native.Nat.{_≤_, _-_}
 use native.Mathlib.Omega.{arith}
 use borrow.Author.Needs.{needs}
 use lib.ListN.{length}
-use Rattle.customer.proofs.OneDay.{Passing, passing-none, passing-more, passing-all}
-use Rattle.customer.proofs.day.plain_tops.Statement.{statement}
-use Rattle.customer.proofs.day.plain_tops.Tie as tie
+use Rattle.day_figures.proofs.OneDay.{Passing, passing-none, passing-more, passing-all}
+use Rattle.day_figures.proofs.plain_tops.Statement.{statement}
+use Rattle.day_figures.proofs.plain_tops.Tie as tie
 
 abbrev Inv-loop : tie.InvT-loop
 Inv-loop day peak₀ low₀ top₀ p₀ p-end peak low top p = (length day ≤ 100) × Passing (λ k. false) day peak low top 0 p

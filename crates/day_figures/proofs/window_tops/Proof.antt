@@ -1,4 +1,4 @@
--- `customer::day::window_tops` meets its contract. The loop's invariant: the figures are those of the first p readings.
+-- `day_figures::window_tops` meets its contract. The loop's invariant: the figures are those of the first p readings.
 -- Assumes nothing.
 use mathlib.Core.Path.{ap, _∙_}
 use Prim.Native.Nat.{_≤_, _-_, max}
@@ -7,10 +7,10 @@ use borrow.Author.Needs.{needs}
 use lib.ListN.{length, getD}
 use Rattle.over.specs.Over.{counted}
 use Rattle.readings.proofs.Runs.{len-most}
-use Rattle.customer.specs.Counts.{yearRun, setOn}
-use Rattle.customer.proofs.OneDay.{Passing, passing-none, passing-more, passing-all}
-use Rattle.customer.proofs.day.window_tops.Statement.{statement}
-use Rattle.customer.proofs.day.window_tops.Tie as tie
+use Rattle.day_figures.specs.Counts.{yearRun, setOn}
+use Rattle.day_figures.proofs.OneDay.{Passing, passing-none, passing-more, passing-all}
+use Rattle.day_figures.proofs.window_tops.Statement.{statement}
+use Rattle.day_figures.proofs.window_tops.Tie as tie
 
 abbrev Inv-loop : tie.InvT-loop
 Inv-loop day windows year d base peak₀ low₀ top₀ high₀ p₀ p-end peak low top high p =

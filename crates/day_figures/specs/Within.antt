@@ -2,14 +2,11 @@
 use mathlib.Core.Bool.{Bool}
 use mathlib.Core.List.{List}
 use Prim.Native.Nat.{ℕ, _+_, max}
-use lib.ListN.{length, getD}
+use lib.ListN.{length}
 use Rattle.over.specs.Over.{largestOver, sumOver, largestIn}
 use Rattle.tariff.specs.declared.Figures.{Figures}
-use Rattle.customer.specs.declared.day.Tops.{Tops}
-
--- the reading at position p of a day that is given alone
-abbrev pub alone : List ℕ → ℕ → ℕ
-alone day p = getD day p 0
+use Rattle.day_figures.specs.declared.Tops.{Tops}
+use Rattle.day_figures.specs.Day.{alone}
 
 -- the highest reading, the sum, and the highest reading at the positions that pass the test
 unfoldable pub topsOf : (ℕ → Bool) → List ℕ → Tops
@@ -19,10 +16,6 @@ topsOf test day =
       sum = sumOver (alone day) (length day);
       high = largestIn test (alone day) (length day);
     }
-
--- what a day of at most 100 readings of 32 bits can add to a sum
-abbrev pub dayMost : ℕ
-dayMost = 429496729500
 
 -- the figures with a day taken in whose in-window peak, if it has one, does not count
 abbrev pub plainly : Figures → Tops → Figures

@@ -1,4 +1,4 @@
--- `customer::day::take_day` meets its contract: a day without in-window quarters is taken in plainly.
+-- `day_figures::take_fit` meets its contract: a day without in-window quarters is taken in plainly.
 -- Assumes nothing.
 use mathlib.Core.Path.{_≡_, sym, ap, _∙_}
 use mathlib.Core.Bool.{Bool}
@@ -11,14 +11,14 @@ use Rattle.dates.specs.Dates.{seasonOf}
 use Rattle.readings.specs.Runs.{dayLen}
 use Rattle.sheet.specs.Windows.{placeOf}
 use Rattle.tariff.specs.declared.Figures.{Figures}
-use Rattle.customer.specs.Counts.{yearRun, countsOn}
-use Rattle.customer.specs.Within.{alone}
+use Rattle.day_figures.specs.Counts.{yearRun, countsOn}
+use Rattle.day_figures.specs.Day.{alone}
 use Rattle.figures.specs.Figures.{recordOf, takenIn}
 use Rattle.dates.proofs.Seasons.{season-range}
 use Rattle.readings.proofs.Runs.{len-most}
-use Rattle.customer.proofs.OneDay.{carries-some, taken-none}
-use Rattle.customer.proofs.day.take_day.Statement.{statement}
-use Rattle.customer.proofs.day.take_day.Tie as tie
+use Rattle.day_figures.proofs.OneDay.{carries-some, taken-none}
+use Rattle.day_figures.proofs.take_fit.Statement.{statement}
+use Rattle.day_figures.proofs.take_fit.Tie as tie
 
 sub-base : tie.Need-sub-base
 sub-base c = let a = c .before .before .args in omega (arith, season-range (a .year) (a .d + 1))
@@ -57,8 +57,8 @@ returns-2 c =
       omega (arith, ap (λ (x : Figures). x .sum) (c .take-plain .ensures), c .before .plain-tops .ensures .1),
     )
 
-pub take-day-spec : {M : Type 1} → statement M
-take-day-spec =
+pub take-fit-spec : {M : Type 1} → statement M
+take-fit-spec =
     tie.close
     (tie.spec
     (λ c. search needs)  -- add-season

@@ -1,4 +1,6 @@
-// A day of a customer's year, taken into the year's figures: one pass over its readings.
+// A day of a customer's year, taken into the year's figures: one pass over its readings. Document 01, Customer's year and decision.
+// Main theorem: the figures of the days before and the day's readings give the figures with the day, for every day that fits
+// (`day-fits`, proofs/Fits); one that does not leaves them as they are.
 ghost use mathlib.Core.Path.{_≡_};
 ghost use mathlib.Core.Bool.{true, false, _&&_};
 ghost use Prim.Native.Nat.{ℕ, _+_, _/_, _%_, _≤_, _<_};
@@ -8,11 +10,15 @@ ghost use Rattle.over.specs.Over.{anyOver, firstOver, counted};
 ghost use Rattle.dates.specs.Dates.{mostDays, seasonOf};
 ghost use Rattle.readings.specs.Runs.{dayLen};
 ghost use Rattle.sheet.specs.Windows.{placeOf};
-ghost use Rattle.customer.specs.Counts.{yearRun, setOn, countsOn};
-ghost use Rattle.customer.specs.Within.{alone, topsOf, dayMost, plainly};
 ghost use Rattle.figures.specs.Figures.{recordOf, takenIn};
+ghost use Rattle.day_figures.specs.Counts.{yearRun, setOn, countsOn};
+ghost use Rattle.day_figures.specs.Day.{alone, dayMost, sumEnd, dayTaken};
+ghost use Rattle.day_figures.specs.Within.{topsOf, plainly};
 use readings::Run;
 use tariff::Figures;
+
+// The highest sum to which a day, at most 100 readings of 32 bits, can be added within 64 bits.
+const SUM_ROOM: u64 = 18_446_743_644_212_822_115;
 
 // The highest reading of a day, the sum, and the highest in-window reading.
 struct Tops {
@@ -155,7 +161,7 @@ fn has_window(
 
 // The figures with a day taken in whose in-window peak, if it has one, does not count.
 fn take_plain(f: Figures, t: Tops) -> Figures
-    requires { ⌜ f .sum + t .sum < 18446744073709551616 ⌝ }
+    requires { ⌜ f .sum + t .sum < sumEnd ⌝ }
     ensures { λ r. ⌜ r ≡ plainly f t ⌝ }
 {
     Figures {
@@ -177,7 +183,7 @@ fn take_window(
     base: usize,
     day: &[u32],
 ) -> Figures
-    requires { ⌜ (length (now day) ≡ dayLen (yearRun year) d) × (base ≡ placeOf (seasonOf year (d + 1)) 0) × (anyOver (setOn year (now windows) d) (dayLen (yearRun year) d) ≡ true) × (d < mostDays) × (f .sum + dayMost < 18446744073709551616) ⌝ }
+    requires { ⌜ (length (now day) ≡ dayLen (yearRun year) d) × (base ≡ placeOf (seasonOf year (d + 1)) 0) × (anyOver (setOn year (now windows) d) (dayLen (yearRun year) d) ≡ true) × (d < mostDays) × (f .sum + dayMost < sumEnd) ⌝ }
     ensures { λ r. ⌜ (r ≡ takenIn f (d + 1) (recordOf (yearRun year) (setOn year (now (windows .entry))) d (alone (now (day .entry))))) × (r .sum ≤ f .sum + dayMost) ⌝ }
 {
     let t = window_tops(day, windows, year, d, base);
@@ -203,8 +209,8 @@ fn take_window(
     }
 }
 
-// The figures with day d, from 0, taken in: one pass over its readings, and without in-window quarters maximum and sum alone.
-pub(crate) fn take_day(
+// The figures with day d, from 0, taken in, which fits: one pass over its readings, and without in-window quarters maximum and sum alone.
+fn take_fit(
     f: Figures,
     year: u16,
     d: u16,
@@ -212,7 +218,7 @@ pub(crate) fn take_day(
     windows: &[bool; sheet::PLACES],
     day: &[u32],
 ) -> Figures
-    requires { ⌜ (length (now day) ≡ dayLen (yearRun year) d) × (d < mostDays) × (f .sum + dayMost < 18446744073709551616) ⌝ }
+    requires { ⌜ (length (now day) ≡ dayLen (yearRun year) d) × (d < mostDays) × (f .sum + dayMost < sumEnd) ⌝ }
     ensures { λ r. ⌜ (r ≡ takenIn f (d + 1) (recordOf (yearRun year) (countsOn year carries (now (windows .entry))) d (alone (now (day .entry))))) × (r .sum ≤ f .sum + dayMost) ⌝ }
 {
     let base = answers::DAY_QUARTERS * (dates::season(year, d + 1) as usize - 1);
@@ -220,4 +226,32 @@ pub(crate) fn take_day(
         return take_window(f, year, d, windows, base, day);
     }
     take_plain(f, plain_tops(day))
+}
+
+// The figures with day d, from 0, taken in. A day of another length than its own, one past the longest year, and any day once the sum
+// has no room for it leave the figures as they are.
+pub fn take_day(
+    f: Figures,
+    year: u16,
+    d: u16,
+    carries: bool,
+    windows: &[bool; sheet::PLACES],
+    day: &[u32],
+) -> Figures
+    ensures { λ r. ⌜ (r ≡ dayTaken f year d carries (now (windows .entry)) (now (day .entry))) × (r .sum ≤ f .sum + dayMost) ⌝ }
+{
+    let run = Run {
+        year,
+        period: false,
+    };
+    if day.len() != readings::day_len(run, d) {
+        return f;
+    }
+    if dates::MOST_DAYS <= d as usize {
+        return f;
+    }
+    if SUM_ROOM < f.sum {
+        return f;
+    }
+    take_fit(f, year, d, carries, windows, day)
 }

@@ -1,0 +1,2 @@
+pub mod OneDay
+pub mod Fits

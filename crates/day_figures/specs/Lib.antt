@@ -1,0 +1,3 @@
+pub mod Counts
+pub mod Day
+pub mod Within
