@@ -1,15 +1,12 @@
--- What the machine that reads a customer file is left with after a field, what a day is answered, where it stands after a day's refusal, and an
--- answer's line.
+-- What a day is answered, where the machine that reads a customer file stands after a day's refusal, and an answer's line.
 -- Assumes nothing.
 use mathlib.Core.Path.{_≡_, refl, ap, _∙_}
 use mathlib.Core.Bool.{Bool, true, false, cond, not}
-use mathlib.Core.List.{List, [], _∷_, _++_}
-use Prim.Native.Nat.{ℕ, _+_, _≤_, _<_}
-use native.Mathlib.Decide.{decLt}
+use mathlib.Core.List.{List, [], _∷_}
+use Prim.Native.Nat.{ℕ, _+_, _≤_}
 use native.Mathlib.Omega.{arith}
 use lib.Dec.{leb, ltb, eqb}
-use lib.ListN.{length, getD, take, drop, length-append, List·getD-append}
-use lib.Seq.{paste, length-take-le, getD-take}
+use lib.ListN.{length, take}
 use Rattle.answers.specs.Ruling.{customerMost}
 use Rattle.answers.specs.Said.{Said, only, badPlace}
 use Rattle.answers.specs.declared.Place.{Place}
@@ -24,43 +21,10 @@ use Rattle.customer.specs.declared.Customer.{Customer}
 use Rattle.customer.specs.Answers.{overfull, dayAnswer}
 use Rattle.figured.specs.declared.Flat.{Flat}
 use Rattle.figured.specs.Flat.{flatOf}
-use Rattle.figured.proofs.Line.{line-is}
 use Rattle.lines.specs.Figures.{figuresIn}
-use Rattle.fields.specs.Layout.{startOf}
-use Rattle.fields.proofs.Header.{field-rises}
 use Rattle.fields.specs.declared.Stage.the-variants as Stage
 use Rattle.fields.specs.Stages.{stageOf}
-use Rattle.customer_file.specs.Customer.{countPlace, customerLayout}
-use Rattle.customer_file.proofs.CustomerLayout.{count-is, start-holiday}
-
--- the count of holidays stands before every field that it governs: a field that is laid into the header leaves itself a field
-module _ (head b : List ℕ) (k size : ℕ) where
-  abbrev start : ℕ
-  start = startOf (customerLayout head) k
-
-  abbrev next : List ℕ
-  next = paste head start b size
-
-  front : start ≤ length head → (i : ℕ) → i < start → getD next i 0 ≡ getD head i 0
-  front f i l =
-      let long = length-take-le start head f in
-      List·getD-append (take start head ++ take size b) (drop (start + size) head) 0 i (omega (arith, length-append (take start head) (take size b)))
-      ∙ List·getD-append (take start head) (take size b) 0 i (omega arith)
-      ∙ getD-take start head i 0 l
-
-  pub still-field : start ≤ length head → k < customerLayout head .count → k < customerLayout next .count
-  still-field f l = go (decLt k 12)
-    where
-      go : Dec (k < 12) → k < customerLayout next .count
-      go (yes m) = omega (arith, count-is next)
-      go (no m) =
-          let first = start-holiday head 12 (omega arith) (omega arith) in
-          omega (
-            arith,
-            count-is head,
-            count-is next,
-            front f countPlace (omega (arith, field-rises (customerLayout head) k 12 (omega arith))),
-          )
+use Rattle.figured.proofs.Line.{line-is}
 
 -- what a day is answered: 13, 4, 5 with its place, or 0, which carries nothing
 module _ (P : Said → Type 0) (thirteen : P (only 13)) (four : P (only 4)) (five : (place : Place) → P (badPlace place)) (taken : P (only 0)) where

@@ -1,2 +1,1 @@
-pub mod CustomerLayout
 pub mod CustomerCases

@@ -5,21 +5,18 @@ use Prim.Native.Nat.{ℕ, _+_}
 use lib.Dec.{ltb}
 use lib.ListN.{replicate}
 use Rattle.dates.specs.Dates.{yearDays}
-use Rattle.day_figures.specs.Counts.{yearRun}
 use Rattle.customer.specs.declared.Customer.{Customer}
-use Rattle.customer.specs.Answers.{shut, openCustomer, dayAnswer, dayCustomer, closeAnswer}
+use Rattle.day_figures.specs.Counts.{yearRun}
+use Rattle.customer.specs.Answers.{shut, dayAnswer, dayCustomer, closeAnswer}
 use Rattle.fields.specs.declared.Stage.{Stage}
 use Rattle.fields.specs.declared.Stage.the-variants.{Going}
 use Rattle.fields.specs.Stages.{saidOfStage}
 use Rattle.fields.specs.Machine.{Reader, wants, fed}
+use Rattle.customer_head.specs.Header.{customerLayout, openedIn}
 use Rattle.lines.specs.Figures.{statementLine}
 use Rattle.customer_file.specs.declared.CustomerFile.{CustomerFile}
-use Rattle.customer_file.specs.Customer.{customerLayout, sheetPart, holidaysOf, pricesOf, optionOf}
 
 -- the year is opened once the header's last field is taken
-unfoldable pub openedIn : List ℕ → Customer
-openedIn head = openCustomer (sheetPart head) (holidaysOf head) (pricesOf head) (optionOf head)
-
 unfoldable pub openedWith : Customer → List ℕ → ℕ → Customer
 openedWith old head k = cond (ltb k (customerLayout head .count)) old (openedIn head)
 

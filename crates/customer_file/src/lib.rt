@@ -2,31 +2,27 @@
 // `want` says how many bytes come next, `feed` takes them, fewer where the file has ended, and `text` is what the program prints. Each field
 // and each day is tested as soon as it is fed.
 // Main theorem: driven over any bytes, the machine prints what the file's bytes are answered (room `printed`).
-mod head;
-
 ghost use mathlib.Core.Path.{_≡_};
 ghost use Prim.Native.Nat.{_≤_, _<_};
+ghost use Rattle.customer_head.specs.Header.{spanOf};
 ghost use Rattle.tariff.specs.Answers.{saidOf};
-ghost use Rattle.customer.specs.Answers.{shut, closeAnswer};
+ghost use Rattle.customer.specs.Answers.{closeAnswer};
 ghost use Rattle.figured.specs.Flat.{flatOf};
 ghost use Rattle.lines.specs.Text.{lengthIn, putIn};
 ghost use Rattle.fields.specs.Stages.{stageOf, saidOfStage};
-ghost use Rattle.customer_file.specs.Customer.{customerLayout};
 ghost use Rattle.fields.specs.Machine.{fieldFed, dayGiven, dayFed, endFed};
-ghost use Rattle.customer_file.specs.CustomerMachine.{customerStart, customerEnded, customerReader, customerWants, customerFed, customerText};
-use crate::head::HEAD_MOST;
+ghost use Rattle.customer_file.specs.CustomerMachine.{openedWith, customerStart, customerEnded, customerReader, customerWants, customerFed, customerText};
 use customer::Customer;
+use customer_head::Span;
 use fields::Stage;
 use figured::Flat;
 use readings::Run;
 use tariff::Decision;
-use tariff::Prices;
-use tariff::Row;
 
 // A customer file that is read: the fields taken so far, the header's bytes, the days taken so far, and where it stands.
 pub struct CustomerFile {
     pub field: usize,
-    pub head: [u8; HEAD_MOST],
+    pub head: [u8; customer_head::HEAD_MOST],
     pub customer: Customer,
     pub stage: Stage,
 }
@@ -41,37 +37,26 @@ fn stage_of(decision: Decision) -> Stage
     Stage::BadReading(place)
 }
 
-// The one state of a refused opening, before the header is read.
-fn unopened() -> Customer
-    ensures { λ r. ⌜ r ≡ shut ⌝ }
+// The year is opened once the header's last field is taken.
+fn opened_after(customer: Customer, head: &[u8], k: usize) -> Customer
+    ensures { λ r. ⌜ r ≡ openedWith customer (now (head .entry)) k ⌝ }
 {
-    let blank = [0u8; HEAD_MOST];
-    let list = [0u16; 1];
-    let none = Row {
-        capacity: 0,
-        energy: 0,
-    };
-    let step = Customer::open(
-        &blank,
-        &list,
-        Prices {
-            low: none,
-            high: none,
-        },
-        false,
-    );
-    step.customer
+    if 0 < customer_head::span_of(head, k).width {
+        return customer;
+    }
+    customer_head::opened(head)
 }
 
 impl CustomerFile {
-    // Before the first byte.
+    // Before the first byte: a blank header opens no year.
     pub fn start() -> CustomerFile
         ensures { λ r. ⌜ r ≡ customerStart ⌝ }
     {
+        let head = [0; customer_head::HEAD_MOST];
         CustomerFile {
             field: 0,
-            head: [0; HEAD_MOST],
-            customer: unopened(),
+            head,
+            customer: customer_head::opened(&head),
             stage: Stage::Going,
         }
     }
@@ -95,10 +80,10 @@ impl CustomerFile {
     {
         let stage = self.stage;
         if fields::is_going(stage) {
-            let k = self.field;
             let head = self.head;
-            if k < head::fields_of(&head) {
-                return head::width(&head, k);
+            let size = customer_head::span_of(&head, self.field).width;
+            if 0 < size {
+                return size;
             }
             let year = self.customer.terms.year;
             let seen = self.customer.seen;
@@ -117,26 +102,25 @@ impl CustomerFile {
         0
     }
 
-    fn take_field(self, b: &[u8]) -> CustomerFile
-        requires { ⌜ self .field < customerLayout (self .head) .count ⌝ }
+    // Takes its next field, which stands at this place.
+    fn take_field(self, span: Span, b: &[u8]) -> CustomerFile
+        requires { ⌜ (span ≡ spanOf (self .head) (self .field)) × (0 < span .width) ⌝ }
         ensures { λ r. ⌜ r ≡ fieldFed customerReader self (now (b .entry)) ⌝ }
     {
-        let k = self.field;
-        let mut head = self.head;
-        let size = head::width(&head, k);
-        if b.len() < size {
+        if b.len() < span.width {
             return self.ended(Stage::Refused(12));
         }
-        let at = head::start_of(&head, k);
-        packed::lay(&mut head, at, &b[..size]);
-        let number = head::refusal(&head, k);
+        let k = self.field;
+        let mut head = self.head;
+        packed::lay(&mut head, span.start, &b[..span.width]);
+        let number = customer_head::refusal(&head, k);
         if number != 0 {
             return self.ended(Stage::Refused(number));
         }
         CustomerFile {
             field: k + 1,
             head,
-            customer: head::opened_after(self.customer, &head, k + 1),
+            customer: opened_after(self.customer, &head, k + 1),
             stage: Stage::Going,
         }
     }
@@ -194,8 +178,9 @@ impl CustomerFile {
         let stage = self.stage;
         if fields::is_going(stage) {
             let head = self.head;
-            if self.field < head::fields_of(&head) {
-                return self.take_field(b);
+            let span = customer_head::span_of(&head, self.field);
+            if 0 < span.width {
+                return self.take_field(span, b);
             }
             if self.customer.seen < dates::year_days(self.customer.terms.year) {
                 return self.take_day(b);

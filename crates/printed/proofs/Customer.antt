@@ -38,9 +38,10 @@ use Rattle.lines.specs.Figures.{statementLine}
 use Rattle.fields.specs.declared.Stage.the-variants.{Going, Refused, Complete}
 use Rattle.customer_file.specs.declared.CustomerFile.{CustomerFile}
 use Rattle.fields.specs.Stages.{going, stageOf, saidOfStage}
-use Rattle.customer_file.specs.Customer.{sheetPart, optionOf, holidaysOf, pricesOf, customerLayout, customerAnswer, statementPrinted}
-use Rattle.customer_file.specs.CustomerMachine.{openedIn, openedWith, customerHead, customerStart, customerEnded, customerReader, customerWants, customerFed, customerText}
-use Rattle.customer_file.proofs.CustomerLayout.{count-few, count-is}
+use Rattle.customer_head.specs.Header.{sheetPart, optionOf, holidaysOf, pricesOf, customerLayout, openedIn}
+use Rattle.customer_file.specs.Customer.{customerAnswer, statementPrinted}
+use Rattle.customer_file.specs.CustomerMachine.{openedWith, customerHead, customerStart, customerEnded, customerReader, customerWants, customerFed, customerText}
+use Rattle.customer_head.proofs.CustomerLayout.{count-few, count-is}
 use Rattle.fields.proofs.Machine.{wants-field, wants-day, wants-end, fed-none, fed-field, fed-day, fed-end, field-cut, field-refused, field-taken, day-cut, day-refused, day-taken, end-left, end-done}
 use Rattle.customer_file.proofs.CustomerCases.{day-cases}
 use Rattle.printed.proofs.CustomerHeader.{looks-back, opened-same}

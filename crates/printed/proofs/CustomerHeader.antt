@@ -25,9 +25,8 @@ use Rattle.fields.proofs.Bytes.{part-long, part-at, Same}
 use Rattle.fields.proofs.Header.{field-more, field-rises}
 use Rattle.fields.proofs.Fed.{LooksBack}
 use Rattle.fields.proofs.Common.{Own, one-same, mark-own, version-own, year-own, level-own}
-use Rattle.customer_file.specs.Customer.{customerMark, sheetPlace, optionPlace, sheetPart, customerYear, optionOf, holidaysPlace, holidayCount, holidaysOf, pricesPlace, priceOf, pricesOf, seasonField, optionField, countField, capacityField, energyField, firstFields, priceFields, customerLayout}
-use Rattle.customer_file.specs.CustomerMachine.{openedIn}
-use Rattle.customer_file.proofs.CustomerLayout.{firstWidths, firstStarts, count-is, width-first, width-holiday, width-price, start-first, start-holiday, start-price, refusal-first, refusal-holiday, refusal-price, holiday-is, size-is}
+use Rattle.customer_head.specs.Header.{customerMark, sheetPlace, optionPlace, sheetPart, customerYear, optionOf, holidaysPlace, holidayCount, holidaysOf, pricesPlace, priceOf, pricesOf, seasonField, optionField, countField, capacityField, energyField, firstFields, priceFields, customerLayout, openedIn}
+use Rattle.customer_head.proofs.CustomerLayout.{firstWidths, firstStarts, count-is, width-first, width-holiday, width-price, start-first, start-holiday, start-price, refusal-first, refusal-holiday, refusal-price, holiday-is, size-is}
 
 -- the fields look at their own bytes
 season-own : Own seasonField seasonBytes

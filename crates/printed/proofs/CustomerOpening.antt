@@ -30,8 +30,9 @@ use Rattle.fields.specs.Layout.{Layout, fieldAt, headSize, stops}
 use Rattle.fields.proofs.Bytes.{part-long, part-at}
 use Rattle.fields.proofs.Common.{mark-no, version-no, year-no, level-no, unrefused}
 use Rattle.fields.proofs.Header.{field-held, fields-held}
-use Rattle.customer_file.specs.Customer.{sheetPlace, sheetPart, customerYear, holidaysPlace, holidayCount, holidaysOf, pricesPlace, priceOf, pricesOf, priceFields, customerLayout}
-use Rattle.customer_file.proofs.CustomerLayout.{count-few, count-is, refusal-first, season-refused, holiday-refused, price-refused, size-is, season-no, capacity-no, energy-no}
+use Rattle.customer_head.specs.Header.{sheetPlace, sheetPart, customerYear, holidaysPlace, holidayCount, holidaysOf, pricesPlace, priceOf, pricesOf, priceFields, customerLayout}
+use Rattle.customer_head.proofs.CustomerLayout.{count-few, count-is, refusal-first, season-refused, holiday-refused, price-refused, size-is}
+use Rattle.customer_head.proofs.Refusals.{season-no, capacity-no, energy-no}
 
 module _ (bytes : List ℕ) where
   abbrev l : Layout

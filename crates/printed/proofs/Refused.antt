@@ -28,8 +28,8 @@ use Rattle.fields.specs.Layout.{Layout, headSize}
 use Rattle.fields.proofs.Common.{refused-as}
 use Rattle.grid_file.specs.Grid.{gridLayout, gridYear, gridLevel}
 use Rattle.grid_file.proofs.GridLayout.{grid-count}
-use Rattle.customer_file.specs.Customer.{sheetPart, holidayCount, holidaysOf, pricesOf, customerLayout}
-use Rattle.customer_file.proofs.CustomerLayout.{count-is}
+use Rattle.customer_head.specs.Header.{sheetPart, holidayCount, holidaysOf, pricesOf, customerLayout}
+use Rattle.customer_head.proofs.CustomerLayout.{count-is}
 use Rattle.printed.proofs.Grid as GridFields
 use Rattle.printed.proofs.CustomerOpening.{mark-tested, version-tested, year-tested, level-tested, season-tested, holiday-tested, holidays-long, priceOut, price-tested, formed, year-in, level-in, sheet-in, holidays-in}
 

@@ -1,0 +1,2 @@
+pub mod CustomerLayout
+pub mod Refusals

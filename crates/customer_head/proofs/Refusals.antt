@@ -1,0 +1,90 @@
+-- The number that refuses a field of a customer file's header, by what the code has found: whether a test fails, and the number that goes with it.
+-- Assumes nothing.
+use mathlib.Core.Path.{_≡_, refl, sym, ap, _∙_}
+use mathlib.Core.Bool.{Bool, true, false, cond, not}
+use mathlib.Core.List.{List, [], _∷_}
+use Prim.Native.Nat.{ℕ, zero, suc, _-_, _%_, _≤_, _<_}
+use native.Mathlib.Omega.{arith}
+use borrow.Author.Tests.{eq-eqb, ne-eqb}
+use lib.Dec.{ltb, eqb}
+use lib.ListN.{getD, List·getD-eq-default}
+use Rattle.over.specs.Over.{counted}
+use Rattle.answers.specs.Ruling.{holidaysMost, yearOut, levelOut}
+use Rattle.packed.specs.Bytes.{twoAt, fourAt, unlike, versionOut}
+use Rattle.sheet.specs.Bytes.{mark, seasonFull}
+use Rattle.answers.specs.Ruling.{capacityOut, energyOut}
+use Rattle.fields.specs.Layout.{Field, noField, fieldAt}
+use Rattle.fields.specs.Common.{markField, versionField, yearField, levelField}
+use Rattle.customer_head.specs.Header.{customerMark, seasonField, optionField, countField, capacityField, energyField, firstFields, priceFields, customerLayout}
+use Rattle.customer_head.proofs.CustomerLayout.{refusal-first}
+
+-- the numbers that refuse them
+abbrev pub firstNumbers : List ℕ
+firstNumbers = 12 ∷ 12 ∷ 12 ∷ 12 ∷ 1 ∷ 2 ∷ 12 ∷ 12 ∷ 12 ∷ 12 ∷ 12 ∷ 3 ∷ []
+
+-- a test and its number
+pub refused-by : (t : Bool) (m : ℕ) {r : ℕ} → 0 < m → counted t m ≡ r → t ≡ not (eqb r 0)
+refused-by true m {r} l e =
+    let f : m ≡ r = e in
+    sym (ap not (ne-eqb r 0 (λ z. absurd (omega arith))))
+refused-by false m l e = ap (λ (x : ℕ). not (eqb x 0)) e
+
+numbered : (t : Bool) (m : ℕ) → counted (not (eqb (counted t m) 0)) m ≡ counted t m
+numbered true zero = refl
+numbered true (suc m) = rw (ne-eqb (suc m) 0 (λ z. absurd (omega arith)))
+numbered false m = refl
+
+-- the first fields
+module _ (b : List ℕ) where
+  first-numbers : (k : ℕ) → k < 12 → (i : ℕ) → counted (not (eqb (fieldAt (firstFields b) k .refusal i) 0)) (getD firstNumbers k 0) ≡ fieldAt (firstFields b) k .refusal i
+  unfolding markField versionField yearField levelField seasonField optionField countField
+  first-numbers zero l i = numbered (unlike customerMark b i) 12
+  first-numbers (suc zero) l i = numbered (versionOut b i) 12
+  first-numbers (suc (suc zero)) l i = numbered (unlike mark b i) 12
+  first-numbers (suc (suc (suc zero))) l i = numbered (versionOut b i) 12
+  first-numbers (suc (suc (suc (suc zero)))) l i = numbered (yearOut (twoAt b i)) 1
+  first-numbers (suc (suc (suc (suc (suc zero))))) l i = numbered (levelOut (getD b i 0)) 2
+  first-numbers (suc (suc (suc (suc (suc (suc zero)))))) l i = numbered (seasonFull b i) 12
+  first-numbers (suc (suc (suc (suc (suc (suc (suc zero))))))) l i = numbered (seasonFull b i) 12
+  first-numbers (suc (suc (suc (suc (suc (suc (suc (suc zero)))))))) l i = numbered (seasonFull b i) 12
+  first-numbers (suc (suc (suc (suc (suc (suc (suc (suc (suc zero))))))))) l i = numbered (seasonFull b i) 12
+  first-numbers (suc (suc (suc (suc (suc (suc (suc (suc (suc (suc zero)))))))))) l i = numbered (ltb 1 (getD b i 0)) 12
+  first-numbers (suc (suc (suc (suc (suc (suc (suc (suc (suc (suc (suc zero))))))))))) l i = numbered (ltb holidaysMost (getD b i 0)) 3
+  first-numbers (suc (suc (suc (suc (suc (suc (suc (suc (suc (suc (suc (suc k)))))))))))) l i = absurd (omega arith)
+
+  pub first-number : (k : ℕ) → k < 12 → counted (not (eqb (customerLayout b .refusal k) 0)) (getD firstNumbers k 0) ≡ customerLayout b .refusal k
+  first-number k l = rw (← (refusal-first b k l)) (first-numbers k l _)
+
+-- the number of a field, by what the code has found
+pub option-no : (b : List ℕ) (i : ℕ) {x : ℕ} → x ≡ getD b i 0 → counted (ltb 1 x) 12 ≡ optionField b .refusal i
+unfolding optionField
+option-no b i e = ap (λ (x : ℕ). counted (ltb 1 x) 12) e
+
+pub count-no : (b : List ℕ) (i : ℕ) {x : ℕ} → x ≡ getD b i 0 → counted (ltb 40 x) 3 ≡ countField b .refusal i
+unfolding countField
+count-no b i e = ap (λ (x : ℕ). counted (ltb 40 x) 3) e
+
+-- the prices: in each row the capacity price, then the energy price
+price-field : (b : List ℕ) (j : ℕ) → j < 4 → cond (eqb (j % 2) 0) (capacityField b) (energyField b) ≡ fieldAt (priceFields b) j
+price-field b zero l = refl
+price-field b (suc zero) l = refl
+price-field b (suc (suc zero)) l = refl
+price-field b (suc (suc (suc zero))) l = refl
+price-field b (suc (suc (suc (suc j)))) l = absurd (omega arith)
+
+pub no-price : (b : List ℕ) (i j : ℕ) → 4 ≤ j → 0 ≡ fieldAt (priceFields b) j .refusal i
+no-price b i j l = ap (λ (f : Field). f .refusal i) (sym (List·getD-eq-default (priceFields b) noField l))
+
+module _ (b : List ℕ) (i : ℕ) {t : Bool} where
+  pub season-no : t ≡ seasonFull b i → counted t 12 ≡ seasonField b .refusal i
+  unfolding seasonField
+  season-no e = ap (λ (s : Bool). counted s 12) e
+
+  module _ (j : ℕ) (l : j < 4) where
+    pub capacity-no : j % 2 ≡ 0 → t ≡ capacityOut (fourAt b i) → counted t 6 ≡ fieldAt (priceFields b) j .refusal i
+    unfolding capacityField
+    capacity-no m e = ap (λ (s : Bool). counted s 6) e ∙ ap (λ (f : Field). f .refusal i) (rw (eq-eqb (j % 2) 0 m) at (price-field b j l))
+
+    pub energy-no : (j % 2 ≡ 0 → ⊥) → t ≡ energyOut (fourAt b i) → counted t 6 ≡ fieldAt (priceFields b) j .refusal i
+    unfolding energyField
+    energy-no m e = ap (λ (s : Bool). counted s 6) e ∙ ap (λ (f : Field). f .refusal i) (rw (ne-eqb (j % 2) 0 m) at (price-field b j l))

@@ -1,0 +1,50 @@
+-- `customer_head::refusal` meets its contract, a law for each return.
+-- Assumes nothing.
+use mathlib.Core.Path.{ap, _∙_}
+use mathlib.Core.Bool.{Bool}
+use Prim.Native.Nat.{_-_}
+use native.Mathlib.Omega.{arith}
+use borrow.Author.Needs.{needs}
+use lib.ListN.{getD}
+use Rattle.over.specs.Over.{counted}
+use Rattle.fields.specs.Layout.{fieldAt}
+use Rattle.customer_head.specs.Header.{priceFields}
+use Rattle.customer_head.proofs.CustomerLayout.{refusal-holiday, refusal-rest}
+use Rattle.customer_head.proofs.Refusals.{firstNumbers, first-number}
+use Rattle.customer_head.proofs.refusal.Statement.{statement}
+use Rattle.customer_head.proofs.refusal.Tie as tie
+
+returns : tie.Need-returns
+returns c =
+    let a = c .before .before .before .before .args in
+    c .number-if .ensures
+    ∙ ap (λ (t : Bool). counted t (getD firstNumbers (a .k) 0)) (c .before .first-fails .ensures)
+    ∙ first-number (a .head .now) (a .k) (omega arith)
+
+returns-2 : tie.Need-returns-2
+returns-2 c = let a = c .before .before .before .before .before .args in c .holiday-no .ensures ∙ refusal-holiday (a .head .now) (a .k) (omega arith) (omega arith)
+
+returns-3 : tie.Need-returns-3
+returns-3 c =
+    let a = c .before .before .before .before .before .before .args in
+    let n = c .before .before .before .count-of .ensures .0 in
+    c .price-no .ensures
+    ∙ (λ i. fieldAt (priceFields (a .head .now)) (a .k - 12 - n i) .refusal (c .before .span-of .ensures i .start))
+    ∙ refusal-rest (a .head .now) (a .k) (omega arith)
+
+pub refusal-spec : {M : Type 1} → statement M
+refusal-spec =
+    tie.close
+    (tie.spec
+    (λ c κs. search needs)  -- first-fails-requires
+    (λ c. search needs)  -- array-read-number-if
+    (λ c κs. search needs)  -- number-if-requires
+    returns
+    (λ c κs. search needs)  -- count-of-requires
+    (λ c. search needs)  -- add-if2
+    (λ c κs. search needs)  -- holiday-no-requires
+    returns-2
+    (λ c κs. search needs)  -- span-of-requires
+    (λ c. search needs)  -- sub-price-no
+    (λ c κs. search needs)  -- price-no-requires
+    returns-3)

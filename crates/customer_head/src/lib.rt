@@ -1,0 +1,227 @@
+// The header of a customer file: where its fields stand, the number that refuses each, and the year that it opens, by the bytes read so far. Document
+// 01, Two programs: "CUS", version 1, a sheet, option, holidays, prices. Fields count from 0. Behind the last byte there is 0, so that every call
+// answers for any bytes.
+ghost use mathlib.Core.Path.{_≡_};
+ghost use mathlib.Core.Bool.{not};
+ghost use Prim.Native.Nat.{_≤_, _<_, min};
+ghost use lib.Dec.{eqb};
+ghost use lib.ListN.{take};
+ghost use Rattle.over.specs.Over.{counted};
+ghost use Rattle.holidays.specs.Holidays.{before, badEntry};
+ghost use Rattle.fields.specs.Layout.{fieldAt};
+ghost use Rattle.customer_head.specs.Header.{customerYear, holidayCount, holidaysOf, pricesOf, priceFields, customerLayout, spanOf, openedIn};
+use customer::Customer;
+use tariff::Prices;
+use tariff::Row;
+
+// Fields before the holidays, and prices behind them; how wide the former are, where they start, and the numbers that refuse them.
+const FIRST_FIELDS: usize = 12;
+
+const PRICE_FIELDS: usize = 4;
+
+const WIDTHS: [usize; FIRST_FIELDS] = [3, 2, 3, 2, 2, 1, 12, 12, 12, 12, 1, 1];
+
+const STARTS: [usize; FIRST_FIELDS] = [0, 3, 5, 8, 10, 12, 13, 25, 37, 49, 61, 62];
+
+const NUMBERS: [u8; FIRST_FIELDS] = [12, 12, 12, 12, 1, 2, 12, 12, 12, 12, 12, 3];
+
+// Where the version, the sheet with its fields, option, count and holidays stand.
+const VERSION_AT: usize = 3;
+
+const SHEET_AT: usize = 5;
+
+const SHEET_VERSION_AT: usize = 8;
+
+const YEAR_AT: usize = 10;
+
+const LEVEL_AT: usize = 12;
+
+const SEASONS_AT: usize = 13;
+
+const OPTION_AT: usize = 61;
+
+const COUNT_AT: usize = 62;
+
+const HOLIDAYS_AT: usize = 63;
+
+// Bytes of a holiday and of a price; of all prices; of a header with forty holidays.
+const HOLIDAY_BYTES: usize = 2;
+
+const PRICE_BYTES: usize = 4;
+
+const PRICES_SIZE: usize = 16;
+
+pub const HEAD_MOST: usize = 159;
+
+// Where a field starts, and how many bytes it takes.
+pub struct Span {
+    pub start: usize,
+    pub width: usize,
+}
+
+fn least(a: usize, b: usize) -> usize
+    ensures { λ r. ⌜ r ≡ min a b ⌝ }
+{
+    if a < b { a } else { b }
+}
+
+// How many holidays come: a count above 40 is refused itself.
+fn count_of(head: &[u8]) -> usize
+    ensures { λ r. ⌜ (r ≡ holidayCount (now (head .entry))) × (r ≤ 40) ⌝ }
+{
+    least(
+        answers::HOLIDAYS_MOST,
+        packed::byte_at(head, COUNT_AT, 0) as usize,
+    )
+}
+
+// Field k. Behind the last there is none: no byte at the header's end.
+pub fn span_of(head: &[u8], k: usize) -> Span
+    ensures { λ r. ⌜ r ≡ spanOf (now (head .entry)) k ⌝ }
+{
+    if k < FIRST_FIELDS {
+        return Span {
+            start: STARTS[k],
+            width: WIDTHS[k],
+        };
+    }
+    let n = count_of(head);
+    if k < FIRST_FIELDS + n {
+        return Span {
+            start: HOLIDAYS_AT + HOLIDAY_BYTES * (k - FIRST_FIELDS),
+            width: HOLIDAY_BYTES,
+        };
+    }
+    let prices = HOLIDAYS_AT + HOLIDAY_BYTES * n;
+    let j = k - FIRST_FIELDS - n;
+    if j < PRICE_FIELDS {
+        return Span {
+            start: prices + PRICE_BYTES * j,
+            width: PRICE_BYTES,
+        };
+    }
+    Span {
+        start: prices + PRICES_SIZE,
+        width: 0,
+    }
+}
+
+// Is field k, one before the holidays, refused?
+fn first_fails(head: &[u8], k: usize) -> bool
+    requires { ⌜ k < 12 ⌝ }
+    ensures { λ r. ⌜ r ≡ not (eqb (customerLayout (now (head .entry)) .refusal k) 0) ⌝ }
+{
+    if k < 1 {
+        return packed::unlike(head, 0, b"CUS");
+    }
+    if k < 2 {
+        return packed::two_at(head, VERSION_AT) != packed::VERSION;
+    }
+    if k < 3 {
+        return packed::unlike(head, SHEET_AT, b"HLZ");
+    }
+    if k < 4 {
+        return packed::two_at(head, SHEET_VERSION_AT) != packed::VERSION;
+    }
+    if k < 5 {
+        return answers::year_out(packed::two_at(head, YEAR_AT));
+    }
+    if k < 6 {
+        return answers::level_out(packed::byte_at(head, LEVEL_AT, 0));
+    }
+    if k < 10 {
+        return sheet::season_full(head, SEASONS_AT + 12 * (k - 6));
+    }
+    if k < 11 {
+        return 1 < packed::byte_at(head, OPTION_AT, 0);
+    }
+    answers::HOLIDAYS_MOST < packed::byte_at(head, COUNT_AT, 0) as usize
+}
+
+// The holiday before holiday j; 0 before the first.
+fn holiday_before(head: &[u8], j: usize) -> u16
+    requires { ⌜ j < holidayCount (now head) ⌝ }
+    ensures { λ r. ⌜ r ≡ before (holidaysOf (now (head .entry))) j ⌝ }
+{
+    if j == 0 {
+        return 0;
+    }
+    packed::two_at(head, HOLIDAYS_AT + HOLIDAY_BYTES * (j - 1))
+}
+
+fn holiday_no(head: &[u8], j: usize) -> u8
+    requires { ⌜ j < holidayCount (now head) ⌝ }
+    ensures { λ r. ⌜ r ≡ counted (badEntry (customerYear (now (head .entry))) (holidaysOf (now (head .entry))) j) 3 ⌝ }
+{
+    let day = packed::two_at(head, HOLIDAYS_AT + HOLIDAY_BYTES * j);
+    let last = holiday_before(head, j);
+    fields::number_if(holidays::unfit(packed::two_at(head, YEAR_AT), last, day), 3)
+}
+
+// Price j, at place i: in each row the capacity price, then the energy price. Behind the last price there is none.
+fn price_no(head: &[u8], i: usize, j: usize) -> u8
+    ensures { λ r. ⌜ r ≡ fieldAt (priceFields (now (head .entry))) j .refusal i ⌝ }
+{
+    if PRICE_FIELDS <= j {
+        return 0;
+    }
+    let price = packed::four_at(head, i);
+    if j % 2 == 0 {
+        return fields::number_if(answers::capacity_out(price), 6);
+    }
+    fields::number_if(answers::energy_out(price), 6)
+}
+
+// The number that refuses field k; 0 where none does, and where there is no field.
+pub fn refusal(head: &[u8], k: usize) -> u8
+    ensures { λ r. ⌜ r ≡ customerLayout (now (head .entry)) .refusal k ⌝ }
+{
+    if k < FIRST_FIELDS {
+        return fields::number_if(first_fails(head, k), NUMBERS[k]);
+    }
+    let n = count_of(head);
+    if k < FIRST_FIELDS + n {
+        return holiday_no(head, k - FIRST_FIELDS);
+    }
+    price_no(head, span_of(head, k).start, k - FIRST_FIELDS - n)
+}
+
+fn holidays_of(head: &[u8]) -> [u16; answers::HOLIDAYS_MOST]
+    ensures { λ r. ⌜ take (holidayCount (now (head .entry))) r ≡ holidaysOf (now (head .entry)) ⌝ }
+{
+    let mut out = [0; answers::HOLIDAYS_MOST];
+    for j in 0..count_of(head) {
+        out[j] = packed::two_at(head, HOLIDAYS_AT + HOLIDAY_BYTES * j);
+    }
+    out
+}
+
+// "The low row's capacity price and energy price, then the high row's."
+fn prices_of(head: &[u8]) -> Prices
+    ensures { λ r. ⌜ r ≡ pricesOf (now (head .entry)) ⌝ }
+{
+    let at = HOLIDAYS_AT + HOLIDAY_BYTES * count_of(head);
+    let low = Row {
+        capacity: packed::four_at(head, at),
+        energy: packed::four_at(head, at + 4),
+    };
+    let high = Row {
+        capacity: packed::four_at(head, at + 8),
+        energy: packed::four_at(head, at + 12),
+    };
+    Prices { low, high }
+}
+
+// The year that the header opens. One that ends inside its sheet opens none.
+pub fn opened(head: &[u8]) -> Customer
+    ensures { λ r. ⌜ r ≡ openedIn (now (head .entry)) ⌝ }
+{
+    let n = count_of(head);
+    let list = holidays_of(head);
+    let prices = prices_of(head);
+    let option = packed::byte_at(head, OPTION_AT, 0) == 1;
+    let from = least(SHEET_AT, head.len());
+    let to = least(OPTION_AT, head.len());
+    let step = Customer::open(&head[from..to], &list[..n], prices, option);
+    step.customer
+}
