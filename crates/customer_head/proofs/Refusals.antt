@@ -9,10 +9,9 @@ use borrow.Author.Tests.{eq-eqb, ne-eqb}
 use lib.Dec.{ltb, eqb}
 use lib.ListN.{getD, List·getD-eq-default}
 use Rattle.over.specs.Over.{counted}
-use Rattle.answers.specs.Ruling.{holidaysMost, yearOut, levelOut}
+use Rattle.answers.specs.Ruling.{holidaysMost, yearOut, levelOut, capacityOut, energyOut}
 use Rattle.packed.specs.Bytes.{twoAt, fourAt, unlike, versionOut}
 use Rattle.sheet.specs.Bytes.{mark, seasonFull}
-use Rattle.answers.specs.Ruling.{capacityOut, energyOut}
 use Rattle.fields.specs.Layout.{Field, noField, fieldAt}
 use Rattle.fields.specs.Common.{markField, versionField, yearField, levelField}
 use Rattle.customer_head.specs.Header.{customerMark, seasonField, optionField, countField, capacityField, energyField, firstFields, priceFields, customerLayout}

@@ -6,12 +6,11 @@ use Prim.Native.Nat.{ℕ, _+_, _*_, min}
 use lib.Dec.{ltb, eqb}
 use lib.ListN.{getD}
 use Rattle.over.specs.Over.{counted, table}
-use Rattle.answers.specs.Ruling.{holidaysMost}
+use Rattle.answers.specs.Ruling.{holidaysMost, capacityOut, energyOut}
 use Rattle.holidays.specs.Holidays.{badEntry}
 use Rattle.packed.specs.Bytes.{twoAt, fourAt, markSize}
 use Rattle.sheet.specs.Bytes.{mark, yearAt, sheetSize, seasonBytes, seasonFull}
 use Rattle.tariff.specs.declared.Prices.{Prices}
-use Rattle.answers.specs.Ruling.{capacityOut, energyOut}
 use Rattle.customer.specs.declared.Customer.{Customer}
 use Rattle.customer.specs.Answers.{openCustomer}
 use Rattle.fields.specs.Layout.{Field, Layout, layoutOf, startOf}
