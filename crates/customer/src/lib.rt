@@ -198,7 +198,7 @@ impl Customer {
     pub fn open(sheet: &[u8], holidays: &[u16], prices: Prices, option: bool) -> Stepped
         ensures { λ r. ⌜ (saidOf (r .answer) ≡ openAnswer (now (sheet .entry)) (now (holidays .entry)) prices) × (r .customer ≡ openCustomer (now (sheet .entry)) (now (holidays .entry)) prices option) ⌝ }
     {
-        let read = sheet::read(sheet);
+        let read = sheet_read::read(sheet);
         let said = read.answer;
         let meaning = read.sheet;
         let answer = open_answer(said, meaning.year, holidays, prices);

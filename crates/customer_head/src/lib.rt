@@ -130,7 +130,7 @@ fn first_fails(head: &[u8], k: usize) -> bool
         return answers::level_out(packed::byte_at(head, LEVEL_AT, 0));
     }
     if k < 10 {
-        return sheet::season_full(head, SEASONS_AT + 12 * (k - 6));
+        return sheet_read::season_full(head, SEASONS_AT + 12 * (k - 6));
     }
     if k < 11 {
         return 1 < packed::byte_at(head, OPTION_AT, 0);

@@ -147,7 +147,7 @@ fn next_bytes(n: usize) -> [u8; ROOM]
 fn one_reading() {
     let n = within_room(next_byte());
     let bytes = next_bytes(n);
-    let got = sheet::read(&bytes[0..n]);
+    let got = sheet_read::read(&bytes[0..n]);
     let answer = got.answer;
     let meaning = got.sheet;
     write_text(b"R ");

@@ -1,9 +1,9 @@
--- `sheet::bytes_full` meets its contract: four seasons are tested.
+-- `sheet_read::bytes_full` meets its contract: four seasons are tested.
 -- Assumes nothing.
 use borrow.Author.Needs.{needs}
 use Rattle.sheet.proofs.Bytes.{full-bytes}
-use Rattle.sheet.proofs.bytes_full.Statement.{statement}
-use Rattle.sheet.proofs.bytes_full.Tie as tie
+use Rattle.sheet_read.proofs.bytes_full.Statement.{statement}
+use Rattle.sheet_read.proofs.bytes_full.Tie as tie
 
 returns : tie.Need-returns
 returns c = rw (c .before .before .before .season-full .ensures, c .before .before .season-full2 .ensures, c .before .season-full3 .ensures, c .season-full4 .ensures) (full-bytes _)

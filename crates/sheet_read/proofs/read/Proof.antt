@@ -1,4 +1,4 @@
--- `sheet::read` meets its contract, a law for each return; what the tests on the way have shown is read once.
+-- `sheet_read::read` meets its contract, a law for each return; what the tests on the way have shown is read once.
 -- Assumes nothing.
 use mathlib.Core.Path.{_≡_, refl, sym, ap, _∙_}
 use mathlib.Core.Bool.{false}
@@ -7,13 +7,13 @@ use borrow.Author.Needs.{needs}
 use lib.ListN.{getD}
 use Rattle.answers.specs.Ruling.{yearOut, levelOut}
 use Rattle.packed.specs.Bytes.{twoAt}
 use Rattle.sheet.specs.Bytes.{yearAt, levelAt}
 use Rattle.sheet.specs.Rows.{Formed}
 use Rattle.sheet.specs.Answers.{shownOf}
 use Rattle.over.proofs.Bools.{clash}
 use Rattle.sheet.proofs.Answered.{read-refused, read-taken, marked, read-form, read-year, read-level, read-full, read-accepted}
-use Rattle.sheet.proofs.read.Statement.{statement}
-use Rattle.sheet.proofs.read.Tie as tie
+use Rattle.sheet_read.proofs.read.Statement.{statement}
+use Rattle.sheet_read.proofs.read.Tie as tie
 
 formed-at : (e : tie.Else3) → Formed (e .before .before .before .before .before .before .before .args .b .now)
 formed-at e =

@@ -1,15 +1,15 @@
--- `sheet::unpack` meets its contract. The loop's invariant: the first p quarters are filled in.
+-- `sheet_read::unpack` meets its contract. The loop's invariant: the first p quarters are filled in.
 -- Assumes nothing.
 use mathlib.Core.Path.{refl}
 use mathlib.Core.Bool.{false}
 use Prim.Native.Nat.{_-_}
 use native.Mathlib.Omega.{arith}
 use borrow.Author.Needs.{needs}
 use Rattle.sheet.specs.Windows.{places}
 use Rattle.sheet.specs.Bytes.{windowAt, windowsIn}
 use Rattle.over.proofs.Tables.{Filled, filled-none, filled-more, filled-all}
-use Rattle.sheet.proofs.unpack.Statement.{statement}
-use Rattle.sheet.proofs.unpack.Tie as tie
+use Rattle.sheet_read.proofs.unpack.Statement.{statement}
+use Rattle.sheet_read.proofs.unpack.Tie as tie
 
 abbrev Inv-loop : tie.InvT-loop
 Inv-loop b windows₀ p₀ windows p = Filled (windowAt b) places false p windows

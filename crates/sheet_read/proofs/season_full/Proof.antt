@@ -1,4 +1,4 @@
--- `sheet::season_full` meets its contract. The loop's invariant: n quarters of the first q are set.
+-- `sheet_read::season_full` meets its contract. The loop's invariant: n quarters of the first q are set.
 -- Assumes nothing.
 use mathlib.Core.Path.{_≡_, sym, ap, _∙_}
 use Prim.Native.Nat.{_≤_, _-_}
@@ -6,11 +6,11 @@ use native.Mathlib.Omega.{arith}
 use borrow.Author.Needs.{needs}
 use Rattle.over.specs.Over.{bit, countOver}
 use Rattle.answers.specs.Ruling.{dayQuarters}
 use Rattle.sheet.specs.Windows.{tooMany}
 use Rattle.sheet.specs.Bytes.{bitAt, setFrom}
 use Rattle.over.proofs.Tests.{count-none, counted}
-use Rattle.sheet.proofs.season_full.Statement.{statement}
-use Rattle.sheet.proofs.season_full.Tie as tie
+use Rattle.sheet_read.proofs.season_full.Statement.{statement}
+use Rattle.sheet_read.proofs.season_full.Tie as tie
 
 abbrev Inv-loop : tie.InvT-loop
 Inv-loop b i n₀ q₀ n q = (q ≤ dayQuarters) × (n ≤ q) × (n ≡ countOver (bitAt b i) q)

@@ -1,0 +1,108 @@
+// Reading a window sheet: document 01, Window sheet. What a sheet's bytes mean is told in the room below.
+ghost use mathlib.Core.Path.{_≡_};
+ghost use Prim.Native.Nat.{_<_};
+ghost use lib.ListN.{length};
+ghost use Rattle.sheet.specs.Windows.{tooFull};
+ghost use Rattle.sheet.specs.Bytes.{sheetSize, bitOf, windowsIn, seasonFull};
+ghost use Rattle.sheet.specs.Answers.{shownOf, readOf, refusal};
+use sheet::Reading;
+use sheet::Sheet;
+use sheet::SheetAnswer;
+
+// Where a sheet's version, year, level and the windows of its seasons begin.
+const VERSION_AT: usize = 3;
+
+const YEAR_AT: usize = 5;
+
+const LEVEL_AT: usize = 7;
+
+const SEASONS_AT: [usize; 4] = [8, 20, 32, 44];
+
+// Bit j of a byte, from the top.
+fn bit_at(byte: u8, j: usize) -> bool
+    requires { ⌜ j < 8 ⌝ }
+    ensures { λ r. ⌜ r ≡ bitOf byte j ⌝ }
+{
+    (byte >> (7 - j)) % 2 == 1
+}
+
+fn unpack(b: &[u8]) -> [bool; sheet::PLACES]
+    requires { ⌜ length (now b) ≡ sheetSize ⌝ }
+    ensures { λ r. ⌜ r ≡ windowsIn (now (b .entry)) ⌝ }
+{
+    let mut windows = [false; sheet::PLACES];
+    for p in 0..sheet::PLACES {
+        windows[p] = bit_at(b[sheet::WINDOWS_AT + p / 8], p % 8);
+    }
+    windows
+}
+
+// Are more than 40 quarters set in the twelve bytes of a season, which begin at place i? Any bytes and any place have an answer.
+pub fn season_full(b: &[u8], i: usize) -> bool
+    ensures { λ r. ⌜ r ≡ seasonFull (now (b .entry)) i ⌝ }
+{
+    let mut n: usize = 0;
+    for q in 0..answers::DAY_QUARTERS {
+        n += answers::one_if(bit_at(packed::byte_at(b, i, q / 8), q % 8));
+    }
+    answers::WINDOWS_MOST < n
+}
+
+// Does some season in a sheet's bytes have more than 40?
+fn bytes_full(b: &[u8]) -> bool
+    ensures { λ r. ⌜ r ≡ tooFull (windowsIn (now (b .entry))) ⌝ }
+{
+    season_full(b, SEASONS_AT[0])
+        | season_full(b, SEASONS_AT[1])
+        | season_full(b, SEASONS_AT[2])
+        | season_full(b, SEASONS_AT[3])
+}
+
+fn refused(answer: SheetAnswer) -> Reading
+    ensures { λ r. ⌜ r ≡ refusal answer ⌝ }
+{
+    let windows = [false; sheet::PLACES];
+    Reading {
+        answer,
+        sheet: Sheet {
+            year: 0,
+            level: 0,
+            windows,
+        },
+    }
+}
+
+// Reads a sheet. Refuses length, mark, version (12), year (1), level (2), set bits (12) in this order.
+pub fn read(b: &[u8]) -> Reading
+    ensures { λ r. ⌜ shownOf r ≡ readOf (now (b .entry)) ⌝ }
+{
+    if b.len() != sheet::SHEET_SIZE {
+        return refused(SheetAnswer::Malformed);
+    }
+    if packed::unlike(b, 0, b"HLZ") {
+        return refused(SheetAnswer::Malformed);
+    }
+    if packed::two_at(b, VERSION_AT) != packed::VERSION {
+        return refused(SheetAnswer::Malformed);
+    }
+    let year = packed::two_at(b, YEAR_AT);
+    if answers::year_out(year) {
+        return refused(SheetAnswer::YearOut);
+    }
+    let level = b[LEVEL_AT];
+    if answers::level_out(level) {
+        return refused(SheetAnswer::LevelOut);
+    }
+    if bytes_full(b) {
+        return refused(SheetAnswer::Malformed);
+    }
+    let windows = unpack(b);
+    Reading {
+        answer: SheetAnswer::Accepted,
+        sheet: Sheet {
+            year,
+            level,
+            windows,
+        },
+    }
+}
