@@ -1,4 +1,4 @@
--- What a day is answered, where the machine that reads a customer file stands after a day's refusal, and an answer's line.
+-- What a day is answered, what the machine that reads a customer file is after a day, and an answer's line.
 -- Assumes nothing.
 use mathlib.Core.Path.{_≡_, refl, ap, _∙_}
 use mathlib.Core.Bool.{Bool, true, false, cond, not}
@@ -18,12 +18,18 @@ use Rattle.tariff.specs.declared.Decision.the-variants.{Accepted, Eligible, Tak
 use Rattle.tariff.specs.Answers.{saidOf}
 use Rattle.day_figures.specs.Counts.{yearRun}
 use Rattle.customer.specs.declared.Customer.{Customer}
-use Rattle.customer.specs.Answers.{overfull, dayAnswer}
+use Rattle.customer.specs.Answers.{overfull, dayAnswer, dayCustomer}
 use Rattle.figured.specs.declared.Flat.{Flat}
 use Rattle.figured.specs.Flat.{flatOf}
 use Rattle.lines.specs.Figures.{figuresIn}
 use Rattle.fields.specs.declared.Stage.the-variants as Stage
+use Rattle.fields.specs.declared.Stage.{Stage}
+use Rattle.fields.specs.declared.Stage.the-variants.{Going}
 use Rattle.fields.specs.Stages.{stageOf}
+use Rattle.fields.specs.Machine.{dayGiven}
+use Rattle.customer_file.specs.declared.CustomerFile.{CustomerFile}
+use Rattle.customer_file.specs.CustomerMachine.{dayStage, customerReader}
+use Rattle.fields.proofs.Machine.{given-refused, given-taken}
 use Rattle.figured.proofs.Line.{line-is}
 
 -- what a day is answered: 13, 4, 5 with its place, or 0, which carries nothing
@@ -71,6 +77,25 @@ stage-number (MoveShort a) n = refl
 stage-number (ReductionShort a) n = refl
 stage-number Malformed n = refl
 stage-number DayOut n = refl
+
+-- the state after a day: the customer's year hands back itself where it refuses the day
+module _ (s : CustomerFile) (day : List ℕ) where
+  abbrev said : Said
+  said = dayAnswer (s .customer) day
+
+  abbrev with : Customer → Stage → CustomerFile
+  with c stage = record { field = s .field; head = s .head; customer = c; stage = stage }
+
+  kept : eqb (said .number) 0 ≡ false → dayCustomer (s .customer) day ≡ s .customer
+  unfolding dayCustomer
+  kept z = rw z
+
+  pub day-given : with (dayCustomer (s .customer) day) (dayStage said) ≡ dayGiven customerReader s day
+  day-given = go (eqb (said .number) 0) refl
+    where
+      go : (t : Bool) → eqb (said .number) 0 ≡ t → with (dayCustomer (s .customer) day) (dayStage said) ≡ dayGiven customerReader s day
+      go true z = (λ i. with (dayCustomer (s .customer) day) (cond (z i) Going (stageOf said))) ∙ given-taken customerReader s day z
+      go false z = (λ i. with (kept z i) (cond (z i) Going (stageOf said))) ∙ given-refused customerReader s day z
 
 -- an answer as its line lists it: the number, and the figures that it counts
 pub line-of : {r : Flat} (s : Said) {xs : List ℕ} → r ≡ flatOf s → r .count ≤ 7 → xs ≡ r .number ∷ r .figures → take (r .count + 1) xs ≡ figuresIn s

@@ -9,9 +9,9 @@ ghost use Rattle.tariff.specs.Answers.{saidOf};
 ghost use Rattle.customer.specs.Answers.{closeAnswer};
 ghost use Rattle.figured.specs.Flat.{flatOf};
 ghost use Rattle.lines.specs.Text.{lengthIn, putIn};
-ghost use Rattle.fields.specs.Stages.{stageOf, saidOfStage};
-ghost use Rattle.fields.specs.Machine.{fieldFed, dayGiven, dayFed, endFed};
-ghost use Rattle.customer_file.specs.CustomerMachine.{openedWith, customerStart, customerEnded, customerReader, customerWants, customerFed, customerText};
+ghost use Rattle.fields.specs.Stages.{saidOfStage};
+ghost use Rattle.fields.specs.Machine.{fieldFed, dayFed, endFed};
+ghost use Rattle.customer_file.specs.CustomerMachine.{openedWith, dayStage, customerStart, customerEnded, customerReader, customerWants, customerFed, customerText};
 use customer::Customer;
 use customer_head::Span;
 use fields::Stage;
@@ -27,12 +27,16 @@ pub struct CustomerFile {
     pub stage: Stage,
 }
 
-// Where a machine stands after a day's refusal.
+// Where a machine stands after a day: it goes on where the day is taken.
 fn stage_of(decision: Decision) -> Stage
-    ensures { λ r. ⌜ r ≡ stageOf (saidOf decision) ⌝ }
+    ensures { λ r. ⌜ r ≡ dayStage (saidOf decision) ⌝ }
 {
     let Decision::BadReading(place) = decision else {
-        return Stage::Refused(figured::of_decision(decision).number as u8);
+        let number = figured::of_decision(decision).number as u8;
+        if number == 0 {
+            return Stage::Going;
+        }
+        return Stage::Refused(number);
     };
     Stage::BadReading(place)
 }
@@ -125,25 +129,7 @@ impl CustomerFile {
         }
     }
 
-    // A day's readings are given to the customer's year.
-    fn give_day(self, day: &[u32]) -> CustomerFile
-        ensures { λ r. ⌜ r ≡ dayGiven customerReader self (now (day .entry)) ⌝ }
-    {
-        let step = self.customer.day(day);
-        let answer = step.answer;
-        if figured::of_decision(answer).number != 0 {
-            return self.ended(stage_of(answer));
-        }
-        let head = self.head;
-        let next = step.customer;
-        CustomerFile {
-            field: self.field,
-            head,
-            customer: next,
-            stage: Stage::Going,
-        }
-    }
-
+    // A day's readings are given to the customer's year, which stays as it is where it refuses them.
     fn take_day(self, b: &[u8]) -> CustomerFile
         ensures { λ r. ⌜ r ≡ dayFed customerReader self (now (b .entry)) ⌝ }
     {
@@ -158,7 +144,16 @@ impl CustomerFile {
             return self.ended(Stage::Refused(4));
         }
         let readings = fields::readings_in(b);
-        self.give_day(&readings[..n])
+        let step = self.customer.day(&readings[..n]);
+        let answer = step.answer;
+        let head = self.head;
+        let customer = step.customer;
+        CustomerFile {
+            field: self.field,
+            head,
+            customer,
+            stage: stage_of(answer),
+        }
     }
 
     // After the last day: a byte that is left over is 4.
