@@ -1,11 +1,15 @@
 -- `customer_file::CustomerFile::text` meets its contract.
 -- Assumes nothing.
-use mathlib.Core.Path.{_≡_, sym}
+use mathlib.Core.Path.{_≡_, sym, ap, _∙_}
+use mathlib.Core.List.{List}
+use Prim.Native.Nat.{ℕ}
 use native.Mathlib.Omega.{arith}
 use borrow.Author.Needs.{needs}
 use lib.ListN.{length}
 use lib.Seq.{length-take-le}
 use Rattle.customer.specs.Answers.{closeAnswer}
+use Rattle.lines.specs.Text.{lengthIn, putIn}
+use Rattle.lines.specs.Figures.{figuresLine}
 use Rattle.fields.specs.Stages.{saidOfStage}
 use Rattle.customer_file.proofs.CustomerCases.{line-of}
 use Rattle.customer_file.proofs.CustomerFile.text.Statement.{statement}
@@ -18,7 +22,14 @@ slice-aggregate-figures-text : tie.Need-slice-aggregate-figures-text
 slice-aggregate-figures-text c = let h : length (c .before .line-of .result) ≡ 8 = search needs in sym (length-take-le _ _ (omega (arith, c .before .before .answer .ensures .1)))
 
 returns : tie.Need-returns
-returns c = let s = c .before .before .before .before .before .before .before .before .args .self in let e = c .before .before .before .before .before .before .answer .ensures in rw (line-of (saidOfStage (s .stage) (closeAnswer (s .customer))) (e .0) (e .1) (c .before .before .before .before .before .line-of .ensures)) at (c .before .before .figures-text .ensures)
+returns c =
+    let a = c .before .before .before .before .before .before .before .before .args in
+    let e = c .before .before .before .before .before .before .answer .ensures in
+    let line = line-of (saidOfStage (a .self .stage) (closeAnswer (a .self .customer))) (e .0) (e .1) (c .before .before .before .before .before .line-of .ensures) in
+    let text = c .before .before .figures-text .ensures in (
+      text .0 ∙ ap (λ (xs : List ℕ). lengthIn (figuresLine xs) (a .out .now)) line,
+      text .1 ∙ ap (λ (xs : List ℕ). putIn (figuresLine xs) (a .out .now)) line,
+    )
 
 pub text-spec : {M : Type 1} → statement M
 text-spec =
