@@ -6,7 +6,7 @@ use native.Mathlib.Omega.{arith}
 use borrow.Author.Needs.{needs}
 use lib.Seq.{length-take-le}
 use lib.ListN.{length, take}
-use Rattle.customer.specs.Counts.{yearRun}
+use Rattle.day_figures.specs.Counts.{yearRun}
 use Rattle.fields.specs.Machine.{dayGiven}
 use Rattle.fields.specs.Series.{readingsOf}
 use Rattle.customer_file.specs.CustomerMachine.{dayStage, customerReader}
