@@ -4,7 +4,6 @@ use mathlib.Core.Path.{_≡_, refl, ap, _∙_}
 use mathlib.Core.Bool.{Bool, true, false, cond, not}
 use mathlib.Core.List.{List, [], _∷_}
 use Prim.Native.Nat.{ℕ, _+_, _≤_}
-use native.Mathlib.Omega.{arith}
 use lib.Dec.{leb, ltb, eqb}
 use lib.ListN.{length, take}
 use Rattle.answers.specs.Ruling.{customerMost}
@@ -50,10 +49,6 @@ module _ (P : Said → Type 0) (thirteen : P (only 13)) (four : P (only 4)) (fiv
       let first = firstAbove customerMost day in
       by-tests (overfull c) (leb (runDays run) (c .seen)) (not (eqb (length day) (dayLen run (c .seen)))) (ltb first (length day))
       (record { day = c .seen + 1; position = first })
-
-pub day-zero : (c : Customer) (day : List ℕ) → dayAnswer c day .number ≡ 0 → only 0 ≡ dayAnswer c day
-day-zero =
-    day-cases (λ x. x .number ≡ 0 → only 0 ≡ x) (λ e. absurd (omega arith)) (λ e. absurd (omega arith)) (λ place e. absurd (omega arith)) (λ e. refl)
 
 -- the places of the enum's cases, without that of `BadReading`, which is 7
 abbrev pub others : List ℕ

@@ -1,6 +1,6 @@
-// The customer file: its header, then the readings of the charge year. Document 01, Two programs. A machine that the statement program drives:
-// `want` says how many bytes come next, `feed` takes them, fewer where the file has ended, and `text` is what the program prints. Each field
-// and each day is tested as soon as it is fed.
+// The customer file: its header (room `customer_head`), then the readings of the charge year. Document 01, Two programs. A machine that the
+// statement program drives: `want` says how many bytes come next, `feed` takes them, fewer where the file has ended, and `text` is what the
+// program prints. Each field and each day is tested as soon as it is fed.
 // Main theorem: driven over any bytes, the machine prints what the file's bytes are answered (room `printed`).
 ghost use mathlib.Core.Path.{_≡_};
 ghost use Prim.Native.Nat.{_≤_, _<_};
@@ -106,7 +106,7 @@ impl CustomerFile {
         0
     }
 
-    // Takes its next field, which stands at this place.
+    // Takes its next field, which stands there.
     fn take_field(self, span: Span, b: &[u8]) -> CustomerFile
         requires { ⌜ (span ≡ spanOf (self .head) (self .field)) × (0 < span .width) ⌝ }
         ensures { λ r. ⌜ r ≡ fieldFed customerReader self (now (b .entry)) ⌝ }

@@ -113,7 +113,7 @@ customerFields b = firstFields b ++ (table (holidayField b) (holidayCount b) ++ 
 unfoldable pub customerLayout : List ℕ → Layout
 customerLayout b = layoutOf (customerFields b)
 
--- where field k stands; behind the last field there is no byte at the header's end
+-- where field k stands; behind the last field it is no byte, at the header's end
 abbrev pub spanOf : List ℕ → ℕ → Span
 spanOf b k = record { start = startOf (customerLayout b) k; width = customerLayout b .width k }
 

@@ -75,7 +75,7 @@ fn count_of(head: &[u8]) -> usize
     )
 }
 
-// Field k. Behind the last there is none: no byte at the header's end.
+// Where field k stands; behind the last field it is no byte, at the header's end.
 pub fn span_of(head: &[u8], k: usize) -> Span
     ensures { λ r. ⌜ r ≡ spanOf (now (head .entry)) k ⌝ }
 {
