@@ -24,11 +24,11 @@ use Rattle.lines.specs.Figures.{figuresIn}
 use Rattle.fields.specs.declared.Stage.the-variants as Stage
 use Rattle.fields.specs.declared.Stage.{Stage}
 use Rattle.fields.specs.declared.Stage.the-variants.{Going}
-use Rattle.fields.specs.Stages.{stageOf}
+use Rattle.fields.specs.Stages.{stageOf, dayStage}
 use Rattle.fields.specs.Machine.{dayGiven}
 use Rattle.customer_file.specs.declared.CustomerFile.{CustomerFile}
-use Rattle.customer_file.specs.CustomerMachine.{dayStage, customerReader}
-use Rattle.fields.proofs.Machine.{given-refused, given-taken}
+use Rattle.customer_file.specs.CustomerMachine.{customerReader}
+use Rattle.fields.proofs.Machine.{given-staged}
 use Rattle.figured.proofs.Line.{line-is}
 
 -- what a day is answered: 13, 4, 5 with its place, or 0, which carries nothing
@@ -86,11 +86,7 @@ module _ (s : CustomerFile) (day : List ℕ) where
   kept z = rw z
 
   pub day-given : with (dayCustomer (s .customer) day) (dayStage said) ≡ dayGiven customerReader s day
-  day-given = go (eqb (said .number) 0) refl
-    where
-      go : (t : Bool) → eqb (said .number) 0 ≡ t → with (dayCustomer (s .customer) day) (dayStage said) ≡ dayGiven customerReader s day
-      go true z = (λ i. with (dayCustomer (s .customer) day) (cond (z i) Going (stageOf said))) ∙ given-taken customerReader s day z
-      go false z = (λ i. with (kept z i) (cond (z i) Going (stageOf said))) ∙ given-refused customerReader s day z
+  day-given = given-staged customerReader s day (with (dayCustomer (s .customer) day)) (λ z. refl) (λ z i. with (kept z i) (stageOf said))
 
 -- an answer as its line lists it: the number, and the figures that it counts
 pub line-of : {r : Flat} (s : Said) {xs : List ℕ} → r ≡ flatOf s → r .count ≤ 7 → xs ≡ r .number ∷ r .figures → take (r .count + 1) xs ≡ figuresIn s

@@ -2,7 +2,7 @@
 use mathlib.Core.Bool.{cond}
 use mathlib.Core.List.{List}
 use Prim.Native.Nat.{ℕ, _+_}
-use lib.Dec.{ltb, eqb}
+use lib.Dec.{ltb}
 use lib.ListN.{replicate}
 use Rattle.answers.specs.Said.{Said}
 use Rattle.dates.specs.Dates.{yearDays}
@@ -11,7 +11,7 @@ use Rattle.day_figures.specs.Counts.{yearRun}
 use Rattle.customer.specs.Answers.{shut, dayAnswer, dayCustomer, closeAnswer}
 use Rattle.fields.specs.declared.Stage.{Stage}
 use Rattle.fields.specs.declared.Stage.the-variants.{Going}
-use Rattle.fields.specs.Stages.{stageOf, saidOfStage}
+use Rattle.fields.specs.Stages.{saidOfStage}
 use Rattle.fields.specs.Machine.{Reader, wants, fed}
 use Rattle.customer_head.specs.Header.{customerLayout, openedIn}
 use Rattle.lines.specs.Figures.{statementLine}
@@ -30,10 +30,6 @@ customerStart = record { field = 0; head = replicate 159 0; customer = shut; sta
 
 abbrev pub customerEnded : CustomerFile → Stage → CustomerFile
 customerEnded s stage = record { field = s .field; head = s .head; customer = s .customer; stage = stage }
-
--- where it stands after a day
-abbrev pub dayStage : Said → Stage
-dayStage said = cond (eqb (said .number) 0) Going (stageOf said)
 
 -- the days are those of the charge year, and the customer's year takes them
 abbrev pub customerReader : Reader CustomerFile

@@ -1,6 +1,6 @@
 -- The cases of a machine that reads a file, each with the code's answer on the left: what it wants, and what a field, a day and the end do to it.
 -- Assumes nothing.
-use mathlib.Core.Path.{_≡_, sym, ap, _∙_}
+use mathlib.Core.Path.{_≡_, refl, sym, ap, _∙_}
 use mathlib.Core.Bool.{Bool, true, false, cond}
 use mathlib.Core.List.{List}
 use Prim.Native.Nat.{ℕ, _+_, _≤_, _<_}
@@ -11,9 +11,10 @@ use lib.ListN.{length, take}
 use lib.Seq.{paste}
 use Rattle.packed.specs.Bytes.{laid}
 use Rattle.packed.proofs.Bytes.{laid-whole}
-use Rattle.fields.specs.declared.Stage.the-variants.{Refused, Complete}
+use Rattle.fields.specs.declared.Stage.{Stage}
+use Rattle.fields.specs.declared.Stage.the-variants.{Going, Refused, Complete}
 use Rattle.fields.specs.Layout.{startOf}
-use Rattle.fields.specs.Stages.{going, stageOf}
+use Rattle.fields.specs.Stages.{going, stageOf, dayStage}
 use Rattle.fields.specs.Machine.{Reader, layoutIn, fieldSize, nextSize, wants, headWith, numberWith, fieldFed, dayIn, dayGiven, dayFed, endFed, fed}
 
 module _ {S : Type 0} (r : Reader S) (s : S) where
@@ -109,13 +110,25 @@ module _ {S : Type 0} (r : Reader S) (s : S) where
 
   -- a day's readings, given to the machine of days
   module _ (day : List ℕ) where
-    pub given-refused : eqb (r .said s day .number) 0 ≡ false → r .ended s (stageOf (r .said s day)) ≡ dayGiven r s day
+    given-refused : eqb (r .said s day .number) 0 ≡ false → r .ended s (stageOf (r .said s day)) ≡ dayGiven r s day
     unfolding dayGiven
     given-refused z = rw z
 
-    pub given-taken : eqb (r .said s day .number) 0 ≡ true → r .added s day ≡ dayGiven r s day
+    given-taken : eqb (r .said s day .number) 0 ≡ true → r .added s day ≡ dayGiven r s day
     unfolding dayGiven
     given-taken z = rw z
+
+    -- a machine whose days hand back what they were given where they refuse: it changes its stage alone
+    pub given-staged :
+        (next : Stage → S)
+        → (eqb (r .said s day .number) 0 ≡ true → next Going ≡ r .added s day)
+        → (eqb (r .said s day .number) 0 ≡ false → next (stageOf (r .said s day)) ≡ r .ended s (stageOf (r .said s day)))
+        → next (dayStage (r .said s day)) ≡ dayGiven r s day
+    given-staged next taken refused = go (eqb (r .said s day .number) 0) refl
+      where
+        go : (t : Bool) → eqb (r .said s day .number) 0 ≡ t → next (dayStage (r .said s day)) ≡ dayGiven r s day
+        go true z = (λ i. next (cond (z i) Going (stageOf (r .said s day)))) ∙ taken z ∙ given-taken z
+        go false z = (λ i. next (cond (z i) Going (stageOf (r .said s day)))) ∙ refused z ∙ given-refused z
 
     module _ (b : List ℕ) (l : nextSize r s ≤ length b) (e : day ≡ dayIn r s b) where
       pub day-refused : eqb (r .said s day .number) 0 ≡ false → r .ended s (stageOf (r .said s day)) ≡ dayFed r s b

@@ -18,6 +18,10 @@ stageOf said =
     cond (eqb (said .number) 5) (BadReading (record { day = getD (said .carries) 0 0; position = getD (said .carries) 1 0 }))
     (Refused (said .number))
 
+-- where it stands after a day: it goes on where the day is taken
+abbrev pub dayStage : Said → Stage
+dayStage said = cond (eqb (said .number) 0) Going (stageOf said)
+
 -- what it answers: 13 while it goes on, as closing early does; once all days are in, what closing says
 abbrev pub saidOfStage : Stage → Said → Said
 saidOfStage Going closing = only 13

@@ -1,2 +1,3 @@
 pub mod GridLayout
 pub mod GridClosed
+pub mod GridDays

@@ -12,8 +12,8 @@ ghost use Rattle.grid.specs.Answers.{saidOfGrid};
 ghost use Rattle.lines.specs.Text.{lengthIn, putIn};
 ghost use Rattle.lines.specs.Figures.{figuresIn, refusedLine};
 ghost use Rattle.grid_file.specs.Grid.{gridLayout, windowLines};
-ghost use Rattle.fields.specs.Stages.{stageOf};
-ghost use Rattle.fields.specs.Machine.{fieldFed, dayGiven, dayFed, endFed};
+ghost use Rattle.fields.specs.Stages.{dayStage};
+ghost use Rattle.fields.specs.Machine.{fieldFed, dayFed, endFed};
 ghost use Rattle.grid_file.specs.GridMachine.{gridStart, gridEnded, gridReader, gridWants, gridFed, closedGrid, gridText};
 use answers::Place;
 use fields::Stage;
@@ -99,12 +99,16 @@ fn number_of(answer: GridAnswer) -> u8
     }
 }
 
-// Where a machine stands after a day's refusal.
+// Where a machine stands after a day.
 fn stage_of(answer: GridAnswer) -> Stage
-    ensures { λ r. ⌜ r ≡ stageOf (saidOfGrid answer) ⌝ }
+    ensures { λ r. ⌜ r ≡ dayStage (saidOfGrid answer) ⌝ }
 {
     let GridAnswer::BadReading(place) = answer else {
-        return Stage::Refused(number_of(answer));
+        let number = number_of(answer);
+        if number == 0 {
+            return Stage::Going;
+        }
+        return Stage::Refused(number);
     };
     Stage::BadReading(place)
 }
@@ -213,25 +217,7 @@ impl GridFile {
         }
     }
 
-    // A day's readings are given to the grid's series.
-    fn give_day(self, day: &[u32]) -> GridFile
-        ensures { λ r. ⌜ r ≡ dayGiven gridReader self (now (day .entry)) ⌝ }
-    {
-        let step = self.grid.day(day);
-        let answer = step.answer;
-        if number_of(answer) != 0 {
-            return self.ended(stage_of(answer));
-        }
-        let head = self.head;
-        let next = step.grid;
-        GridFile {
-            field: self.field,
-            head,
-            grid: next,
-            stage: Stage::Going,
-        }
-    }
-
+    // A day's readings are given to the grid's series, which hands back itself where it refuses them.
     fn take_day(self, b: &[u8]) -> GridFile
         ensures { λ r. ⌜ r ≡ dayFed gridReader self (now (b .entry)) ⌝ }
     {
@@ -246,7 +232,16 @@ impl GridFile {
             return self.ended(Stage::Refused(4));
         }
         let readings = fields::readings_in(b);
-        self.give_day(&readings[..n])
+        let step = self.grid.day(&readings[..n]);
+        let answer = step.answer;
+        let head = self.head;
+        let grid = step.grid;
+        GridFile {
+            field: self.field,
+            head,
+            grid,
+            stage: stage_of(answer),
+        }
     }
 
     // After the last day: a byte that is left over is 4.

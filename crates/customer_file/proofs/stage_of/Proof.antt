@@ -8,8 +8,7 @@ use Rattle.tariff.specs.declared.Decision.{Decision}
 use Rattle.tariff.specs.Answers.{saidOf}
 use Rattle.figured.specs.declared.Flat.{Flat}
 use Rattle.fields.specs.declared.Stage.the-variants.{Refused}
-use Rattle.fields.specs.Stages.{stageOf}
-use Rattle.customer_file.specs.CustomerMachine.{dayStage}
+use Rattle.fields.specs.Stages.{stageOf, dayStage}
 use Rattle.figured.proofs.Line.{decision-small}
 use Rattle.customer_file.proofs.CustomerCases.{others, stage-number}
 use types.Run.{miss}

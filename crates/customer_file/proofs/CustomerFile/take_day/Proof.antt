@@ -9,14 +9,14 @@ use lib.ListN.{length, take}
 use Rattle.day_figures.specs.Counts.{yearRun}
 use Rattle.fields.specs.Machine.{dayGiven}
 use Rattle.fields.specs.Series.{readingsOf}
-use Rattle.customer_file.specs.CustomerMachine.{dayStage, customerReader}
+use Rattle.fields.specs.Stages.{dayStage}
+use Rattle.customer_file.specs.CustomerMachine.{customerReader}
 use Rattle.fields.proofs.Bytes.{readings-held}
 use Rattle.fields.proofs.Machine.{day-cut, day-held}
 use Rattle.customer_file.proofs.CustomerCases.{day-given}
 use Rattle.readings.proofs.Runs.{len-most}
 use Rattle.customer_file.proofs.CustomerFile.take_day.Statement.{statement}
 use Rattle.customer_file.proofs.CustomerFile.take_day.Tie as tie
-use Rattle.day_figures.specs.Counts.{yearRun}
 
 mul-if1 : tie.Need-mul-if1
 mul-if1 c = let s = c .before .before .args .self in omega (arith, c .day-len .ensures, len-most (yearRun (s .customer .terms .year)) (s .customer .seen))

@@ -1,17 +1,19 @@
 -- `grid_file::GridFile::take_day` meets its contract, a case for each return.
 -- Assumes nothing.
-use Rattle.grid.specs.Curves.{periodRun}
 use mathlib.Core.Path.{_≡_, sym, ap, _∙_}
 use Prim.Native.Nat.{ℕ, _*_}
 use native.Mathlib.Omega.{arith}
 use borrow.Author.Needs.{needs}
 use lib.Seq.{length-take-le}
 use lib.ListN.{length, take}
+use Rattle.grid.specs.Curves.{periodRun}
 use Rattle.fields.specs.Machine.{dayGiven}
 use Rattle.fields.specs.Series.{readingsOf}
+use Rattle.fields.specs.Stages.{dayStage}
+use Rattle.grid_file.specs.GridMachine.{gridReader}
 use Rattle.fields.proofs.Bytes.{readings-held}
 use Rattle.fields.proofs.Machine.{day-cut, day-held}
-use Rattle.grid_file.specs.GridMachine.{gridReader}
+use Rattle.grid_file.proofs.GridDays.{day-given}
 use Rattle.readings.proofs.Runs.{len-most}
 use Rattle.grid_file.proofs.GridFile.take_day.Statement.{statement}
 use Rattle.grid_file.proofs.GridFile.take_day.Tie as tie
@@ -28,23 +30,28 @@ array-share-prefix-readings c =
     let h : length (c .readings-in .result) ≡ 100 = search needs in
     omega (arith, c .before .before .day-len .ensures, len-most (periodRun (s .grid .year)) (s .grid .seen))
 
-slice-aggregate-give-day : tie.Need-slice-aggregate-give-day
-slice-aggregate-give-day c =
+slice-aggregate-day : tie.Need-slice-aggregate-day
+slice-aggregate-day c =
     let s = c .before .before .before .before .before .args .self in
     let h : length (c .before .readings-in .result) ≡ 100 = search needs in
     sym (length-take-le _ _ (omega (arith, c .before .before .before .day-len .ensures, len-most (periodRun (s .grid .year)) (s .grid .seen))))
 
 returns-2 : tie.Need-returns-2
 returns-2 c =
-    let a = c .before .before .before .before .before .before .args in
-    let n = c .before .before .before .before .day-len .result in
+    let a = c .before .before .before .before .before .before .before .before .before .args in
+    let len = c .before .before .before .before .before .before .before .day-len in
+    let all = c .before .before .before .before .before .readings-in in
     let few = len-most (periodRun (a .self .grid .year)) (a .self .grid .seen) in
-    let held = readings-held (a .b .now) n (omega (arith, c .before .before .before .before .day-len .ensures, few)) (omega arith) in
     let day =
-    ap (take n) (c .before .before .readings-in .ensures)
-    ∙ held
-    ∙ ap (λ (n : ℕ). readingsOf (take (4 * n) (a .b .now))) (c .before .before .before .before .day-len .ensures) in
-    c .give-day .ensures ∙ ap (dayGiven gridReader (a .self)) day ∙ day-held gridReader (a .self) (a .b .now) (omega (arith, c .before .before .before .before .day-len .ensures))
+    ap (take (len .result)) (all .ensures)
+    ∙ readings-held (a .b .now) (len .result) (omega (arith, len .ensures, few)) (omega arith)
+    ∙ ap (λ (n : ℕ). readingsOf (take (4 * n) (a .b .now))) (len .ensures) in
+    let step = c .before .before .before .day .ensures in
+    let stage = c .stage-of .ensures ∙ ap dayStage (step .0) in
+    (λ i. record { field = a .self .field; head = a .self .head; grid = step .1 i; stage = stage i })
+    ∙ day-given (a .self) (take (len .result) (all .result))
+    ∙ ap (dayGiven gridReader (a .self)) day
+    ∙ day-held gridReader (a .self) (a .b .now) (omega (arith, len .ensures))
 
 pub take-day-spec : {M : Type 1} → statement M
 take-day-spec =
@@ -56,6 +63,7 @@ take-day-spec =
     returns
     (λ c κs. search needs)  -- readings-in-requires
     array-share-prefix-readings
-    slice-aggregate-give-day
-    (λ c κs. search needs)  -- give-day-requires
+    slice-aggregate-day
+    (λ c κs. search needs)  -- day-requires
+    (λ c κs. search needs)  -- stage-of-requires
     returns-2)

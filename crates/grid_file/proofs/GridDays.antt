@@ -1,0 +1,30 @@
+-- What the machine that reads a grid file is after a day: the grid's series hands back itself where it refuses the day.
+-- Assumes nothing.
+use mathlib.Core.Path.{_≡_, refl}
+use mathlib.Core.Bool.{false}
+use mathlib.Core.List.{List}
+use Prim.Native.Nat.{ℕ}
+use lib.Dec.{eqb}
+use Rattle.answers.specs.Said.{Said}
+use Rattle.grid.specs.declared.Grid.{Grid}
+use Rattle.grid.specs.Answers.{dayAnswer, dayGrid}
+use Rattle.fields.specs.declared.Stage.{Stage}
+use Rattle.fields.specs.Stages.{stageOf, dayStage}
+use Rattle.fields.specs.Machine.{dayGiven}
+use Rattle.fields.proofs.Machine.{given-staged}
+use Rattle.grid_file.specs.declared.GridFile.{GridFile}
+use Rattle.grid_file.specs.GridMachine.{gridReader}
+
+module _ (s : GridFile) (day : List ℕ) where
+  abbrev said : Said
+  said = dayAnswer (s .grid) day
+
+  abbrev with : Grid → Stage → GridFile
+  with g stage = record { field = s .field; head = s .head; grid = g; stage = stage }
+
+  kept : eqb (said .number) 0 ≡ false → dayGrid (s .grid) day ≡ s .grid
+  unfolding dayGrid
+  kept z = rw z
+
+  pub day-given : with (dayGrid (s .grid) day) (dayStage said) ≡ dayGiven gridReader s day
+  day-given = given-staged gridReader s day (with (dayGrid (s .grid) day)) (λ z. refl) (λ z i. with (kept z i) (stageOf said))
