@@ -2,10 +2,10 @@
 // Each is the called function and no more; its promise is that function's, through the same definitions.
 ghost use mathlib.Core.Path.{_≡_};
 ghost use Rattle.customer.specs.Answers.{decideAnswer};
-ghost use Rattle.figured.specs.Flat.{flatOf};
+ghost use Rattle.flat.specs.Flat.{flatOf};
 ghost use Rattle.bench_customer.specs.Days.{customerAfter, openDays, customerDaysAnswer, pricesOf};
 use customer::Customer;
-use figured::Flat;
+use flat::Flat;
 use tariff::Prices;
 use tariff::Row;
 

@@ -4,9 +4,9 @@ ghost use mathlib.Core.Path.{_≡_};
 ghost use lib.ListN.{length};
 ghost use Rattle.dates.specs.Period.{periodDays};
 ghost use Rattle.grid.specs.Answers.{saidOfGrid, windowsAnswer, windowsBuffer};
-ghost use Rattle.figured.specs.Flat.{flatOf};
+ghost use Rattle.flat.specs.Flat.{flatOf};
 ghost use Rattle.bench_grid.specs.Days.{gridAfter, gridDaysAnswer, gridDaysBuffer};
-use figured::Flat;
+use flat::Flat;
 use grid::Grid;
 use grid::GridAnswer;
 
@@ -14,15 +14,15 @@ fn of_grid(answer: GridAnswer) -> Flat
     ensures { λ r. ⌜ r ≡ flatOf (saidOfGrid answer) ⌝ }
 {
     match answer {
-        GridAnswer::Done => figured::bare(0),
-        GridAnswer::Short => figured::bare(14),
-        GridAnswer::YearOut => figured::bare(1),
-        GridAnswer::LevelOut => figured::bare(2),
-        GridAnswer::WrongLength => figured::bare(4),
-        GridAnswer::BadReading(place) => figured::with_place(place),
-        GridAnswer::NoPeak => figured::bare(7),
-        GridAnswer::Malformed => figured::bare(12),
-        GridAnswer::DayOut => figured::bare(13),
+        GridAnswer::Done => flat::bare(0),
+        GridAnswer::Short => flat::bare(14),
+        GridAnswer::YearOut => flat::bare(1),
+        GridAnswer::LevelOut => flat::bare(2),
+        GridAnswer::WrongLength => flat::bare(4),
+        GridAnswer::BadReading(place) => flat::with_place(place),
+        GridAnswer::NoPeak => flat::bare(7),
+        GridAnswer::Malformed => flat::bare(12),
+        GridAnswer::DayOut => flat::bare(13),
     }
 }
 

@@ -18,8 +18,8 @@ use Rattle.tariff.specs.Answers.{saidOf}
 use Rattle.day_figures.specs.Counts.{yearRun}
 use Rattle.customer.specs.declared.Customer.{Customer}
 use Rattle.customer.specs.Answers.{overfull, dayAnswer, dayCustomer}
-use Rattle.figured.specs.declared.Flat.{Flat}
-use Rattle.figured.specs.Flat.{flatOf}
+use Rattle.flat.specs.declared.Flat.{Flat}
+use Rattle.flat.specs.Flat.{flatOf}
 use Rattle.lines.specs.Figures.{figuresIn}
 use Rattle.fields.specs.declared.Stage.the-variants as Stage
 use Rattle.fields.specs.declared.Stage.{Stage}
@@ -29,7 +29,7 @@ use Rattle.fields.specs.Machine.{dayGiven}
 use Rattle.customer_file.specs.declared.CustomerFile.{CustomerFile}
 use Rattle.customer_file.specs.CustomerMachine.{customerReader}
 use Rattle.fields.proofs.Machine.{given-staged}
-use Rattle.figured.proofs.Line.{line-is}
+use Rattle.flat.proofs.Line.{line-is}
 
 -- what a day is answered: 13, 4, 5 with its place, or 0, which carries nothing
 module _ (P : Said → Type 0) (thirteen : P (only 13)) (four : P (only 4)) (five : (place : Place) → P (badPlace place)) (taken : P (only 0)) where

@@ -7,7 +7,7 @@ ghost use Prim.Native.Nat.{_≤_, _<_};
 ghost use Rattle.customer_head.specs.Header.{spanOf};
 ghost use Rattle.tariff.specs.Answers.{saidOf};
 ghost use Rattle.customer.specs.Answers.{closeAnswer};
-ghost use Rattle.figured.specs.Flat.{flatOf};
+ghost use Rattle.flat.specs.Flat.{flatOf};
 ghost use Rattle.lines.specs.Text.{lengthIn, putIn};
 ghost use Rattle.fields.specs.Stages.{dayStage, saidOfStage};
 ghost use Rattle.fields.specs.Machine.{fieldFed, dayFed, endFed};
@@ -15,7 +15,7 @@ ghost use Rattle.customer_file.specs.CustomerMachine.{openedWith, custom
 use customer::Customer;
 use customer_head::Span;
 use fields::Stage;
-use figured::Flat;
+use flat::Flat;
 use readings::Run;
 use tariff::Decision;
 
@@ -191,9 +191,9 @@ impl CustomerFile {
     {
         let stage = self.stage;
         match stage {
-            Stage::Going => figured::bare(13),
-            Stage::Refused(number) => figured::bare(number as u64),
-            Stage::BadReading(place) => figured::with_place(place),
+            Stage::Going => flat::bare(13),
+            Stage::Refused(number) => flat::bare(number as u64),
+            Stage::BadReading(place) => flat::with_place(place),
             Stage::Complete => figured::of_decision(self.customer.close()),
         }
     }
@@ -204,7 +204,7 @@ impl CustomerFile {
     {
         let answer = self.answer();
         let n = answer.count as usize + 1;
-        let line = figured::line_of(answer);
+        let line = flat::line_of(answer);
         lines::figures_text(&line[..n], out)
     }
 }

@@ -100,9 +100,9 @@ fn next_prices() -> Prices {
 
 // The number, then each figure that it carries.
 fn write_answer(answer: Decision) {
-    let flat = figured::of_decision(answer);
-    let last = flat.count as usize;
-    let line = figured::line_of(flat);
+    let listed = figured::of_decision(answer);
+    let last = listed.count as usize;
+    let line = flat::line_of(listed);
     for i in 0..line.len() {
         if i <= last {
             write_next(line[i]);

@@ -4,7 +4,7 @@ use mathlib.Core.Path.{ap, _∙_}
 use borrow.Author.Needs.{needs}
 use Rattle.tariff.specs.declared.Prices.{Prices}
 use Rattle.customer.specs.Answers.{decideAnswer}
-use Rattle.figured.specs.Flat.{flatOf}
+use Rattle.flat.specs.Flat.{flatOf}
 use Rattle.bench_customer.proofs.bench_decide.Statement.{statement}
 use Rattle.bench_customer.proofs.bench_decide.Tie as tie
 

@@ -5,7 +5,7 @@ use borrow.Author.Needs.{needs}
 use lib.ListN.{length}
 use Rattle.grid.specs.declared.Grid.{Grid}
 use Rattle.grid.specs.Answers.{closeAnswer, closeBuffer}
-use Rattle.figured.specs.Flat.{flatOf}
+use Rattle.flat.specs.Flat.{flatOf}
 use Rattle.bench_grid.proofs.bench_grid_days.Statement.{statement}
 use Rattle.bench_grid.proofs.bench_grid_days.Tie as tie
 

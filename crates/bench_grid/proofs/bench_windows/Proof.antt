@@ -2,7 +2,7 @@
 -- Assumes nothing.
 use mathlib.Core.Path.{ap, _∙_}
 use borrow.Author.Needs.{needs}
-use Rattle.figured.specs.Flat.{flatOf}
+use Rattle.flat.specs.Flat.{flatOf}
 use Rattle.bench_grid.proofs.bench_windows.Statement.{statement}
 use Rattle.bench_grid.proofs.bench_windows.Tie as tie
 

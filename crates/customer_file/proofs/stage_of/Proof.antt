@@ -6,7 +6,7 @@ use borrow.Author.Tests.{eq-eqb, ne-eqb}
 use borrow.Author.Needs.{needs}
 use Rattle.tariff.specs.declared.Decision.{Decision}
 use Rattle.tariff.specs.Answers.{saidOf}
-use Rattle.figured.specs.declared.Flat.{Flat}
+use Rattle.flat.specs.declared.Flat.{Flat}
 use Rattle.fields.specs.declared.Stage.the-variants.{Refused}
 use Rattle.fields.specs.Stages.{stageOf, dayStage}
 use Rattle.figured.proofs.Line.{decision-small}

@@ -1,9 +1,9 @@
--- `figured::with_place` meets its contract: the place, as day then position.
+-- `flat::with_place` meets its contract: the place, as day then position.
 -- Assumes nothing.
 use mathlib.Core.Path.{refl}
 use borrow.Author.Needs.{needs}
-use Rattle.figured.proofs.with_place.Statement.{statement}
-use Rattle.figured.proofs.with_place.Tie as tie
+use Rattle.flat.proofs.with_place.Statement.{statement}
+use Rattle.flat.proofs.with_place.Tie as tie
 
 pub with-place-spec : {M : Type 1} → statement M
 with-place-spec =

@@ -5,7 +5,7 @@ use mathlib.Core.List.{List, [], _∷_}
 use Prim.Native.Nat.{ℕ, _≤_}
 use lib.ListN.{length, getD}
 use Rattle.answers.specs.Said.{Said}
-use Rattle.figured.specs.declared.Flat.{Flat}
+use Rattle.flat.specs.declared.Flat.{Flat}
 
 -- no number of the table carries more than seven figures: c, g, M, S, H with its day and its quarter
 abbrev pub Few : List ℕ → Type 0

@@ -1,13 +1,13 @@
--- `figured::line_of` meets its contract: the seven places that it reads are all of the figures.
+-- `flat::line_of` meets its contract: the seven places that it reads are all of the figures.
 -- Assumes nothing.
 use mathlib.Core.Path.{_≡_, ap}
 use mathlib.Core.List.{List, _∷_}
 use Prim.Native.Nat.{ℕ}
 use lib.ListN.{length}
 use borrow.Author.Needs.{needs}
-use Rattle.figured.proofs.Line.{seven-are}
-use Rattle.figured.proofs.line_of.Statement.{statement}
-use Rattle.figured.proofs.line_of.Tie as tie
+use Rattle.flat.proofs.Line.{seven-are}
+use Rattle.flat.proofs.line_of.Statement.{statement}
+use Rattle.flat.proofs.line_of.Tie as tie
 
 returns : tie.Need-returns
 returns c =

@@ -1,8 +1,0 @@
--- `figured::bare` meets its contract: a number alone, and seven zeros.
--- Assumes nothing.
-use mathlib.Core.Path.{refl}
-use Rattle.figured.proofs.bare.Statement.{statement}
-use Rattle.figured.proofs.bare.Tie as tie
-
-pub bare-spec : {M : Type 1} → statement M
-bare-spec = tie.close (tie.spec (λ c. refl))
