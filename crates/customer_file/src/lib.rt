@@ -83,7 +83,7 @@ impl CustomerFile {
         ensures { λ r. ⌜ (r ≡ customerWants self) × (r ≤ 400) ⌝ }
     {
         let stage = self.stage;
-        if fields::is_going(stage) {
+        if field_steps::is_going(stage) {
             let head = self.head;
             let size = customer_head::span_of(&head, self.field).width;
             if 0 < size {
@@ -92,7 +92,7 @@ impl CustomerFile {
             let year = self.customer.terms.year;
             let seen = self.customer.seen;
             if seen < dates::year_days(year) {
-                return fields::READING_BYTES
+                return field_steps::READING_BYTES
                     * readings::day_len(
                         Run {
                             year,
@@ -140,10 +140,10 @@ impl CustomerFile {
             },
             self.customer.seen,
         );
-        if b.len() < fields::READING_BYTES * n {
+        if b.len() < field_steps::READING_BYTES * n {
             return self.ended(Stage::Refused(4));
         }
-        let readings = fields::readings_in(b);
+        let readings = field_steps::readings_in(b);
         let step = self.customer.day(&readings[..n]);
         let answer = step.answer;
         let head = self.head;
@@ -171,7 +171,7 @@ impl CustomerFile {
         ensures { λ r. ⌜ r ≡ customerFed self (now (b .entry)) ⌝ }
     {
         let stage = self.stage;
-        if fields::is_going(stage) {
+        if field_steps::is_going(stage) {
             let head = self.head;
             let span = customer_head::span_of(&head, self.field);
             if 0 < span.width {

@@ -155,7 +155,7 @@ fn holiday_no(head: &[u8], j: usize) -> u8
 {
     let day = packed::two_at(head, HOLIDAYS_AT + HOLIDAY_BYTES * j);
     let last = holiday_before(head, j);
-    fields::number_if(holidays::unfit(packed::two_at(head, YEAR_AT), last, day), 3)
+    field_steps::number_if(holidays::unfit(packed::two_at(head, YEAR_AT), last, day), 3)
 }
 
 // Price j, at place i: in each row the capacity price, then the energy price. Behind the last price there is none.
@@ -167,9 +167,9 @@ fn price_no(head: &[u8], i: usize, j: usize) -> u8
     }
     let price = packed::four_at(head, i);
     if j % 2 == 0 {
-        return fields::number_if(answers::capacity_out(price), 6);
+        return field_steps::number_if(answers::capacity_out(price), 6);
     }
-    fields::number_if(answers::energy_out(price), 6)
+    field_steps::number_if(answers::energy_out(price), 6)
 }
 
 // The number that refuses field k; 0 where none does, and where there is no field.
@@ -177,7 +177,7 @@ pub fn refusal(head: &[u8], k: usize) -> u8
     ensures { λ r. ⌜ r ≡ customerLayout (now (head .entry)) .refusal k ⌝ }
 {
     if k < FIRST_FIELDS {
-        return fields::number_if(first_fails(head, k), NUMBERS[k]);
+        return field_steps::number_if(first_fails(head, k), NUMBERS[k]);
     }
     let n = count_of(head);
     if k < FIRST_FIELDS + n {

@@ -72,15 +72,15 @@ fn refusal(head: &[u8], k: usize) -> u8
     ensures { λ r. ⌜ r ≡ gridLayout (now (head .entry)) .refusal k ⌝ }
 {
     if k < 1 {
-        return fields::number_if(packed::unlike(head, 0, b"GRD"), 12);
+        return field_steps::number_if(packed::unlike(head, 0, b"GRD"), 12);
     }
     if k < 2 {
-        return fields::number_if(packed::two_at(head, VERSION_AT) != packed::VERSION, 12);
+        return field_steps::number_if(packed::two_at(head, VERSION_AT) != packed::VERSION, 12);
     }
     if k < 3 {
-        return fields::number_if(answers::year_out(packed::two_at(head, YEAR_AT)), 1);
+        return field_steps::number_if(answers::year_out(packed::two_at(head, YEAR_AT)), 1);
     }
-    fields::number_if(answers::level_out(head[LEVEL_AT]), 2)
+    field_steps::number_if(answers::level_out(head[LEVEL_AT]), 2)
 }
 
 fn number_of(answer: GridAnswer) -> u8
@@ -175,7 +175,7 @@ impl GridFile {
         ensures { λ r. ⌜ (r ≡ gridWants self) × (r ≤ 400) ⌝ }
     {
         let stage = self.stage;
-        if fields::is_going(stage) {
+        if field_steps::is_going(stage) {
             let k = self.field;
             if k < FIELDS {
                 let head = self.head;
@@ -184,7 +184,8 @@ impl GridFile {
             let year = self.grid.year;
             let seen = self.grid.seen;
             if seen < dates::period_days(year) {
-                return fields::READING_BYTES * readings::day_len(Run { year, period: true }, seen);
+                return field_steps::READING_BYTES
+                    * readings::day_len(Run { year, period: true }, seen);
             }
             return 1;
         }
@@ -228,10 +229,10 @@ impl GridFile {
             },
             self.grid.seen,
         );
-        if b.len() < fields::READING_BYTES * n {
+        if b.len() < field_steps::READING_BYTES * n {
             return self.ended(Stage::Refused(4));
         }
-        let readings = fields::readings_in(b);
+        let readings = field_steps::readings_in(b);
         let step = self.grid.day(&readings[..n]);
         let answer = step.answer;
         let head = self.head;
@@ -259,7 +260,7 @@ impl GridFile {
         ensures { λ r. ⌜ r ≡ gridFed self (now (b .entry)) ⌝ }
     {
         let stage = self.stage;
-        if fields::is_going(stage) {
+        if field_steps::is_going(stage) {
             if self.field < FIELDS {
                 return self.take_field(b);
             }
