@@ -4,17 +4,38 @@ use mathlib.Core.Path.{_≡_, refl, sym, ap, _∙_}
 use mathlib.Core.Bool.{Bool, false, cond, or-true}
 use mathlib.Core.List.{List}
 use Prim.Native.Nat.{ℕ, _+_, _<_}
-use Rattle.over.specs.Over.{sumOver, anyOver}
+use Rattle.over.specs.Over.{sumOver, anyOver, largestIn, placeIn}
 use Rattle.over.proofs.Largest.{largest-none, largest-more, largest-cong}
 use Rattle.over.proofs.Sums.{sum-none, sum-more, sum-cong}
 use Rattle.over.proofs.Tests.{any-none, any-more}
-use Rattle.over.proofs.Inside.{in-none, in-cong, place-cong, Placed, placed}
+use Rattle.over.proofs.Inside.{in-none, in-cong, place-cong, newer, Placed, placed}
 use Rattle.over.proofs.Inside.Placed.{nowhere, stays, moves}
 use Rattle.readings.specs.declared.Run.{Run}
 use Rattle.readings.specs.Runs.{dayLen, quarterOf, reading}
 use Rattle.readings.specs.Legal.{dayPeak, peakOf}
 use Rattle.tariff.specs.declared.Figures.{Figures}
 use Rattle.figures.specs.Figures.{noFigures, sumOf, anyOn, highOn, quarterOn, highIn, highDay, figuresOf, DayRecord, recordOf, better, takenIn}
+
+-- one place more: the largest value then, and a figure g of its first place, 0 where no place passes
+module _ (p : ℕ → Bool) (f : ℕ → ℕ) (n : ℕ) where
+  value-more : cond (newer p f n) (f n) (largestIn p f n) ≡ largestIn p f (n + 1)
+  value-more = go (placed p f n)
+    where
+      go : Placed p f n → cond (newer p f n) (f n) (largestIn p f n) ≡ largestIn p f (n + 1)
+      go (nowhere s t v) = rw (t, v)
+      go (stays s b e) = rw (b, e .value-is)
+      go (moves t b e) = rw (b, e .value-is)
+
+  abbrev figureOf : (ℕ → ℕ) → ℕ → ℕ
+  figureOf g m = cond (anyOver p m) (g (placeIn p f m)) 0
+
+  place-more : (g : ℕ → ℕ) → cond (newer p f n) (g n) (figureOf g n) ≡ figureOf g (n + 1)
+  place-more g = go (placed p f n)
+    where
+      go : Placed p f n → cond (newer p f n) (g n) (figureOf g n) ≡ figureOf g (n + 1)
+      go (nowhere s t v) = rw (any-more p n, t, s)
+      go (stays s b e) = rw (b, any-more p n, s, e .place-is)
+      go (moves t b e) = rw (b, any-more p n, t, or-true (anyOver p n), e .place-is)
 
 module _ (run : Run) (inWindow : ℕ → ℕ → Bool) where
   -- a day's record depends on the day's own readings only
@@ -57,30 +78,21 @@ module _ (run : Run) (inWindow : ℕ → ℕ → Bool) where
 
     high-more : cond (better before today) (today .high) (before .high) ≡ after .high
     unfolding figuresOf highIn
-    high-more = go (placed (anyOn run inWindow) on n)
-      where
-        go : Placed (anyOn run inWindow) on n → cond (better before today) (today .high) (before .high) ≡ after .high
-        go (nowhere s t v) = rw (t, v)
-        go (stays s b e) = rw (b, e .value-is)
-        go (moves t b e) = rw (b, e .value-is)
+    high-more = value-more (anyOn run inWindow) on n
+
+    -- a law of its own, so that another definition of the day is refused here and not searched for in the two below
+    where-is : (m : ℕ) → highDay run inWindow xs m ≡ placeIn (anyOn run inWindow) on m
+    unfolding highDay
+    where-is m = refl
 
     day-more : cond (better before today) (n + 1) (before .day) ≡ after .day
-    unfolding figuresOf highIn highDay
-    day-more = go (placed (anyOn run inWindow) on n)
-      where
-        go : Placed (anyOn run inWindow) on n → cond (better before today) (n + 1) (before .day) ≡ after .day
-        go (nowhere s t v) = rw (any-more (anyOn run inWindow) n, t, s)
-        go (stays s b e) = rw (b, any-more (anyOn run inWindow) n, s, e .place-is)
-        go (moves t b e) = rw (b, any-more (anyOn run inWindow) n, t, or-true (anyOver (anyOn run inWindow) n), e .place-is)
+    unfolding figuresOf highIn
+    day-more = rw (where-is n, where-is (n + 1)) (place-more (anyOn run inWindow) on n (λ d. d + 1))
 
     quarter-more : cond (better before today) (today .quarter) (before .quarter) ≡ after .quarter
-    unfolding figuresOf highIn highDay
-    quarter-more = go (placed (anyOn run inWindow) on n)
-      where
-        go : Placed (anyOn run inWindow) on n → cond (better before today) (today .quarter) (before .quarter) ≡ after .quarter
-        go (nowhere s t v) = rw (any-more (anyOn run inWindow) n, t, s)
-        go (stays s b e) = rw (b, any-more (anyOn run inWindow) n, s, e .place-is)
-        go (moves t b e) = rw (b, any-more (anyOn run inWindow) n, t, or-true (anyOver (anyOn run inWindow) n), e .place-is)
+    unfolding figuresOf highIn
+    quarter-more =
+        rw (where-is n, where-is (n + 1)) (place-more (anyOn run inWindow) on n (λ d. quarterOn run inWindow d (reading run xs d)))
 
     taken-series : takenIn before (n + 1) today ≡ after
     unfolding takenIn figuresOf peakOf dayPeak sumOf
