@@ -143,7 +143,7 @@ fn whole_answer(terms: Terms, series: &[u32]) -> Decision
         return Decision::BadReading(legal::first_illegal(run, series, CUSTOMER_MOST));
     }
     let list = terms.prices;
-    tariff::judge(figures, terms.level, list, terms.option)
+    decision::judge(figures, terms.level, list, terms.option)
 }
 
 // The decision over a whole series. Refuses 12, 1, 2, 12, 3, 6, 4, 5, 8, 9, 10, 11 in this order; else 0 with the charge.
@@ -304,6 +304,6 @@ impl Customer {
         }
         let figures = self.figures;
         let prices = terms.prices;
-        tariff::judge(figures, terms.level, prices, terms.option)
+        decision::judge(figures, terms.level, prices, terms.option)
     }
 }

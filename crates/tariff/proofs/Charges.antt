@@ -1,8 +1,8 @@
 -- Laws of the charges: the sum split at the parts of a cent gives the same charge, its products are small, it is the exact value
--- rounded half up, the floor is the least, and no charge grows as the capacity figure falls.
+-- rounded half up, the floor is the least, no charge grows as the capacity figure falls, and the calls give the charges of legal prices.
 -- Assumes nothing.
 use mathlib.Core.Path.{_≡_, sym, ap, ap₂, _∙_}
-use mathlib.Core.Bool.{Bool}
+use mathlib.Core.Bool.{Bool, true, false}
 use Prim.Native.Nat.{ℕ, _+_, _*_, _/_, _%_, _≤_, _<_, max}
 use native.Mathlib.Nat.{mul-le-mul, mul-le-mul-right, add-mul, div-add-mod', mul-assoc, mul-comm}
 use native.Mathlib.Omega.{arith}
@@ -10,7 +10,8 @@ use Rattle.answers.specs.Ruling.{capacityMost, energyMost, floorParts}
 use Rattle.tariff.specs.declared.Row.{Row}
 use Rattle.tariff.specs.declared.Prices.{Prices}
 use Rattle.tariff.specs.declared.Figures.{Figures}
-use Rattle.tariff.specs.Charges.{centParts, capacityParts, partsFor, chargeFor, general, reduced, floorOf, charge}
+use Rattle.tariff.specs.Prices.{pricesOut}
+use Rattle.tariff.specs.Charges.{centParts, capacityParts, partsFor, chargeFor, general, reduced, floorOf, charge, generalIn, flooredIn}
 
 module _ (power : ℕ) (row : Row) (sum : ℕ) where
   pub charge-split :
@@ -62,3 +63,22 @@ charge-mono a b row sum h =
 pub charge-of : (f : Figures) (p : Prices) (option : Bool) {r g : ℕ} → r ≡ reduced f p option → g ≡ general f p → max r (floorOf g) ≡ charge f p option
 unfolding charge
 charge-of f p option a e = ap₂ max a (ap floorOf e)
+
+-- what the calls give: the charges themselves with legal prices, else 0
+module _ (f : Figures) (p : Prices) where
+  pub general-out : pricesOut p ≡ true → 0 ≡ generalIn f p
+  unfolding generalIn
+  general-out q = simp q
+
+  pub general-in : pricesOut p ≡ false → generalIn f p ≡ general f p
+  unfolding generalIn
+  general-in q = simp q
+
+  module _ (option : Bool) where
+    pub floored-out : pricesOut p ≡ true → 0 ≡ flooredIn f p option
+    unfolding flooredIn
+    floored-out q = simp q
+
+    pub floored-in : pricesOut p ≡ false → flooredIn f p option ≡ charge f p option
+    unfolding flooredIn
+    floored-in q = simp q

@@ -1,4 +1,4 @@
--- Nothing else meets the promises of this crate: what an answer says fixes the answer.
+-- Nothing else meets the promises of a decision: what an answer says fixes the answer.
 -- Assumes nothing.
 use mathlib.Core.Path.{_≡_, refl, sym, ap, _∙_}
 use mathlib.Core.Bool.{cond}

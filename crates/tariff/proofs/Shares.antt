@@ -12,7 +12,7 @@ use Rattle.over.specs.Over.{joined, allOver}
 use Rattle.over.proofs.Tests.{all-at}
 use Rattle.answers.specs.Ruling.{lastLevel, shareOf, Level}
 
--- the code's table
+-- the table of the code that decides
 abbrev shares : List ℕ
 shares = 5 ∷ 10 ∷ 10 ∷ 20 ∷ 20 ∷ 30 ∷ 30 ∷ []
 

@@ -7,6 +7,7 @@ use Rattle.answers.specs.Ruling.{rowQuarters, floorParts}
 use Rattle.tariff.specs.declared.Row.{Row}
 use Rattle.tariff.specs.declared.Prices.{Prices}
 use Rattle.tariff.specs.declared.Figures.{Figures}
+use Rattle.tariff.specs.Prices.{pricesOut}
 
 -- "Hours of use are below 2,500 exactly when S < 10,000 M; then the low row applies, else the high row." (M 0: the high row.)
 abbrev pub fewHours : Figures → Bool
@@ -50,3 +51,10 @@ floorOf g = (g + (floorParts - 1)) / floorParts
 -- "Charge c: the larger of r and f."
 unfoldable pub charge : Figures → Prices → Bool → ℕ
 charge f p option = max (reduced f p option) (floorOf (general f p))
+
+-- g and c as the calls give them, for any prices: 0 where a price is above its limit ("6", Numbered answers), for then no charge is named
+unfoldable pub generalIn : Figures → Prices → ℕ
+generalIn f p = cond (pricesOut p) 0 (general f p)
+
+unfoldable pub flooredIn : Figures → Prices → Bool → ℕ
+flooredIn f p option = cond (pricesOut p) 0 (charge f p option)

@@ -1,30 +1,18 @@
-// Prices, charges, and the decision over a year's figures: document 01, Customer's year and decision.
+// Prices and charges of a year's figures, and what is said of a decision over them: document 01, Customer's year and decision. The
+// decision itself is taken in the room above.
 // Main theorem: a lower in-window peak, with all else the same, never costs more, and an acceptance stays one (`never-more`, `stays`,
 // proofs/Demand).
 ghost use mathlib.Core.Path.{_≡_};
 ghost use Prim.Native.Nat.{_≤_, max};
-ghost use Rattle.answers.specs.Ruling.{shareOf, Level};
 ghost use Rattle.tariff.specs.Prices.{rowOut, pricesOut, LegalRow, LegalPrices};
-ghost use Rattle.tariff.specs.Charges.{fewHours, rowOf, chargeFor, chargeMost, general, reduced, floorOf};
-ghost use Rattle.tariff.specs.Answers.{saidOf, plainOf, peaksOf};
-ghost use Rattle.tariff.specs.Decision.{moved, shareShort, eligibleAnswer, chargeAnswer, judgeAnswer};
+ghost use Rattle.tariff.specs.Charges.{fewHours, rowOf, chargeFor, chargeMost, reduced, floorOf, generalIn, flooredIn};
 use answers::Place;
-
-// The share that each level code, from 1, asks for, in percent: a constant table, as document 01 names it.
-const SHARES: [u8; 7] = [5, 10, 10, 20, 20, 30, 30];
-
-const WHOLE_SHARE: u64 = 100;
 
 // Below 2,500 hours of use: the sum of the quarter means is below 10,000 times the peak.
 const ROW_QUARTERS: u64 = 10_000;
 
 // The floor is the fifth part of the general charge.
 const FLOOR_PARTS: u64 = 5;
-
-// The least power moved out of the windows, W, and the least reduction, cent.
-const LEAST_MOVE: u32 = 100_000;
-
-const LEAST_REDUCTION: u64 = 50_000;
 
 // The parts of a cent, and those of a W at a cent per kW and year.
 const CENT_PARTS: u64 = 4_000_000;
@@ -77,7 +65,7 @@ pub struct Charged {
     pub peaks: Peaks,
 }
 
-// What the decision answers, here and in the room above: 0 with the charge, 0 with yes, 0 of an opening or a day that is taken, 1, 2, 3,
+// What the decision answers, in the rooms above: 0 with the charge, 0 with yes, 0 of an opening or a day that is taken, 1, 2, 3,
 // 4, 5 with its place, 6, 8, 9, 10, 11, 12, 13.
 pub enum Decision {
     Accepted(Charged),
@@ -143,11 +131,14 @@ fn row_of(prices: Prices, low: bool) -> Row
     row
 }
 
-// For the annual peak. The customer's option does not enter: the reduction is measured from this charge.
-fn general_charge(figures: Figures, prices: Prices) -> u64
-    requires { ⌜ LegalPrices prices ⌝ }
-    ensures { λ r. ⌜ (r ≡ general figures prices) × (r ≤ chargeMost) ⌝ }
+// The charge for the annual peak. The customer's option does not enter: the reduction is measured from this charge. No charge is named
+// where a price is out of its range: any figures and any list have an answer, and then it is 0.
+pub fn general_charge(figures: Figures, prices: Prices) -> u64
+    ensures { λ r. ⌜ (r ≡ generalIn figures prices) × (r ≤ chargeMost) ⌝ }
 {
+    if prices_out(prices) {
+        return 0;
+    }
     let row = row_of(prices, few_hours(figures));
     charge_for(figures.peak, row, figures.sum)
 }
@@ -171,103 +162,13 @@ fn with_floor(r: u64, g: u64) -> u64
     if r < f { f } else { r }
 }
 
-// M - H: what was moved out of the windows. Nothing where H is above M: no year has such figures, but every figure has an answer.
-fn moved_out(figures: Figures) -> u32
-    ensures { λ r. ⌜ r ≡ moved figures ⌝ }
+// The charge of an eligible customer: the larger of reduced charge and floor. 0 where a price is out of its range, as above.
+pub fn floored_charge(figures: Figures, prices: Prices, option: bool) -> u64
+    ensures { λ r. ⌜ (r ≡ flooredIn figures prices option) × (r ≤ chargeMost) ⌝ }
 {
-    if figures.peak < figures.high {
+    if prices_out(prices) {
         return 0;
     }
-    figures.peak - figures.high
-}
-
-fn share(level: u8) -> u8
-    requires { ⌜ Level level ⌝ }
-    ensures { λ r. ⌜ r ≡ shareOf level ⌝ }
-{
-    let i = (level - 1) as usize;
-    SHARES[i]
-}
-
-fn share_short(figures: Figures, level: u8) -> bool
-    requires { ⌜ Level level ⌝ }
-    ensures { λ r. ⌜ r ≡ shareShort figures level ⌝ }
-{
-    WHOLE_SHARE * (moved_out(figures) as u64) < share(level) as u64 * (figures.peak as u64)
-}
-
-fn plain_of(figures: Figures, g: u64) -> Plain
-    ensures { λ r. ⌜ r ≡ plainOf figures g ⌝ }
-{
-    Plain {
-        general: g,
-        peak: figures.peak,
-        sum: figures.sum,
-    }
-}
-
-fn peaks_of(figures: Figures, g: u64) -> Peaks
-    ensures { λ r. ⌜ r ≡ peaksOf figures g ⌝ }
-{
-    let plain = plain_of(figures, g);
-    Peaks {
-        plain,
-        high: figures.high,
-        day: figures.day,
-        quarter: figures.quarter,
-    }
-}
-
-// May the customer have the reduced charge? Refuses 2, 6, 8, 9, 10 in this order, else 0 with yes. Any figures have an answer.
-pub fn eligible(figures: Figures, level: u8, prices: Prices) -> Decision
-    ensures { λ r. ⌜ saidOf r ≡ eligibleAnswer figures level prices ⌝ }
-{
-    if answers::level_out(level) {
-        return Decision::LevelOut;
-    }
-    if prices_out(prices) {
-        return Decision::PriceOut;
-    }
-    let g = general_charge(figures, prices);
-    if !figures.any {
-        return Decision::NoWindow(plain_of(figures, g));
-    }
-    if share_short(figures, level) {
-        return Decision::ShareShort(peaks_of(figures, g));
-    }
-    if moved_out(figures) < LEAST_MOVE {
-        return Decision::MoveShort(peaks_of(figures, g));
-    }
-    Decision::Eligible
-}
-
-// What an eligible customer is charged. Refuses 6, 8, 11 in this order, else 0 with the charge. Any figures have an answer.
-pub fn charge(figures: Figures, prices: Prices, option: bool) -> Decision
-    ensures { λ r. ⌜ saidOf r ≡ chargeAnswer figures prices option ⌝ }
-{
-    if prices_out(prices) {
-        return Decision::PriceOut;
-    }
-    let g = general_charge(figures, prices);
-    if !figures.any {
-        return Decision::NoWindow(plain_of(figures, g));
-    }
-    let c = with_floor(reduced_charge(figures, prices, option), g);
-    let peaks = peaks_of(figures, g);
-    if g < c + LEAST_REDUCTION {
-        return Decision::ReductionShort(peaks);
-    }
-    Decision::Accepted(Charged { charge: c, peaks })
-}
-
-// The decision over a year's figures: the two halves in a row, so that no rule is written twice. Refuses 2, 6, 8, 9, 10, 11 in this
-// order, else 0 with the charge. Any figures have an answer.
-pub fn judge(figures: Figures, level: u8, prices: Prices, option: bool) -> Decision
-    ensures { λ r. ⌜ saidOf r ≡ judgeAnswer figures level prices option ⌝ }
-{
-    let first = eligible(figures, level, prices);
-    if let Decision::Eligible = first {
-        return charge(figures, prices, option);
-    }
-    first
+    let r = reduced_charge(figures, prices, option);
+    with_floor(r, general_charge(figures, prices))
 }

@@ -126,11 +126,11 @@ fn one_set() {
     let option = next_yes();
     write_prices(tariff::prices_out(prices));
     write_text(b"E");
-    write_answer(tariff::eligible(figures, level, prices));
+    write_answer(decision::eligible(figures, level, prices));
     write_text(b"\nC");
-    write_answer(tariff::charge(figures, prices, option));
+    write_answer(decision::charge(figures, prices, option));
     write_text(b"\nJ");
-    write_answer(tariff::judge(figures, level, prices, option));
+    write_answer(decision::judge(figures, level, prices, option));
     write_text(b"\n");
 }
 

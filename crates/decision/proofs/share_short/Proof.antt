@@ -1,10 +1,10 @@
--- `tariff::share_short` meets its contract: the code's order is the definition's, and no product is too large.
+-- `decision::share_short` meets its contract: the code's order is the definition's, and no product is too large.
 -- Assumes nothing.
 use native.Mathlib.Omega.{arith}
 use borrow.Author.Needs.{needs}
 use Rattle.tariff.proofs.Charges.{product}
-use Rattle.tariff.proofs.share_short.Statement.{statement}
-use Rattle.tariff.proofs.share_short.Tie as tie
+use Rattle.decision.proofs.share_short.Statement.{statement}
+use Rattle.decision.proofs.share_short.Tie as tie
 
 mul-result-2 : tie.Need-mul-result-2
 mul-result-2 c =

@@ -1,17 +1,17 @@
--- `tariff::judge` meets its contract: the two halves in a row. What the first half says tells whether it is `Eligible`.
+-- `decision::judge` meets its contract: the two halves in a row. What the first half says tells whether it is `Eligible`.
 -- Assumes nothing.
 use mathlib.Core.Path.{_≡_, sym, ap, _∙_}
 use mathlib.Core.List.{List, [], _∷_}
 use Prim.Native.Nat.{ℕ}
 use borrow.Author.Needs.{needs}
 use types.Run.{miss}
 use Rattle.tariff.specs.declared.Decision.the-variants.{Eligible}
 use Rattle.tariff.specs.Answers.{saidOf}
 use Rattle.tariff.proofs.Answered.{number-is, judge-first, judge-second}
 use Rattle.tariff.proofs.Exactly.{eligible-zero}
 use Rattle.tariff.proofs.Only.{decision-only}
-use Rattle.tariff.proofs.judge.Statement.{statement}
-use Rattle.tariff.proofs.judge.Tie as tie
+use Rattle.decision.proofs.judge.Statement.{statement}
+use Rattle.decision.proofs.judge.Tie as tie
 
 -- the places of the enum's cases, without that of `Eligible`, which is 1
 abbrev others : List ℕ

@@ -1,9 +1,9 @@
--- `tariff::share` meets its contract: the table is read at the level.
+-- `decision::share` meets its contract: the table is read at the level.
 -- Assumes nothing.
 use borrow.Author.Needs.{needs}
 use Rattle.tariff.proofs.Shares.{share-table}
-use Rattle.tariff.proofs.share.Statement.{statement}
-use Rattle.tariff.proofs.share.Tie as tie
+use Rattle.decision.proofs.share.Statement.{statement}
+use Rattle.decision.proofs.share.Tie as tie
 
 pub share-spec : {M : Type 1} → statement M
 share-spec =

@@ -1,0 +1,124 @@
+// The decision over a year's figures: document 01, Customer's year and decision, and Numbered answers (the order of the refusals). May
+// the customer have the reduced charge, what is it, and the two in a row.
+// What an answer says, and what follows of it, is told in the room below.
+ghost use mathlib.Core.Path.{_≡_};
+ghost use Rattle.answers.specs.Ruling.{shareOf, Level};
+ghost use Rattle.tariff.specs.Answers.{saidOf, plainOf, peaksOf};
+ghost use Rattle.tariff.specs.Decision.{moved, shareShort, eligibleAnswer, chargeAnswer, judgeAnswer};
+use tariff::Charged;
+use tariff::Decision;
+use tariff::Figures;
+use tariff::Peaks;
+use tariff::Plain;
+use tariff::Prices;
+
+// The share that each level code, from 1, asks for, in percent: a constant table, as document 01 names it.
+const SHARES: [u8; 7] = [5, 10, 10, 20, 20, 30, 30];
+
+const WHOLE_SHARE: u64 = 100;
+
+// The least power moved out of the windows, W, and the least reduction, cent.
+const LEAST_MOVE: u32 = 100_000;
+
+const LEAST_REDUCTION: u64 = 50_000;
+
+// M - H: what was moved out of the windows. Nothing where H is above M: no year has such figures, but every figure has an answer.
+fn moved_out(figures: Figures) -> u32
+    ensures { λ r. ⌜ r ≡ moved figures ⌝ }
+{
+    if figures.peak < figures.high {
+        return 0;
+    }
+    figures.peak - figures.high
+}
+
+fn share(level: u8) -> u8
+    requires { ⌜ Level level ⌝ }
+    ensures { λ r. ⌜ r ≡ shareOf level ⌝ }
+{
+    let i = (level - 1) as usize;
+    SHARES[i]
+}
+
+fn share_short(figures: Figures, level: u8) -> bool
+    requires { ⌜ Level level ⌝ }
+    ensures { λ r. ⌜ r ≡ shareShort figures level ⌝ }
+{
+    WHOLE_SHARE * (moved_out(figures) as u64) < share(level) as u64 * (figures.peak as u64)
+}
+
+fn plain_of(figures: Figures, g: u64) -> Plain
+    ensures { λ r. ⌜ r ≡ plainOf figures g ⌝ }
+{
+    Plain {
+        general: g,
+        peak: figures.peak,
+        sum: figures.sum,
+    }
+}
+
+fn peaks_of(figures: Figures, g: u64) -> Peaks
+    ensures { λ r. ⌜ r ≡ peaksOf figures g ⌝ }
+{
+    let plain = plain_of(figures, g);
+    Peaks {
+        plain,
+        high: figures.high,
+        day: figures.day,
+        quarter: figures.quarter,
+    }
+}
+
+// May the customer have the reduced charge? Refuses 2, 6, 8, 9, 10 in this order, else 0 with yes. Any figures have an answer.
+pub fn eligible(figures: Figures, level: u8, prices: Prices) -> Decision
+    ensures { λ r. ⌜ saidOf r ≡ eligibleAnswer figures level prices ⌝ }
+{
+    if answers::level_out(level) {
+        return Decision::LevelOut;
+    }
+    if tariff::prices_out(prices) {
+        return Decision::PriceOut;
+    }
+    let g = tariff::general_charge(figures, prices);
+    if !figures.any {
+        return Decision::NoWindow(plain_of(figures, g));
+    }
+    if share_short(figures, level) {
+        return Decision::ShareShort(peaks_of(figures, g));
+    }
+    if moved_out(figures) < LEAST_MOVE {
+        return Decision::MoveShort(peaks_of(figures, g));
+    }
+    Decision::Eligible
+}
+
+// What an eligible customer is charged. Refuses 6, 8, 11 in this order, else 0 with the charge. Any figures have an answer.
+pub fn charge(figures: Figures, prices: Prices, option: bool) -> Decision
+    ensures { λ r. ⌜ saidOf r ≡ chargeAnswer figures prices option ⌝ }
+{
+    if tariff::prices_out(prices) {
+        return Decision::PriceOut;
+    }
+    let g = tariff::general_charge(figures, prices);
+    if !figures.any {
+        return Decision::NoWindow(plain_of(figures, g));
+    }
+    let c = tariff::floored_charge(figures, prices, option);
+    let peaks = peaks_of(figures, g);
+    if g < c + LEAST_REDUCTION {
+        return Decision::ReductionShort(peaks);
+    }
+    Decision::Accepted(Charged { charge: c, peaks })
+}
+
+// The decision over a year's figures: the two halves in a row, so that no rule is written twice. Refuses 2, 6, 8, 9, 10, 11 in this
+// order, else 0 with the charge. Any figures have an answer.
+pub fn judge(figures: Figures, level: u8, prices: Prices, option: bool) -> Decision
+    ensures { λ r. ⌜ saidOf r ≡ judgeAnswer figures level prices option ⌝ }
+{
+    let first = eligible(figures, level, prices);
+    if let Decision::Eligible = first {
+        return charge(figures, prices, option);
+    }
+    first
+}
