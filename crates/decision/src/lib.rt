@@ -76,10 +76,10 @@ pub fn eligible(figures: Figures, level: u8, prices: Prices) -> Decision
     if answers::level_out(level) {
         return Decision::LevelOut;
     }
-    if tariff::prices_out(prices) {
+    if charges::prices_out(prices) {
         return Decision::PriceOut;
     }
-    let g = tariff::general_charge(figures, prices);
+    let g = charges::general_charge(figures, prices);
     if !figures.any {
         return Decision::NoWindow(plain_of(figures, g));
     }
@@ -96,14 +96,14 @@ pub fn eligible(figures: Figures, level: u8, prices: Prices) -> Decision
 pub fn charge(figures: Figures, prices: Prices, option: bool) -> Decision
     ensures { λ r. ⌜ saidOf r ≡ chargeAnswer figures prices option ⌝ }
 {
-    if tariff::prices_out(prices) {
+    if charges::prices_out(prices) {
         return Decision::PriceOut;
     }
-    let g = tariff::general_charge(figures, prices);
+    let g = charges::general_charge(figures, prices);
     if !figures.any {
         return Decision::NoWindow(plain_of(figures, g));
     }
-    let c = tariff::floored_charge(figures, prices, option);
+    let c = charges::floored_charge(figures, prices, option);
     let peaks = peaks_of(figures, g);
     if g < c + LEAST_REDUCTION {
         return Decision::ReductionShort(peaks);

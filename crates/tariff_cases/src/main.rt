@@ -124,7 +124,7 @@ fn one_set() {
     let level = next_byte();
     let prices = next_prices();
     let option = next_yes();
-    write_prices(tariff::prices_out(prices));
+    write_prices(charges::prices_out(prices));
     write_text(b"E");
     write_answer(decision::eligible(figures, level, prices));
     write_text(b"\nC");

@@ -1,14 +1,14 @@
--- `tariff::floored_charge` meets its contract: the larger of reduced charge and floor is the charge.
+-- `charges::floored_charge` meets its contract: the larger of reduced charge and floor is the charge.
 -- Assumes nothing.
 use mathlib.Core.Path.{_≡_, sym, _∙_}
 use mathlib.Core.Bool.{false}
 use native.Mathlib.Omega.{arith}
 use borrow.Author.Needs.{needs}
 use Rattle.tariff.specs.Prices.{pricesOut}
 use Rattle.tariff.proofs.Limits.{prices-legal}
 use Rattle.tariff.proofs.Charges.{charge-of, general-in, floored-out, floored-in}
-use Rattle.tariff.proofs.floored_charge.Statement.{statement}
-use Rattle.tariff.proofs.floored_charge.Tie as tie
+use Rattle.charges.proofs.floored_charge.Statement.{statement}
+use Rattle.charges.proofs.floored_charge.Tie as tie
 
 -- what is known past the test
 prices-at : (e : tie.Else1) → pricesOut (e .before .before .args .prices) ≡ false

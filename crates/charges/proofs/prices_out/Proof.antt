@@ -1,11 +1,11 @@
--- `tariff::prices_out` meets its contract: it tests the two rows.
+-- `charges::prices_out` meets its contract: it tests the two rows.
 -- Assumes nothing.
 use mathlib.Core.Path.{ap₂}
 use mathlib.Core.Bool.{_||_}
 use borrow.Author.Needs.{needs}
 use Rattle.tariff.specs.Prices.{pricesOut}
-use Rattle.tariff.proofs.prices_out.Statement.{statement}
-use Rattle.tariff.proofs.prices_out.Tie as tie
+use Rattle.charges.proofs.prices_out.Statement.{statement}
+use Rattle.charges.proofs.prices_out.Tie as tie
 
 returns : tie.Need-returns
 unfolding pricesOut

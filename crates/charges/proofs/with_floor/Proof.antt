@@ -1,10 +1,10 @@
--- `tariff::with_floor` meets its contract: the code's division is the definition's, and the larger of the two is taken.
+-- `charges::with_floor` meets its contract: the code's division is the definition's, and the larger of the two is taken.
 -- Assumes nothing.
 use native.Mathlib.Omega.{arith}
 use borrow.Author.Needs.{needs}
 use Rattle.tariff.specs.Charges.{floorOf}
-use Rattle.tariff.proofs.with_floor.Statement.{statement}
-use Rattle.tariff.proofs.with_floor.Tie as tie
+use Rattle.charges.proofs.with_floor.Statement.{statement}
+use Rattle.charges.proofs.with_floor.Tie as tie
 
 returns : tie.Need-returns
 unfolding floorOf

@@ -1,10 +1,10 @@
--- `tariff::reduced_charge` meets its contract: the charge for the in-window peak, in the row that the option leaves.
+-- `charges::reduced_charge` meets its contract: the charge for the in-window peak, in the row that the option leaves.
 -- Assumes nothing.
 use mathlib.Core.Path.{_∙_}
 use borrow.Author.Needs.{needs}
 use Rattle.tariff.specs.Charges.{reduced}
-use Rattle.tariff.proofs.reduced_charge.Statement.{statement}
-use Rattle.tariff.proofs.reduced_charge.Tie as tie
+use Rattle.charges.proofs.reduced_charge.Statement.{statement}
+use Rattle.charges.proofs.reduced_charge.Tie as tie
 
 returns : tie.Need-returns
 unfolding reduced

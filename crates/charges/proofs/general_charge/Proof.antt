@@ -1,15 +1,15 @@
--- `tariff::general_charge` meets its contract: the charge for the annual peak, in the row of the hours of use.
+-- `charges::general_charge` meets its contract: the charge for the annual peak, in the row of the hours of use.
 -- Assumes nothing.
 use mathlib.Core.Path.{_≡_, sym, _∙_}
 use mathlib.Core.Bool.{false}
 use native.Mathlib.Omega.{arith}
 use borrow.Author.Needs.{needs}
 use Rattle.tariff.specs.Prices.{pricesOut}
 use Rattle.tariff.specs.Charges.{general}
 use Rattle.tariff.proofs.Limits.{prices-legal}
 use Rattle.tariff.proofs.Charges.{general-out, general-in}
-use Rattle.tariff.proofs.general_charge.Statement.{statement}
-use Rattle.tariff.proofs.general_charge.Tie as tie
+use Rattle.charges.proofs.general_charge.Statement.{statement}
+use Rattle.charges.proofs.general_charge.Tie as tie
 
 -- what is known past the test
 prices-at : (e : tie.Else1) → pricesOut (e .before .before .args .prices) ≡ false

@@ -1,10 +1,10 @@
--- `tariff::charge_for` meets its contract: a sum split at the parts of a cent gives the same charge, and its products are small.
+-- `charges::charge_for` meets its contract: a sum split at the parts of a cent gives the same charge, and its products are small.
 -- Assumes nothing.
 use native.Mathlib.Omega.{arith}
 use borrow.Author.Needs.{needs}
 use Rattle.tariff.proofs.Charges.{Small, small, charge-split}
-use Rattle.tariff.proofs.charge_for.Statement.{statement}
-use Rattle.tariff.proofs.charge_for.Tie as tie
+use Rattle.charges.proofs.charge_for.Statement.{statement}
+use Rattle.charges.proofs.charge_for.Tie as tie
 
 bounds : (c : tie.After-struct-known2) → let a = c .before .before .args in Small (a .power) (a .row .capacity) (a .row .energy) (a .sum)
 bounds c = small _ _ _ _ (search needs) (search needs) (search needs) (search needs)
