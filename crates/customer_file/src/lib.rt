@@ -1,21 +1,17 @@
 // The customer file: its header (room `customer_head`), then the readings of the charge year. Document 01, Two programs. A machine that the
-// statement program drives: `want` says how many bytes come next, `feed` takes them, fewer where the file has ended, and `text` is what the
-// program prints. Each field and each day is tested as soon as it is fed.
+// statement program drives: `want` says how many bytes come next, and `feed` takes them, fewer where the file has ended. Each field and
+// each day is tested as soon as it is fed. What the program prints then stands in the room above.
 // Main theorem: driven over any bytes, the machine prints what the file's bytes are answered (room `printed`).
 ghost use mathlib.Core.Path.{_≡_};
 ghost use Prim.Native.Nat.{_≤_, _<_};
 ghost use Rattle.customer_head.specs.Header.{spanOf};
 ghost use Rattle.tariff.specs.Answers.{saidOf};
-ghost use Rattle.customer.specs.Answers.{closeAnswer};
-ghost use Rattle.flat.specs.Flat.{flatOf};
-ghost use Rattle.lines.specs.Text.{lengthIn, putIn};
-ghost use Rattle.fields.specs.Stages.{dayStage, saidOfStage};
+ghost use Rattle.fields.specs.Stages.{dayStage};
 ghost use Rattle.fields.specs.Machine.{fieldFed, dayFed, endFed};
-ghost use Rattle.customer_file.specs.CustomerMachine.{openedWith, customerStart, customerEnded, customerReader, customerWants, customerFed, customerText};
+ghost use Rattle.customer_file.specs.CustomerMachine.{openedWith, customerStart, customerEnded, customerReader, customerWants, customerFed};
 use customer::Customer;
 use customer_head::Span;
 use fields::Stage;
-use flat::Flat;
 use readings::Run;
 use tariff::Decision;
 
@@ -183,28 +179,5 @@ impl CustomerFile {
             return self.take_end(b);
         }
         self
-    }
-
-    // What the file is answered; 13 while the machine goes on.
-    fn answer(self) -> Flat
-        ensures { λ r. ⌜ (r ≡ flatOf (saidOfStage (self .stage) (closeAnswer (self .customer)))) × (r .count ≤ 7) ⌝ }
-    {
-        let stage = self.stage;
-        match stage {
-            Stage::Going => flat::bare(13),
-            Stage::Refused(number) => flat::bare(number as u64),
-            Stage::BadReading(place) => flat::with_place(place),
-            Stage::Complete => figured::of_decision(self.customer.close()),
-        }
-    }
-
-    // What the statement program prints, at the start of a lent buffer, all or nothing.
-    pub fn text(self, out: &mut [u8]) -> usize
-        ensures { λ r. ⌜ (r ≡ lengthIn (customerText self) (now (out .entry))) × (now (out .exit) ≡ putIn (customerText self) (now (out .entry))) ⌝ }
-    {
-        let answer = self.answer();
-        let n = answer.count as usize + 1;
-        let line = flat::line_of(answer);
-        lines::figures_text(&line[..n], out)
     }
 }

@@ -41,7 +41,7 @@ fn run_grid(fd: i32) -> GridFile {
 
 fn print_windows(fd: i32) {
     let mut text = [0u8; TEXT_MOST];
-    let n = run_grid(fd).text(&mut text);
+    let n = grid_text::text(run_grid(fd), &mut text);
     io::write_all(STDOUT_FILENO, &text[0..n]);
 }
 
@@ -71,7 +71,7 @@ fn run_customer(fd: i32) -> CustomerFile {
 
 fn print_statement(fd: i32) {
     let mut text = [0u8; TEXT_MOST];
-    let n = run_customer(fd).text(&mut text);
+    let n = customer_text::text(run_customer(fd), &mut text);
     io::write_all(STDOUT_FILENO, &text[0..n]);
 }
 

@@ -1,21 +1,16 @@
 // The grid file: "GRD", version 1, year, level, then the readings of the reference period. Document 01, Two programs. A machine that the window
-// program drives: `want` says how many bytes come next, `feed` takes them, fewer where the file has ended, and `text` is what the program
-// prints. Each field and each day is tested as soon as it is fed.
+// program drives: `want` says how many bytes come next, and `feed` takes them, fewer where the file has ended. Each field and each day is
+// tested as soon as it is fed. What the program prints then stands in the room above.
 // Main theorem: driven over any bytes, the machine prints what the file's bytes are answered (room `printed`).
 ghost use mathlib.Core.Path.{_≡_};
-ghost use mathlib.Core.List.{[], _∷_};
 ghost use Prim.Native.Nat.{_+_, _≤_, _<_};
 ghost use lib.ListN.{length};
-ghost use Rattle.answers.specs.Said.{badPlace};
 ghost use Rattle.fields.specs.Layout.{startOf};
 ghost use Rattle.grid.specs.Answers.{saidOfGrid};
-ghost use Rattle.lines.specs.Text.{lengthIn, putIn};
-ghost use Rattle.lines.specs.Figures.{figuresIn, refusedLine};
-ghost use Rattle.grid_file.specs.Grid.{gridLayout, windowLines};
+ghost use Rattle.grid_file.specs.Grid.{gridLayout};
 ghost use Rattle.fields.specs.Stages.{dayStage};
 ghost use Rattle.fields.specs.Machine.{fieldFed, dayFed, endFed};
-ghost use Rattle.grid_file.specs.GridMachine.{gridStart, gridEnded, gridReader, gridWants, gridFed, closedGrid, gridText};
-use answers::Place;
+ghost use Rattle.grid_file.specs.GridMachine.{gridStart, gridEnded, gridReader, gridWants, gridFed};
 use fields::Stage;
 use grid::Grid;
 use grid::GridAnswer;
@@ -83,63 +78,18 @@ fn refusal(head: &[u8], k: usize) -> u8
     field_steps::number_if(answers::level_out(head[LEVEL_AT]), 2)
 }
 
-fn number_of(answer: GridAnswer) -> u8
-    ensures { λ r. ⌜ r ≡ saidOfGrid answer .number ⌝ }
-{
-    match answer {
-        GridAnswer::Done => 0,
-        GridAnswer::Short => 14,
-        GridAnswer::YearOut => 1,
-        GridAnswer::LevelOut => 2,
-        GridAnswer::WrongLength => 4,
-        GridAnswer::BadReading(place) => 5,
-        GridAnswer::NoPeak => 7,
-        GridAnswer::Malformed => 12,
-        GridAnswer::DayOut => 13,
-    }
-}
-
 // Where a machine stands after a day.
 fn stage_of(answer: GridAnswer) -> Stage
     ensures { λ r. ⌜ r ≡ dayStage (saidOfGrid answer) ⌝ }
 {
     let GridAnswer::BadReading(place) = answer else {
-        let number = number_of(answer);
+        let number = grid_flat::of_answer(answer).number as u8;
         if number == 0 {
             return Stage::Going;
         }
         return Stage::Refused(number);
     };
     Stage::BadReading(place)
-}
-
-// A refusal's line: a number alone, or 5 with its place.
-fn refused(number: u8, out: &mut [u8]) -> usize
-    ensures { λ r. ⌜ (r ≡ lengthIn (refusedLine (number ∷ [])) (now (out .entry))) × (now (out .exit) ≡ putIn (refusedLine (number ∷ [])) (now (out .entry))) ⌝ }
-{
-    let figures = [number as u64];
-    lines::refused_text(&figures, out)
-}
-
-fn refused_at(place: Place, out: &mut [u8]) -> usize
-    ensures { λ r. ⌜ (r ≡ lengthIn (refusedLine (figuresIn (badPlace place))) (now (out .entry))) × (now (out .exit) ≡ putIn (refusedLine (figuresIn (badPlace place))) (now (out .entry))) ⌝ }
-{
-    let figures = [5, place.day as u64, place.position as u64];
-    lines::refused_text(&figures, out)
-}
-
-// What is printed once all days are in: the windows' lines, or what closing refuses.
-fn closed(grid: Grid, out: &mut [u8]) -> usize
-    ensures { λ r. ⌜ (r ≡ lengthIn (windowLines (closedGrid grid)) (now (out .entry))) × (now (out .exit) ≡ putIn (windowLines (closedGrid grid)) (now (out .entry))) ⌝ }
-{
-    let mut bytes = [0u8; sheet::SHEET_SIZE];
-    let number = number_of(grid.close(&mut bytes));
-    if number != 0 {
-        return refused(number, out);
-    }
-    let meaning = sheet_read::read(&bytes).sheet;
-    let windows = meaning.windows;
-    window_lines::windows_text(meaning.year, meaning.level, &windows, out)
 }
 
 impl GridFile {
@@ -270,18 +220,5 @@ impl GridFile {
             return self.take_end(b);
         }
         self
-    }
-
-    // What the window program prints, at the start of a lent buffer, all or nothing; 13 while the machine goes on.
-    pub fn text(self, out: &mut [u8]) -> usize
-        ensures { λ r. ⌜ (r ≡ lengthIn (gridText self) (now (out .entry))) × (now (out .exit) ≡ putIn (gridText self) (now (out .entry))) ⌝ }
-    {
-        let stage = self.stage;
-        match stage {
-            Stage::Going => refused(13, out),
-            Stage::Refused(number) => refused(number, out),
-            Stage::BadReading(place) => refused_at(place, out),
-            Stage::Complete => closed(self.grid, out),
-        }
     }
 }

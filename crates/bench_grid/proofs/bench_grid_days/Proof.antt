@@ -14,7 +14,7 @@ returns c =
     let called = c .before .before .before .close .ensures in
     let state = c .before .before .before .before .before .all-grid-days .ensures in
     let out = c .before .before .before .before .before .before .before .before .args .out .now in
-    (c .of-grid .ensures ∙ ap flatOf (called .0 ∙ ap (λ (g : Grid). closeAnswer g (length out)) state), called .1 ∙ ap (λ (g : Grid). closeBuffer g out) state)
+    (c .of-answer .ensures ∙ ap flatOf (called .0 ∙ ap (λ (g : Grid). closeAnswer g (length out)) state), called .1 ∙ ap (λ (g : Grid). closeBuffer g out) state)
 
 pub bench-grid-days-spec : {M : Type 1} → statement M
 bench-grid-days-spec =
@@ -22,6 +22,6 @@ bench-grid-days-spec =
     (tie.spec
     (λ c κs. search needs)  -- all-grid-days-requires
     (λ c κs. search needs)  -- close-requires
-    (λ c κs. search needs)  -- of-grid-requires
+    (λ c κs. search needs)  -- of-answer-requires
     (λ c. search needs)  -- same-length
     returns)

@@ -9,13 +9,13 @@ use Rattle.bench_grid.proofs.bench_windows.Tie as tie
 returns : tie.Need-returns
 returns c =
     let called = c .before .before .before .windows .ensures in
-    (c .of-grid .ensures ∙ ap flatOf (called .0), called .1)
+    (c .of-answer .ensures ∙ ap flatOf (called .0), called .1)
 
 pub bench-windows-spec : {M : Type 1} → statement M
 bench-windows-spec =
     tie.close
     (tie.spec
     (λ c κs. search needs)  -- windows-requires
-    (λ c κs. search needs)  -- of-grid-requires
+    (λ c κs. search needs)  -- of-answer-requires
     (λ c. search needs)  -- same-length
     returns)

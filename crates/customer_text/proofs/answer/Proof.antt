@@ -1,10 +1,10 @@
--- `customer_file::CustomerFile::answer` meets its contract, a stage for each return.
+-- `customer_text::answer` meets its contract, a stage for each return.
 -- Assumes nothing.
 use native.Mathlib.Omega.{arith}
 use borrow.Author.Needs.{needs}
 use Rattle.figured.proofs.Line.{decision-small}
-use Rattle.customer_file.proofs.CustomerFile.answer.Statement.{statement}
-use Rattle.customer_file.proofs.CustomerFile.answer.Tie as tie
+use Rattle.customer_text.proofs.answer.Statement.{statement}
+use Rattle.customer_text.proofs.answer.Tie as tie
 
 returns : tie.Need-returns
 returns c = rw (c .before .enum-told .given .1) (c .bare .ensures, rw (c .bare .ensures) (omega arith))

@@ -1,8 +1,8 @@
--- `grid_file::GridFile::text` meets its contract, a stage for each return.
+-- `grid_text::text` meets its contract, a stage for each return.
 -- Assumes nothing.
 use borrow.Author.Needs.{needs}
-use Rattle.grid_file.proofs.GridFile.text.Statement.{statement}
-use Rattle.grid_file.proofs.GridFile.text.Tie as tie
+use Rattle.grid_text.proofs.text.Statement.{statement}
+use Rattle.grid_text.proofs.text.Tie as tie
 
 returns : tie.Need-returns
 returns c = rw (c .before .before .before .before .enum-told .given .1) (c .before .before .refused .ensures)
@@ -23,6 +23,7 @@ text-spec =
     (λ c. search needs)  -- enum-told
     (λ c κs. search needs)  -- refused-requires
     (λ c. search needs)  -- enum-known-stage
+    (λ c. search needs)  -- cast-refused
     (λ c κs. search needs)  -- refused-requires-2
     (λ c. search needs)  -- enum-known-stage-2
     (λ c κs. search needs)  -- refused-at-requires

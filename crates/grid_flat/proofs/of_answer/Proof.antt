@@ -1,8 +1,8 @@
--- `bench_grid::of_grid` meets its contract, case by case.
+-- `grid_flat::of_answer` meets its contract, case by case.
 -- Assumes nothing.
 use borrow.Author.Needs.{needs}
-use Rattle.bench_grid.proofs.of_grid.Statement.{statement}
-use Rattle.bench_grid.proofs.of_grid.Tie as tie
+use Rattle.grid_flat.proofs.of_answer.Statement.{statement}
+use Rattle.grid_flat.proofs.of_answer.Tie as tie
 
 returns : tie.Need-returns
 returns c = rw (c .before .enum-told .given .1) (c .bare .ensures)
@@ -31,8 +31,8 @@ returns-8 c = rw (c .before .enum-told7 .given .1) (c .bare7 .ensures)
 returns-9 : tie.Need-returns-9
 returns-9 c = rw (c .before .enum-told8 .given .1) (c .bare8 .ensures)
 
-pub of-grid-spec : {M : Type 1} → statement M
-of-grid-spec =
+pub of-answer-spec : {M : Type 1} → statement M
+of-answer-spec =
     tie.close
     (tie.spec
     (λ c. search needs)  -- enum-told

@@ -1,4 +1,4 @@
--- `customer_file::CustomerFile::text` meets its contract.
+-- `customer_text::text` meets its contract.
 -- Assumes nothing.
 use mathlib.Core.Path.{_≡_, sym, ap, _∙_}
 use mathlib.Core.List.{List}
@@ -11,9 +11,9 @@ use Rattle.customer.specs.Answers.{closeAnswer}
 use Rattle.lines.specs.Text.{lengthIn, putIn}
 use Rattle.lines.specs.Figures.{figuresLine}
 use Rattle.fields.specs.Stages.{saidOfStage}
 use Rattle.customer_file.proofs.CustomerCases.{line-of}
-use Rattle.customer_file.proofs.CustomerFile.text.Statement.{statement}
-use Rattle.customer_file.proofs.CustomerFile.text.Tie as tie
+use Rattle.customer_text.proofs.text.Statement.{statement}
+use Rattle.customer_text.proofs.text.Tie as tie
 
 array-share-prefix-line : tie.Need-array-share-prefix-line
 array-share-prefix-line c = let h : length (c .line-of .result) ≡ 8 = search needs in omega (arith, c .before .answer .ensures .1)
@@ -25,7 +25,7 @@ returns : tie.Need-returns
 returns c =
     let a = c .before .before .before .before .before .before .before .before .args in
     let e = c .before .before .before .before .before .before .answer .ensures in
-    let line = line-of (saidOfStage (a .self .stage) (closeAnswer (a .self .customer))) (e .0) (e .1) (c .before .before .before .before .before .line-of .ensures) in
+    let line = line-of (saidOfStage (a .file .stage) (closeAnswer (a .file .customer))) (e .0) (e .1) (c .before .before .before .before .before .line-of .ensures) in
     let text = c .before .before .figures-text .ensures in (
       text .0 ∙ ap (λ (xs : List ℕ). lengthIn (figuresLine xs) (a .out .now)) line,
       text .1 ∙ ap (λ (xs : List ℕ). putIn (figuresLine xs) (a .out .now)) line,

@@ -1,0 +1,34 @@
+// What the statement program prints once the machine of the customer file has ended: the number and its figures. Document 01, Two programs.
+ghost use mathlib.Core.Path.{_≡_};
+ghost use Prim.Native.Nat.{_≤_};
+ghost use Rattle.customer.specs.Answers.{closeAnswer};
+ghost use Rattle.flat.specs.Flat.{flatOf};
+ghost use Rattle.lines.specs.Text.{lengthIn, putIn};
+ghost use Rattle.fields.specs.Stages.{saidOfStage};
+ghost use Rattle.customer_file.specs.CustomerMachine.{customerText};
+use customer_file::CustomerFile;
+use fields::Stage;
+use flat::Flat;
+
+// What the file is answered; 13 while the machine goes on.
+fn answer(file: CustomerFile) -> Flat
+    ensures { λ r. ⌜ (r ≡ flatOf (saidOfStage (file .stage) (closeAnswer (file .customer)))) × (r .count ≤ 7) ⌝ }
+{
+    let stage = file.stage;
+    match stage {
+        Stage::Going => flat::bare(13),
+        Stage::Refused(number) => flat::bare(number as u64),
+        Stage::BadReading(place) => flat::with_place(place),
+        Stage::Complete => figured::of_decision(file.customer.close()),
+    }
+}
+
+// What the statement program prints, at the start of a lent buffer, all or nothing.
+pub fn text(file: CustomerFile, out: &mut [u8]) -> usize
+    ensures { λ r. ⌜ (r ≡ lengthIn (customerText file) (now (out .entry))) × (now (out .exit) ≡ putIn (customerText file) (now (out .entry))) ⌝ }
+{
+    let listed = answer(file);
+    let n = listed.count as usize + 1;
+    let line = flat::line_of(listed);
+    lines::figures_text(&line[..n], out)
+}

@@ -1,0 +1,54 @@
+// What the window program prints once the machine of the grid file has ended: the windows' lines, or a refusal's. Document 01, Two programs.
+ghost use mathlib.Core.Path.{_≡_};
+ghost use mathlib.Core.List.{[], _∷_};
+ghost use Rattle.answers.specs.Said.{badPlace};
+ghost use Rattle.lines.specs.Text.{lengthIn, putIn};
+ghost use Rattle.lines.specs.Figures.{figuresIn, refusedLine};
+ghost use Rattle.grid_file.specs.Grid.{windowLines};
+ghost use Rattle.grid_file.specs.GridMachine.{closedGrid, gridText};
+use answers::Place;
+use fields::Stage;
+use grid::Grid;
+use grid_file::GridFile;
+
+// A refusal's line: a number alone, or 5 with its place.
+fn refused(number: u64, out: &mut [u8]) -> usize
+    ensures { λ r. ⌜ (r ≡ lengthIn (refusedLine (number ∷ [])) (now (out .entry))) × (now (out .exit) ≡ putIn (refusedLine (number ∷ [])) (now (out .entry))) ⌝ }
+{
+    let figures = [number];
+    lines::refused_text(&figures, out)
+}
+
+fn refused_at(place: Place, out: &mut [u8]) -> usize
+    ensures { λ r. ⌜ (r ≡ lengthIn (refusedLine (figuresIn (badPlace place))) (now (out .entry))) × (now (out .exit) ≡ putIn (refusedLine (figuresIn (badPlace place))) (now (out .entry))) ⌝ }
+{
+    let figures = [5, place.day as u64, place.position as u64];
+    lines::refused_text(&figures, out)
+}
+
+// What is printed once all days are in: the windows' lines, or what closing refuses.
+fn closed(grid: Grid, out: &mut [u8]) -> usize
+    ensures { λ r. ⌜ (r ≡ lengthIn (windowLines (closedGrid grid)) (now (out .entry))) × (now (out .exit) ≡ putIn (windowLines (closedGrid grid)) (now (out .entry))) ⌝ }
+{
+    let mut bytes = [0u8; sheet::SHEET_SIZE];
+    let number = grid_flat::of_answer(grid.close(&mut bytes)).number;
+    if number != 0 {
+        return refused(number, out);
+    }
+    let meaning = sheet_read::read(&bytes).sheet;
+    let windows = meaning.windows;
+    window_lines::windows_text(meaning.year, meaning.level, &windows, out)
+}
+
+// What the window program prints, at the start of a lent buffer, all or nothing; 13 while the machine goes on.
+pub fn text(file: GridFile, out: &mut [u8]) -> usize
+    ensures { λ r. ⌜ (r ≡ lengthIn (gridText file) (now (out .entry))) × (now (out .exit) ≡ putIn (gridText file) (now (out .entry))) ⌝ }
+{
+    let stage = file.stage;
+    match stage {
+        Stage::Going => refused(13, out),
+        Stage::Refused(number) => refused(number as u64, out),
+        Stage::BadReading(place) => refused_at(place, out),
+        Stage::Complete => closed(file.grid, out),
+    }
+}
