@@ -2,17 +2,18 @@
 // Main theorem: the weekday by three divisions is the weekday by counting every day, each 29 February with them, in every year.
 ghost use mathlib.Core.Path.{_≡_};
 ghost use Prim.Native.Nat.{_-_, _<_};
-ghost use Rattle.dates.specs.Dates.{leap, leapDay, yearDays, daysTo, monthOf, weekdayOf, seasonOf};
-ghost use Rattle.dates.specs.Period.{periodDays, periodDate, periodSeason};
-ghost use Rattle.dates.specs.Within.{partOf};
+ghost use Rattle.dates.specs.Dates.{leap, leapDay, yearDays, daysTo, monthOf, weekdayOf, seasonOf, monthLeft};
+ghost use Rattle.dates.specs.Period.{periodDays, periodDate, periodSeason, periodLeft};
 
 // The most days that a year has.
 pub const MOST_DAYS: usize = 366;
 
-// The days before each month of a common year, and each month's season.
-const DAYS_BEFORE: [u16; 12] = [0, 31, 59, 90, 120, 151, 181, 212, 243, 273, 304, 334];
+// The days before each month of a common year, and before the next year; each month's season.
+const DAYS_BEFORE: [u16; 13] = [0, 31, 59, 90, 120, 151, 181, 212, 243, 273, 304, 334, 365];
 
 const SEASONS: [u8; 12] = [1, 1, 2, 2, 2, 3, 3, 3, 4, 4, 4, 1];
+
+const MONTHS: usize = 12;
 
 // September to December of any year.
 const LATE_DAYS: u16 = 122;
@@ -49,10 +50,10 @@ pub fn year_days(year: u16) -> u16
     365 + leap_day(year)
 }
 
-// The days before a month, from 0 for January.
+// The days before a month, from 0 for January to 12 for the next.
 fn days_to(year: u16, month: usize) -> u16
-    requires { ⌜ month < 12 ⌝ }
-    ensures { λ r. ⌜ (r ≡ daysTo year month) × (r < 336) ⌝ }
+    requires { ⌜ month < 13 ⌝ }
+    ensures { λ r. ⌜ (r ≡ daysTo year month) × (r < 367) ⌝ }
 {
     if month < 2 {
         DAYS_BEFORE[month]
@@ -61,23 +62,16 @@ fn days_to(year: u16, month: usize) -> u16
     }
 }
 
-// The 32nd part of the year that a day stands in, the last two as one.
-fn part_of(day: u16) -> usize
-    ensures { λ r. ⌜ (r ≡ partOf day) × (r < 11) ⌝ }
-{
-    if day < 352 { (day / 32) as usize } else { 10 }
-}
-
-// The month of a day by one look at the table: a day's 32nd part of the year, from 0, is its month, from 0, or the one before.
+// The month of a day, 1 to 12: the first that does not end before it.
 fn month(year: u16, day: u16) -> usize
     ensures { λ r. ⌜ r ≡ monthOf year day ⌝ }
 {
-    let part = part_of(day);
-    if days_to(year, part + 1) < day {
-        part + 2
-    } else {
-        part + 1
+    for m in 1..MONTHS {
+        if day <= days_to(year, m) {
+            return m;
+        }
     }
+    MONTHS
 }
 
 // The season of any day of any year: 1 winter .. 4 autumn. Day 0 counts to January, a day past the year to December.
@@ -86,6 +80,14 @@ pub fn season(year: u16, day: u16) -> u8
 {
     let m = month(year, day);
     SEASONS[m - 1]
+}
+
+// The days of its month that come after a day: they lie in its season, too. None past the year.
+pub fn month_left(year: u16, day: u16) -> u16
+    ensures { λ r. ⌜ r ≡ monthLeft year day ⌝ }
+{
+    let end = days_to(year, month(year, day));
+    if end < day { 0 } else { end - day }
 }
 
 // The weekday of any day of any year: 0 Monday .. 6 Sunday. Years are not looped over: the leap days before a year are counted
@@ -129,4 +131,12 @@ pub fn period_season(year: u16, k: u16) -> u8
 {
     let date = period_date(year, k);
     season(date.year, date.day)
+}
+
+// The days of the reference period that come after a day in its month.
+pub fn period_left(year: u16, k: u16) -> u16
+    ensures { λ r. ⌜ r ≡ periodLeft year k ⌝ }
+{
+    let date = period_date(year, k);
+    month_left(date.year, date.day)
 }
