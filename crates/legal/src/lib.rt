@@ -3,7 +3,7 @@
 ghost use mathlib.Core.Path.{_≡_};
 ghost use Prim.Native.Nat.{max};
 ghost use lib.ListN.{getD};
-ghost use Rattle.readings.specs.Legal.{highestOf, firstAbove, firstIllegal};
+ghost use Rattle.readings.specs.Legal.{illegal, highestOf, firstAbove, firstIllegal};
 use answers::Place;
 use readings::Run;
 
@@ -25,10 +25,24 @@ pub fn highest(readings: &[u32]) -> u32
     top
 }
 
-// The place of the first reading above a limit, or how many readings there are.
+// Is any reading above a limit? One comparison for each and no way out of the loop: less work than to find the highest.
+fn any_above(readings: &[u32], limit: u32) -> bool
+    ensures { λ r. ⌜ r ≡ illegal limit (highestOf (now (readings .entry))) ⌝ }
+{
+    let mut any = false;
+    for i in 0..readings.len() {
+        any = any | (limit < readings[i]);
+    }
+    any
+}
+
+// The place of the first reading above a limit, or how many readings there are. It is searched for only where there is one.
 pub fn first_above(readings: &[u32], limit: u32) -> usize
     ensures { λ r. ⌜ r ≡ firstAbove limit (now (readings .entry)) ⌝ }
 {
+    if !any_above(readings, limit) {
+        return readings.len();
+    }
     for i in 0..readings.len() {
         if limit < readings[i] {
             return i;

@@ -4,6 +4,7 @@ use mathlib.Core.Path.{_≡_, sym, _∙_}
 use mathlib.Core.Bool.{Bool, true}
 use mathlib.Core.List.{List}
 use Prim.Native.Nat.{ℕ, _+_, _*_, _≤_, _<_}
+use native.Mathlib.Decide.{decLt}
 use native.Mathlib.Omega.{arith}
 use borrow.Author.Tests.{lt-ltb, le-ltb, ltb-true, ltb-false}
 use lib.Dec.{ltb}
@@ -41,6 +42,21 @@ module _ (limit : ℕ) (xs : List ℕ) where
   highest-illegal h =
       let e = any-above (λ i. getD xs i 0) limit (length xs) ∙ lt-ltb limit _ h in
       ltb-true _ _ (sym (any-first above (length xs)) ∙ e)
+
+  -- so where the search ends tells it
+  pub found-illegal : firstAbove limit xs < length xs → limit < highestOf xs
+  found-illegal h = go (decLt limit (highestOf xs))
+    where
+      go : Dec (limit < highestOf xs) → limit < highestOf xs
+      go (yes l) = l
+      go (no l) = absurd (omega (arith, h, highest-legal (omega arith)))
+
+  pub none-illegal : length xs ≤ firstAbove limit xs → highestOf xs ≤ limit
+  none-illegal h = go (decLt limit (highestOf xs))
+    where
+      go : Dec (limit < highestOf xs) → highestOf xs ≤ limit
+      go (yes l) = absurd (omega (arith, h, highest-illegal l))
+      go (no l) = omega arith
 
 -- a run: a search through its days and through the positions of a day
 module _ (run : Run) (limit : ℕ) (xs : List ℕ) where

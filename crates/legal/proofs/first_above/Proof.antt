@@ -1,12 +1,16 @@
 -- `legal::first_above` meets its contract. The loop's invariant: none of the first i readings is above the limit.
 -- Assumes nothing.
+use mathlib.Core.Path.{_≡_, refl, sym, _∙_}
+use mathlib.Core.Bool.{Bool, true, false, not}
 use Prim.Native.Nat.{_≤_, _-_}
 use native.Mathlib.Omega.{arith}
-use borrow.Author.Tests.{le-ltb}
+use borrow.Author.Tests.{le-ltb, ltb-false}
 use borrow.Author.Needs.{needs}
 use lib.ListN.{length}
 use Rattle.over.proofs.Tests.{Passed, passed-none, passed-more}
-use Rattle.readings.proofs.Legal.{above, above-found, above-none}
+use Rattle.over.proofs.First.{first-le}
+use Rattle.readings.specs.Legal.{highestOf, firstAbove}
+use Rattle.readings.proofs.Legal.{above, above-found, above-none, highest-legal}
 use Rattle.legal.proofs.first_above.Statement.{statement}
 use Rattle.legal.proofs.first_above.Tie as tie
 
@@ -16,8 +20,20 @@ Inv-loop readings limit i₀ i-end i = (i ≤ length readings) × Passed (above 
 abbrev μ-loop : tie.MeasureT-loop
 μ-loop readings limit i₀ i-end i = length readings - i
 
+not-so : (b : Bool) → not b ≡ true → b ≡ false
+not-so true e = sym e
+not-so false e = refl
+
+returns : tie.Need-returns Inv-loop μ-loop
+unfolding firstAbove
+returns c =
+    let a = c .before .before .before .args in
+    let xs = a .readings .now in
+    let legal = highest-legal (a .limit) xs (ltb-false (a .limit) (highestOf xs) (sym (c .before .any-above .ensures) ∙ not-so (c .before .any-above .result) (c .if1 .taken))) in
+    omega (arith, legal, first-le (above (a .limit) xs) (length xs))
+
 loop-again : tie.Need-loop-again Inv-loop μ-loop
-loop-again c = (omega arith, passed-more (c .before .before .before .loop .inv .1) (le-ltb _ _ (c .if1 .left)))
+loop-again c = (omega arith, passed-more (c .before .before .before .loop .inv .1) (le-ltb _ _ (c .if2 .left)))
 
 pub first-above-spec : {M : Type 1} → statement M
 first-above-spec =
@@ -25,10 +41,12 @@ first-above-spec =
     (tie.spec
     Inv-loop
     μ-loop
+    (λ c κs. search needs)  -- any-above-requires
+    returns
     (λ c. (omega arith, passed-none))  -- loop-holds
-    (λ c. search needs)  -- mul-if1
-    (λ c. search needs)  -- shared-slice-read-if1
-    (λ c. above-found _ _ (c .before .before .before .loop .inv .1) (omega arith) (omega arith))  -- returns
+    (λ c. search needs)  -- mul-if2
+    (λ c. search needs)  -- shared-slice-read-if2
+    (λ c. above-found _ _ (c .before .before .before .loop .inv .1) (omega arith) (omega arith))  -- returns-2
     (λ c. search needs)  -- add-i
     (λ c. search needs)  -- loop-less
     loop-again
