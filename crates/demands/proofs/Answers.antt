@@ -29,10 +29,10 @@ use Rattle.sheet.proofs.Exactly.{read-exactly, write-exactly}
 use Rattle.sheet.proofs.Back.{buffer-read, same-bytes}
 use Rattle.windows.specs.Chosen.{kept, curveOf, curvesOf}
 use Rattle.windows.proofs.Forty.{chosen-at}
-use Rattle.grid.specs.Curves.{periodRun, curveAt, flatCurves}
+use Rattle.grid_curves.specs.Curves.{periodRun, curveAt, flatCurves}
 use Rattle.grid.specs.Answers.{openAnswer, sheetOf, finishAnswer, finished, windowsAnswer, windowsBuffer}
 use Rattle.grid.specs.Rows.{periodPeak}
-use Rattle.grid.proofs.Curves.{peak-curves}
+use Rattle.grid_curves.proofs.Curves.{peak-curves}
 use Rattle.grid.proofs.Exactly.{open-exactly, close-exactly, windows-exactly}
 use Rattle.grid.proofs.Whole.{days-whole as grid-days, same-place as grid-place}
 use Rattle.tariff.proofs.Answered.{number-is}

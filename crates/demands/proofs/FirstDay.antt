@@ -27,11 +27,11 @@ use Rattle.readings.proofs.Runs.{len-some, start-none, start-more, period-run, 
 use Rattle.readings.proofs.Days.{next-taken, read-none, reading-le, series-legal}
 use Rattle.sheet.specs.Bytes.{sheetSize, sheetIn}
 use Rattle.grid.specs.declared.Grid.{Grid}
-use Rattle.grid.specs.Curves.{periodRun, flatCurves}
+use Rattle.grid_curves.specs.Curves.{periodRun, flatCurves}
 use Rattle.grid.specs.Answers.{windowsAnswer, openAnswer as gridOpens, openGrid, dayAnswer as gridDay, closeAnswer as gridCloses}
 use Rattle.grid.specs.Rows.{WindowsRow}
 use Rattle.grid.specs.Rows.WindowsRow.{seven}
-use Rattle.grid.proofs.Curves.{peak-curves}
+use Rattle.grid_curves.proofs.Curves.{peak-curves}
 use Rattle.grid.proofs.Answered.{finish-none}
 use Rattle.grid.proofs.Steps.{close-finish}
 use Rattle.grid.proofs.Exactly.{windows-exactly}

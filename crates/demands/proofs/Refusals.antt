@@ -29,7 +29,7 @@ use Rattle.sheet.specs.Answers.{readAnswer, writeAnswer, written}
 use Rattle.sheet.proofs.Exactly.{read-zero}
 use Rattle.grid.specs.Answers.{windowsAnswer, windowsBuffer, openAnswer as gridOpens, shut as gridShut, dayAnswer as gridDay, dayGrid, closeAnswer as gridCloses, closeBuffer, finishAnswer, sheetOf}
 use Rattle.grid.specs.declared.Grid.{Grid}
-use Rattle.grid.specs.Curves.{periodRun}
+use Rattle.grid_curves.specs.Curves.{periodRun}
 use Rattle.grid.proofs.Steps.{close-short}
 use Rattle.grid.proofs.Only.{shut-day as grid-shut-day, shut-close as grid-shut-close}
 use Rattle.tariff.specs.declared.Prices.{Prices}

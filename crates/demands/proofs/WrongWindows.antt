@@ -27,11 +27,11 @@ use Rattle.packed.specs.Bytes.{unlike}
 use Rattle.sheet.specs.Bytes.{sheetSize}
 use Rattle.sheet.specs.Answers.{readAnswer, readSheet}
 use Rattle.windows.specs.Chosen.{aboveLine, comesBefore, rank, kept}
-use Rattle.grid.specs.Curves.{periodRun, inSeason, topOf, curveAt}
+use Rattle.grid_curves.specs.Curves.{periodRun, inSeason, topOf, curveAt}
 use Rattle.grid.specs.Answers.{windowsAnswer, windowsBuffer}
 use Rattle.grid.specs.Rows.{periodPeak}
 use Rattle.grid.specs.Rows.WindowsRow.{zero}
-use Rattle.grid.proofs.Curves.{curve-le, in-curve}
+use Rattle.grid_curves.proofs.Curves.{curve-le, in-curve}
 use Rattle.grid.proofs.Exactly.{windows-exactly}
 use Rattle.tariff.proofs.Answered.{number-is}
 use Rattle.demands.specs.Answers.{curveIn, SheetLaid}

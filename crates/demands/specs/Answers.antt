@@ -22,7 +22,7 @@ use Rattle.sheet.specs.Answers.{readAnswer, readSheet, readOf, writeAnswer, wri
 use Rattle.sheet.specs.Rows.{ReadRow, WriteRow}
 use Rattle.windows.specs.Chosen.{kept}
 use Rattle.grid.specs.declared.Grid.{Grid}
-use Rattle.grid.specs.Curves.{periodRun, curveAt}
+use Rattle.grid_curves.specs.Curves.{periodRun, curveAt}
 use Rattle.grid.specs.Answers.{windowsAnswer, windowsBuffer, openAnswer as gridOpens, openGrid, dayAnswer as gridDay, dayGrid, closeAnswer as gridCloses, closeBuffer}
 use Rattle.grid.specs.Rows.{OpenRow, CloseRow, WindowsRow, periodPeak}
 use Rattle.tariff.specs.declared.Prices.{Prices}

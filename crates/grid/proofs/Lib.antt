@@ -1,5 +1,3 @@
-pub mod Laid
-pub mod Curves
 pub mod Answered
 pub mod Steps
 pub mod Only

@@ -1,3 +1,2 @@
-pub mod Curves
 pub mod Answers
 pub mod Rows

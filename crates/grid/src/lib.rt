@@ -2,17 +2,13 @@
 // Main theorem: days given one by one, refused ones among them, close as the whole series of the taken days, sheet bytes included
 // (`days-whole`, proofs/Whole).
 ghost use mathlib.Core.Path.{_≡_};
-ghost use Prim.Native.Nat.{ℕ, _<_, _+_};
 ghost use lib.ListN.{length};
-ghost use Rattle.dates.specs.Dates.{mostDays};
-ghost use Rattle.over.specs.Over.{table};
-ghost use Rattle.dates.specs.Period.{periodDays, periodSeason};
-ghost use Rattle.readings.specs.Runs.{dayLen, runReadings};
-ghost use Rattle.sheet.specs.Windows.{places};
+ghost use Rattle.answers.specs.Ruling.{gridMost};
 ghost use Rattle.readings.specs.Legal.{highestOf};
+ghost use Rattle.readings.specs.Days.{nextAnswer};
 ghost use Rattle.sheet.specs.Answers.{saidOfSheet};
-ghost use Rattle.grid.specs.Curves.{periodRun, flatCurves, merged};
-ghost use Rattle.grid.specs.Answers.{saidOfGrid, finishAnswer, finished, windowsAnswer, windowsBuffer, openAnswer, openGrid, shut, dayAnswer, dayGrid, taken, closeAnswer, closeBuffer};
+ghost use Rattle.grid_curves.specs.Curves.{periodRun};
+ghost use Rattle.grid.specs.Answers.{saidOfGrid, finishAnswer, finished, windowsAnswer, windowsBuffer, openAnswer, openGrid, shut, dayAnswer, dayGrid, dayCurves, closeAnswer, closeBuffer};
 use answers::Place;
 use readings::Run;
 use sheet::Sheet;
@@ -43,45 +39,6 @@ pub struct Grid {
 pub struct Stepped {
     pub answer: GridAnswer,
     pub grid: Grid,
-}
-
-// The season of each day of the period. Looked up before the pass over the readings: no day's pass waits for its season then.
-fn day_seasons(year: u16) -> [u8; dates::MOST_DAYS]
-    ensures { λ r. ⌜ r ≡ table (λ (k : ℕ). periodSeason year (k + 1)) mostDays ⌝ }
-{
-    let mut out = [0; dates::MOST_DAYS];
-    for k in 0..dates::MOST_DAYS {
-        out[k] = dates::period_season(year, (k + 1) as u16);
-    }
-    out
-}
-
-// Lays day d, from 0, of a season over the curves: every day counts, weekends too.
-fn lay(curves: &mut [u32; 384], year: u16, d: u16, season: u8, day: &[u32])
-    requires { ⌜ (length (now curves) ≡ places) × (d < mostDays) × (length (now day) ≡ dayLen (periodRun year) d) × (season ≡ periodSeason year (d + 1)) ⌝ }
-    ensures { λ r. ⌜ now (curves .exit) ≡ merged year (now (curves .entry)) d (now (day .entry)) ⌝ }
-{
-    let base = answers::DAY_QUARTERS * (season as usize - 1);
-    for p in 0..day.len() {
-        let at = base + readings::quarter_of(Run { year, period: true }, d, p);
-        curves[at] = legal::larger(curves[at], day[p]);
-    }
-}
-
-// The curves of all days of a whole series: one pass, over one lent array.
-fn collect(year: u16, days: u16, series: &[u32]) -> [u32; 384]
-    requires { ⌜ (days ≡ periodDays year) × (length (now series) ≡ runReadings (periodRun year)) ⌝ }
-    ensures { λ r. ⌜ r ≡ flatCurves year (now (series .entry)) days ⌝ }
-{
-    let seasons = day_seasons(year);
-    let mut curves = [0; 384];
-    let mut at = 0;
-    for d in 0..days {
-        let end = at + readings::day_len(Run { year, period: true }, d);
-        lay(&mut curves, year, d, seasons[d as usize], &series[at..end]);
-        at = end;
-    }
-    curves
 }
 
 fn told(answer: SheetAnswer) -> GridAnswer
@@ -132,12 +89,45 @@ pub fn windows(year: u16, level: u8, series: &[u32], out: &mut [u8]) -> GridAnsw
     if series.len() != readings::run_readings(run) {
         return GridAnswer::WrongLength;
     }
-    let curves = collect(year, dates::period_days(year), series);
+    let curves = grid_curves::collect(year, series);
     let peak = legal::highest(&curves);
     if answers::GRID_MOST < peak {
         return GridAnswer::BadReading(legal::first_illegal(run, series, answers::GRID_MOST));
     }
     finish(year, level, &curves, peak, out)
+}
+
+// What a day is answered where so many days are taken: 13, then 4, then 5.
+fn day_answer(year: u16, seen: u16, day: &[u32]) -> GridAnswer
+    ensures { λ r. ⌜ saidOfGrid r ≡ nextAnswer (periodRun year) gridMost seen (now (day .entry)) ⌝ }
+{
+    if dates::period_days(year) <= seen {
+        return GridAnswer::DayOut;
+    }
+    if day.len() != readings::day_len(Run { year, period: true }, seen) {
+        return GridAnswer::WrongLength;
+    }
+    let first = legal::first_above(day, answers::GRID_MOST);
+    if first < day.len() {
+        return GridAnswer::BadReading(Place {
+            day: seen + 1,
+            position: first as u16,
+        });
+    }
+    GridAnswer::Done
+}
+
+// One day more, laid over lent curves where so many days are taken: for a host that keeps the curves itself. Refuses 13, 4, 5 in this
+// order, and then changes no value.
+pub fn take_day(curves: &mut [u32; 384], year: u16, seen: u16, day: &[u32]) -> GridAnswer
+    ensures { λ r. ⌜ (saidOfGrid r ≡ nextAnswer (periodRun year) gridMost seen (now (day .entry))) × (now (curves .exit) ≡ dayCurves year (now (curves .entry)) seen (now (day .entry))) ⌝ }
+{
+    let answer = day_answer(year, seen, day);
+    let GridAnswer::Done = answer else {
+        return answer;
+    };
+    grid_curves::lay_day(&mut *curves, year, seen, day);
+    answer
 }
 
 impl Grid {
@@ -180,53 +170,21 @@ impl Grid {
         }
     }
 
-    // A legal day is laid over the state.
-    fn add(self, day: &[u32]) -> Grid
-        requires { ⌜ (self .seen < periodDays (self .year)) × (length (now day) ≡ dayLen (periodRun (self .year)) (self .seen)) ⌝ }
-        ensures { λ r. ⌜ r ≡ taken self (now (day .entry)) ⌝ }
-    {
-        let year = self.year;
-        let seen = self.seen;
-        let season = dates::period_season(year, seen + 1);
-        let mut next = self;
-        lay(&mut next.curves, year, seen, season, day);
-        next.seen = seen + 1;
-        next
-    }
-
-    // One day more. Refuses 13, 4, 5 in this order, and then hands back the state as it was.
+    // One day more. Refuses 13, 4, 5 in this order, and then hands back the state as it was. The state is copied only once the day is
+    // found legal.
     pub fn day(self, day: &[u32]) -> Stepped
         ensures { λ r. ⌜ (saidOfGrid (r .answer) ≡ dayAnswer self (now (day .entry))) × (r .grid ≡ dayGrid self (now (day .entry))) ⌝ }
     {
         let year = self.year;
         let seen = self.seen;
-        if dates::period_days(year) <= seen {
-            return Stepped {
-                answer: GridAnswer::DayOut,
-                grid: self,
-            };
-        }
-        if day.len() != readings::day_len(Run { year, period: true }, seen) {
-            return Stepped {
-                answer: GridAnswer::WrongLength,
-                grid: self,
-            };
-        }
-        if answers::GRID_MOST < legal::highest(day) {
-            let position = legal::first_above(day, answers::GRID_MOST) as u16;
-            return Stepped {
-                answer: GridAnswer::BadReading(Place {
-                    day: seen + 1,
-                    position,
-                }),
-                grid: self,
-            };
-        }
-        let next = self.add(day);
-        Stepped {
-            answer: GridAnswer::Done,
-            grid: next,
-        }
+        let answer = day_answer(year, seen, day);
+        let GridAnswer::Done = answer else {
+            return Stepped { answer, grid: self };
+        };
+        let mut grid = self;
+        grid_curves::lay_day(&mut grid.curves, year, seen, day);
+        grid.seen = seen + 1;
+        Stepped { answer, grid }
     }
 
     // The windows of the days taken, as a sheet in a lent buffer. Refuses 14, 13, 7 in this order, and then changes no byte.

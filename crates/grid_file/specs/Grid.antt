@@ -11,7 +11,7 @@ use Rattle.sheet.specs.declared.Sheet.{Sheet}
 use Rattle.packed.specs.Bytes.{twoAt, markSize}
 use Rattle.sheet.specs.Bytes.{sheetSize}
 use Rattle.sheet.specs.Answers.{readSheet}
-use Rattle.grid.specs.Curves.{periodRun}
+use Rattle.grid_curves.specs.Curves.{periodRun}
 use Rattle.grid.specs.Answers.{windowsAnswer, windowsBuffer}
 use Rattle.fields.specs.Layout.{Field, Layout, layoutOf, headSize}
 use Rattle.fields.specs.Series.{seriesIn}

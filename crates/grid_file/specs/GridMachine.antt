@@ -6,7 +6,7 @@ use Rattle.answers.specs.Said.{Said, badPlace}
 use Rattle.dates.specs.Period.{periodDays}
 use Rattle.sheet.specs.Bytes.{sheetSize}
 use Rattle.grid.specs.declared.Grid.{Grid}
-use Rattle.grid.specs.Curves.{periodRun}
+use Rattle.grid_curves.specs.Curves.{periodRun}
 use Rattle.grid.specs.Answers.{openGrid, dayAnswer, dayGrid, closeAnswer, closeBuffer}
 use Rattle.fields.specs.declared.Stage.{Stage}
 use Rattle.fields.specs.declared.Stage.the-variants.{Going, Refused, BadReading, Complete}

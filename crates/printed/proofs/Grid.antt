@@ -25,7 +25,7 @@ use Rattle.readings.proofs.Runs.{start-none, run-all, period-run}
 use Rattle.readings.proofs.Days.{series-legal, next-bad, next-taken}
 use Rattle.sheet.specs.Bytes.{sheetSize}
 use Rattle.grid.specs.declared.Grid.{Grid}
-use Rattle.grid.specs.Curves.{periodRun}
+use Rattle.grid_curves.specs.Curves.{periodRun}
 use Rattle.grid.specs.Answers.{openAnswer, openGrid, dayAnswer, dayGrid, closeBuffer, windowsAnswer}
 use Rattle.grid.proofs.Steps.{open-done}
 use Rattle.grid.proofs.Whole.{holding, machine, opens-empty, closes-whole}

@@ -6,7 +6,7 @@ use native.Mathlib.Omega.{arith}
 use borrow.Author.Needs.{needs}
 use lib.Seq.{length-take-le}
 use lib.ListN.{length, take}
-use Rattle.grid.specs.Curves.{periodRun}
+use Rattle.grid_curves.specs.Curves.{periodRun}
 use Rattle.fields.specs.Machine.{dayGiven}
 use Rattle.fields.specs.Series.{readingsOf}
 use Rattle.fields.specs.Stages.{dayStage}

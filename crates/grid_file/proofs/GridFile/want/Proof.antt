@@ -1,6 +1,6 @@
 -- `grid_file::GridFile::want` meets its contract, a case for each return.
 -- Assumes nothing.
-use Rattle.grid.specs.Curves.{periodRun}
+use Rattle.grid_curves.specs.Curves.{periodRun}
 use mathlib.Core.Path.{sym, ap, _∙_}
 use Prim.Native.Nat.{ℕ, _*_}
 use native.Mathlib.Omega.{arith}

@@ -1,0 +1,3 @@
+pub mod Laid
+pub mod Curves
+pub mod Fours

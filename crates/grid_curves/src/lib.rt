@@ -1,0 +1,137 @@
+// The four curves of a grid series: for each season and quarter the highest reading, over all days. Document 01, High-load windows.
+// Main theorem: the highest value of the curves is the period's peak, since every reading goes into one of them (`peak-curves`,
+// proofs/Curves).
+ghost use mathlib.Core.Path.{_≡_};
+ghost use Prim.Native.Nat.{ℕ, _<_, _≤_, _+_, min};
+ghost use lib.ListN.{length};
+ghost use Rattle.dates.specs.Period.{periodDays, periodSeason};
+ghost use Rattle.readings.specs.Runs.{dayLen, dayStart};
+ghost use Rattle.grid_curves.specs.Curves.{periodRun, flatCurves, merged};
+ghost use Rattle.grid_curves.specs.Four.{fourDays, overlaid};
+use readings::Run;
+
+// The readings of four days.
+const FOUR_DAYS: usize = 384;
+
+// The last day number that 16 bits hold.
+const LAST_DAY: u16 = 65535;
+
+// How far a pass over a series has come: the days that are laid, and the readings before the next.
+struct Reach {
+    d: u16,
+    at: usize,
+}
+
+fn smaller(a: usize, b: usize) -> usize
+    ensures { λ r. ⌜ r ≡ min a b ⌝ }
+{
+    if a < b { a } else { b }
+}
+
+// The season of day d, from 0. Past every period the days lie in winter.
+fn season_of(year: u16, d: u16) -> u8
+    ensures { λ r. ⌜ r ≡ periodSeason year (d + 1) ⌝ }
+{
+    if d < LAST_DAY {
+        return dates::period_season(year, d + 1);
+    }
+    1
+}
+
+// Lays the readings of day d, from 0, over the curve of its season: every day counts, weekends too.
+fn lay(curves: &mut [u32; 384], year: u16, d: u16, season: u8, day: &[u32])
+    requires { ⌜ (length (now day) ≤ dayLen (periodRun year) d) × (season ≡ periodSeason year (d + 1)) ⌝ }
+    ensures { λ r. ⌜ now (curves .exit) ≡ merged year (now (curves .entry)) d (now (day .entry)) ⌝ }
+{
+    let base = answers::DAY_QUARTERS * (season as usize - 1);
+    for p in 0..day.len() {
+        let at = base + readings::quarter_of(Run { year, period: true }, d, p);
+        curves[at] = legal::larger(curves[at], day[p]);
+    }
+}
+
+// Lays any readings over the curves as day d, from 0, of a period: those behind the day's last are not read.
+pub fn lay_day(curves: &mut [u32; 384], year: u16, d: u16, day: &[u32])
+    ensures { λ r. ⌜ now (curves .exit) ≡ merged year (now (curves .entry)) d (now (day .entry)) ⌝ }
+{
+    let n = smaller(day.len(), readings::day_len(Run { year, period: true }, d));
+    lay(&mut *curves, year, d, season_of(year, d), &day[..n]);
+}
+
+// Lays four days of one season, which stand one after the other, over the curves: a curve's value is read and written once for all four.
+fn lay_four(curves: &mut [u32; 384], season: u8, four: &[u32])
+    requires { ⌜ (length (now four) ≡ fourDays) × (1 ≤ season) × (season ≤ 4) ⌝ }
+    ensures { λ r. ⌜ now (curves .exit) ≡ overlaid season (now (curves .entry)) (now (four .entry)) ⌝ }
+{
+    let base = answers::DAY_QUARTERS * (season as usize - 1);
+    for q in 0..answers::DAY_QUARTERS {
+        let early = legal::larger(four[q], four[answers::DAY_QUARTERS + q]);
+        let late = legal::larger(
+            four[2 * answers::DAY_QUARTERS + q],
+            four[3 * answers::DAY_QUARTERS + q],
+        );
+        let at = base + q;
+        curves[at] = legal::larger(curves[at], legal::larger(early, late));
+    }
+}
+
+// Lays the next four of a season's days up to `end` over the curves, or the next one where there are no four, or no readings for them.
+fn lay_next(
+    curves: &mut [u32; 384],
+    year: u16,
+    season: u8,
+    end: u16,
+    d: u16,
+    at: usize,
+    series: &[u32],
+) -> Reach
+    requires { ⌜ (d < end) × (end ≤ periodDays year) × ((k : ℕ) → d ≤ k → k < end → periodSeason year (k + 1) ≡ season) × (at ≡ dayStart (periodRun year) d) × (now curves ≡ flatCurves year (now series) d) ⌝ }
+    ensures { λ r. ⌜ (d < r .d) × (r .d ≤ end) × (r .at ≡ dayStart (periodRun year) (r .d)) × (now (curves .exit) ≡ flatCurves year (now (series .entry)) (r .d)) ⌝ }
+{
+    let after = at + FOUR_DAYS;
+    if (d + 4 <= end) & (after <= series.len()) {
+        lay_four(&mut *curves, season, &series[at..after]);
+        return Reach {
+            d: d + 4,
+            at: after,
+        };
+    }
+    let next = at + readings::day_len(Run { year, period: true }, d);
+    let from = smaller(at, series.len());
+    let to = smaller(next, series.len());
+    lay(&mut *curves, year, d, season, &series[from..to]);
+    Reach { d: d + 1, at: next }
+}
+
+// Lays the days from day d on to the end of their month over the curves: they lie in one season.
+fn lay_month(curves: &mut [u32; 384], year: u16, from: u16, start: usize, series: &[u32]) -> Reach
+    requires { ⌜ (from < periodDays year) × (start ≡ dayStart (periodRun year) from) × (now curves ≡ flatCurves year (now series) from) ⌝ }
+    ensures { λ r. ⌜ (from < r .d) × (r .d ≤ periodDays year) × (r .at ≡ dayStart (periodRun year) (r .d)) × (now (curves .exit) ≡ flatCurves year (now (series .entry)) (r .d)) ⌝ }
+{
+    let season = dates::period_season(year, from + 1);
+    let end = from + 1 + dates::period_left(year, from + 1);
+    let mut d = from;
+    let mut at = start;
+    while d < end {
+        let next = lay_next(&mut *curves, year, season, end, d, at, series);
+        d = next.d;
+        at = next.at;
+    }
+    Reach { d, at }
+}
+
+// The curves of the period's days in any series, month by month: one pass, over one array. Behind the last reading there is 0.
+pub fn collect(year: u16, series: &[u32]) -> [u32; 384]
+    ensures { λ r. ⌜ r ≡ flatCurves year (now (series .entry)) (periodDays year) ⌝ }
+{
+    let days = dates::period_days(year);
+    let mut curves = [0; 384];
+    let mut at = 0;
+    let mut d = 0;
+    while d < days {
+        let next = lay_month(&mut curves, year, d, at, series);
+        d = next.d;
+        at = next.at;
+    }
+    curves
+}
