@@ -26,7 +26,7 @@ module _ (curve : List ℕ) where
   value k = getD curve k 0
 
   -- the order of quarters is strict and total
-  higher : (p q : ℕ) → value q < value p → comesBefore curve p q ≡ true
+  pub higher : (p q : ℕ) → value q < value p → comesBefore curve p q ≡ true
   unfolding comesBefore
   higher p q h = simp (ne-eqb (value p) (value q) (omega arith), lt-ltb (value q) (value p) h)
 
@@ -34,7 +34,7 @@ module _ (curve : List ℕ) where
   unfolding comesBefore
   earlier p q e h = simp (eq-eqb (value p) (value q) e, lt-ltb p q h)
 
-  why : (p q : ℕ) → comesBefore curve p q ≡ true → (value q < value p) ⊎ ((value p ≡ value q) × (p < q))
+  pub why : (p q : ℕ) → comesBefore curve p q ≡ true → (value q < value p) ⊎ ((value p ≡ value q) × (p < q))
   unfolding comesBefore
   why p q t = go (ℕ-discrete (value p) (value q))
     where
@@ -71,8 +71,11 @@ module _ (curve : List ℕ) where
     at-most = omega (arith, forty)
 
     -- a quarter's rank counts the quarters above the line before it, so an earlier one's is no larger
-    abbrev ahead : ℕ → ℕ → Bool
+    abbrev pub ahead : ℕ → ℕ → Bool
     ahead q k = aboveLine peak (value k) && comesBefore curve k q
+
+    pub not-ahead : (k : ℕ) → ahead k k ≡ false
+    not-ahead k = ⊎-elim (λ t. let b = both (aboveLine peak (value k)) _ t .1 in absurd (asym k k b b)) (λ f. f) (decided (ahead k k))
 
     rank-before : (p q : ℕ) → comesBefore curve p q ≡ true → rank peak curve p ≤ rank peak curve q
     unfolding rank
@@ -86,11 +89,8 @@ module _ (curve : List ℕ) where
     pub few-kept : (q : ℕ) → q < dayQuarters → aboveIn peak curve ≤ windowsMost → aboveLine peak (value q) ≡ true → kept peak curve q ≡ true
     unfolding kept rank aboveIn
     few-kept q l few a =
-        let less = count-less (ahead q) (λ k. aboveLine peak (value k)) dayQuarters q (λ k m t. both (aboveLine peak (value k)) _ t .0) l a (self q) in
+        let less = count-less (ahead q) (λ k. aboveLine peak (value k)) dayQuarters q (λ k m t. both (aboveLine peak (value k)) _ t .0) l a (not-ahead q) in
         pair a (lt-ltb (countOver (ahead q) dayQuarters) windowsMost (omega arith))
-      where
-        self : (k : ℕ) → ahead k k ≡ false
-        self k = ⊎-elim (λ t. let b = both (aboveLine peak (value k)) _ t .1 in absurd (asym k k b b)) (λ f. f) (decided (ahead k k))
 
     -- a quarter above the line that comes before a kept one is kept
     pub kept-before : (p q : ℕ) → aboveLine peak (value p) ≡ true → comesBefore curve p q ≡ true → kept peak curve q ≡ true → kept peak curve p ≡ true

@@ -1,2 +1,4 @@
 pub mod Forty
 pub mod Ahead
+pub mod Cutting
+pub mod Added

@@ -1,14 +1,14 @@
 // The high-load windows of four curves: the quarters above the line, at most forty in a season.
 // Main theorem: a season keeps exactly the smaller of forty and the number above the line, and no kept quarter is lower than one left out.
 ghost use mathlib.Core.Path.{_≡_};
-ghost use mathlib.Core.Bool.{true, _&&_};
-ghost use Prim.Native.Nat.{ℕ, _<_, _≤_};
-ghost use lib.Dec.{leb, ltb};
+ghost use Prim.Native.Nat.{ℕ, _+_, _-_, _<_, _≤_};
+ghost use lib.Dec.{ltb};
 ghost use lib.ListN.{getD};
-ghost use Rattle.over.specs.Over.{bit, countOver};
-ghost use Rattle.answers.specs.Ruling.{dayQuarters};
+ghost use Rattle.over.specs.Over.{bit, table};
+ghost use Rattle.answers.specs.Ruling.{dayQuarters, windowsMost};
 ghost use Rattle.sheet.specs.Windows.{seasons};
-ghost use Rattle.windows.specs.Chosen.{aboveLine, aboveIn, comesBefore, rank, kept, keptOf, chosenOf, curveOf, curvesOf};
+ghost use Rattle.windows.specs.Chosen.{keptOf, chosenOf, curveOf, curvesOf};
+ghost use Rattle.windows.specs.Cuts.{lineOf, higherThan, keptBy};
 
 // The line lies at 19 twentieths of the peak.
 const LINE_PARTS: u64 = 19;
@@ -16,6 +16,18 @@ const LINE_PARTS: u64 = 19;
 const PEAK_PARTS: u64 = 20;
 
 const SEASONS: usize = 4;
+
+// Two limits between which a season is cut.
+struct Limits {
+    low: u32,
+    high: u32,
+}
+
+// Where a season is cut: the quarters above the limit are kept, and the first of those that are equal to it.
+struct Cut {
+    limit: u32,
+    equals: usize,
+}
 
 // One season of the flat curves, from 0.
 fn curve(flat: &[u32; 384], season: usize) -> [u32; 96]
@@ -40,17 +52,11 @@ fn curves(flat: &[u32; 384]) -> [[u32; 96]; 4]
     out
 }
 
-fn is_above(peak: u32, value: u32) -> bool
-    ensures { λ r. ⌜ r ≡ aboveLine peak value ⌝ }
+// The line as a value: what is higher is above the line.
+fn line_of(peak: u32) -> u32
+    ensures { λ r. ⌜ r ≡ lineOf peak ⌝ }
 {
-    LINE_PARTS * (peak as u64) < PEAK_PARTS * (value as u64)
-}
-
-// What a quarter before one of value b adds to its rank, and what one after it adds: among equals the earlier comes first.
-fn if_no_lower(b: u32, a: u32) -> u32
-    ensures { λ r. ⌜ (r ≡ bit (leb b a)) × (r ≤ 1) ⌝ }
-{
-    if b <= a { 1 } else { 0 }
+    (LINE_PARTS * (peak as u64) / PEAK_PARTS) as u32
 }
 
 fn if_higher(b: u32, a: u32) -> u32
@@ -59,65 +65,102 @@ fn if_higher(b: u32, a: u32) -> u32
     if b < a { 1 } else { 0 }
 }
 
-// How many quarters above the line come before quarter q, which is above it: so is each that comes before, and no other test is made. Those that
-// are earlier in the day, then all.
-fn rank_early(peak: u32, curve: &[u32; 96], q: usize) -> u32
-    requires { ⌜ (q < dayQuarters) × (aboveLine peak (getD (now curve) q 0) ≡ true) ⌝ }
-    ensures { λ r. ⌜ (r ≡ countOver (λ (p : ℕ). aboveLine peak (getD (now (curve .entry)) p 0) && comesBefore (now (curve .entry)) p q) q) × (r ≤ q) ⌝ }
+// How many quarters are higher than a limit.
+fn count_above(curve: &[u32; 96], limit: u32) -> usize
+    ensures { λ r. ⌜ r ≡ higherThan (now (curve .entry)) limit ⌝ }
 {
-    let b = curve[q];
     let mut n: u32 = 0;
-    for p in 0..q {
-        n += if_no_lower(b, curve[p]);
+    for p in 0..answers::DAY_QUARTERS {
+        n += if_higher(limit, curve[p]);
     }
-    n
+    n as usize
 }
 
-fn rank_of(peak: u32, curve: &[u32; 96], q: usize) -> u32
-    requires { ⌜ (q < dayQuarters) × (aboveLine peak (getD (now curve) q 0) ≡ true) ⌝ }
-    ensures { λ r. ⌜ r ≡ rank peak (now (curve .entry)) q ⌝ }
+// Two limits that are nearer, forty quarters or more above the low one and no more than forty above the high one: the value in the middle
+// is one of them. Where just forty are above it, the search is over.
+fn nearer(curve: &[u32; 96], low: u32, high: u32) -> Limits
+    requires { ⌜ (low + 1 < high) × (windowsMost ≤ higherThan (now curve) low) × (higherThan (now curve) high ≤ windowsMost) ⌝ }
+    ensures { λ r. ⌜ (low ≤ r .low) × (r .low < r .high) × (r .high - r .low < high - low) × (windowsMost ≤ higherThan (now (curve .entry)) (r .low)) × (higherThan (now (curve .entry)) (r .high) ≤ windowsMost) ⌝ }
 {
-    let b = curve[q];
-    let mut n = rank_early(peak, curve, q);
-    for p in q..answers::DAY_QUARTERS {
-        n += if_higher(b, curve[p]);
+    let middle = low + (high - low) / 2;
+    let n = count_above(curve, middle);
+    if n < answers::WINDOWS_MOST {
+        return Limits { low, high: middle };
     }
-    n
+    if answers::WINDOWS_MOST < n {
+        return Limits { low: middle, high };
+    }
+    Limits {
+        low: middle - 1,
+        high: middle,
+    }
 }
 
-// How many quarters are above the line.
-fn above_of(peak: u32, curve: &[u32; 96]) -> usize
-    ensures { λ r. ⌜ r ≡ aboveIn peak (now (curve .entry)) ⌝ }
+// A limit that no more than forty quarters are above, and forty or more above the value before it: the way between two limits is halved.
+fn limit_between(curve: &[u32; 96], from: u32, to: u32) -> u32
+    requires { ⌜ (from < to) × (windowsMost ≤ higherThan (now curve) from) × (higherThan (now curve) to ≤ windowsMost) ⌝ }
+    ensures { λ r. ⌜ (from < r) × (windowsMost ≤ higherThan (now (curve .entry)) (r - 1)) × (higherThan (now (curve .entry)) r ≤ windowsMost) ⌝ }
+{
+    let mut low = from;
+    let mut high = to;
+    while 1 < high - low {
+        let next = nearer(curve, low, high);
+        low = next.low;
+        high = next.high;
+    }
+    high
+}
+
+// Where a season is cut: at the line, or higher where more than forty quarters are above it.
+fn cut_of(peak: u32, curve: &[u32; 96]) -> Cut
+    ensures { λ r. ⌜ table (keptBy (now (curve .entry)) (r .limit) (r .equals)) dayQuarters ≡ keptOf peak (now (curve .entry)) ⌝ }
+{
+    let line = line_of(peak);
+    if count_above(curve, line) <= answers::WINDOWS_MOST {
+        return Cut {
+            limit: line,
+            equals: 0,
+        };
+    }
+    let limit = limit_between(curve, line, legal::highest(curve));
+    Cut {
+        limit,
+        equals: answers::WINDOWS_MOST - count_above(curve, limit),
+    }
+}
+
+// The quarters that are higher than a limit.
+fn all_above(curve: &[u32; 96], limit: u32) -> [bool; 96]
+    ensures { λ r. ⌜ r ≡ table (λ (q : ℕ). ltb limit (getD (now (curve .entry)) q 0)) dayQuarters ⌝ }
+{
+    let mut out = [false; 96];
+    for q in 0..answers::DAY_QUARTERS {
+        out[q] = limit < curve[q];
+    }
+    out
+}
+
+// Adds the first of the quarters that are equal to the limit, so many.
+fn add_equals(out: &mut [bool; 96], curve: &[u32; 96], limit: u32, equals: usize)
+    requires { ⌜ now out ≡ table (λ (q : ℕ). ltb limit (getD (now curve) q 0)) dayQuarters ⌝ }
+    ensures { λ r. ⌜ now (out .exit) ≡ table (keptBy (now (curve .entry)) limit equals) dayQuarters ⌝ }
 {
     let mut n: usize = 0;
-    for p in 0..answers::DAY_QUARTERS {
-        n += answers::one_if(is_above(peak, curve[p]));
+    for q in 0..answers::DAY_QUARTERS {
+        let equal = curve[q] == limit;
+        out[q] = out[q] | (equal & (n < equals));
+        n += answers::one_if(equal);
     }
-    n
-}
-
-// Where no more than forty are above the line, all of them are kept, and no rank is counted.
-fn is_kept(peak: u32, curve: &[u32; 96], above: usize, q: usize) -> bool
-    requires { ⌜ (q < dayQuarters) × (above ≡ aboveIn peak (now curve)) ⌝ }
-    ensures { λ r. ⌜ r ≡ kept peak (now (curve .entry)) q ⌝ }
-{
-    if is_above(peak, curve[q]) {
-        if above <= answers::WINDOWS_MOST {
-            return true;
-        }
-        return (rank_of(peak, curve, q) as usize) < answers::WINDOWS_MOST;
-    }
-    false
 }
 
 // The kept quarters of a season.
 fn kept_of(peak: u32, curve: &[u32; 96]) -> [bool; 96]
     ensures { λ r. ⌜ r ≡ keptOf peak (now (curve .entry)) ⌝ }
 {
-    let above = above_of(peak, curve);
-    let mut out = [false; 96];
-    for q in 0..answers::DAY_QUARTERS {
-        out[q] = is_kept(peak, curve, above, q);
+    let cut = cut_of(peak, curve);
+    let mut out = all_above(curve, cut.limit);
+    if 0 < cut.equals {
+        add_equals(&mut out, curve, cut.limit, cut.equals);
     }
     out
 }
@@ -127,10 +170,13 @@ pub fn chosen(peak: u32, flat: &[u32; 384]) -> [[bool; 96]; 4]
     ensures { λ r. ⌜ r ≡ chosenOf peak (curvesOf (now (flat .entry))) ⌝ }
 {
     let curves = curves(flat);
-    let mut out = [[false; 96]; 4];
-    for s in 0..SEASONS {
-        let curve = curves[s];
-        out[s] = kept_of(peak, &curve);
-    }
-    out
+    let mut curve = curves[0];
+    let winter = kept_of(peak, &curve);
+    curve = curves[1];
+    let spring = kept_of(peak, &curve);
+    curve = curves[2];
+    let summer = kept_of(peak, &curve);
+    curve = curves[3];
+    let autumn = kept_of(peak, &curve);
+    [winter, spring, summer, autumn]
 }

@@ -1,0 +1,25 @@
+-- How the code works inside: where a season is cut. Nothing of this is promised to a caller.
+use mathlib.Core.Bool.{Bool, _&&_, _||_}
+use mathlib.Core.List.{List}
+use Prim.Native.Nat.{ℕ, _*_, _/_}
+use lib.Dec.{ltb, eqb}
+use lib.ListN.{getD}
+use Rattle.over.specs.Over.{countOver}
+use Rattle.answers.specs.Ruling.{lineParts, peakParts, dayQuarters}
+
+-- the line as a value
+abbrev pub lineOf : ℕ → ℕ
+lineOf peak = lineParts * peak / peakParts
+
+-- how many quarters of a curve are higher than a limit
+unfoldable pub higherThan : List ℕ → ℕ → ℕ
+higherThan curve limit = countOver (λ q. ltb limit (getD curve q 0)) dayQuarters
+
+-- how many quarters before quarter q are equal to a limit
+unfoldable pub equalsBefore : List ℕ → ℕ → ℕ → ℕ
+equalsBefore curve limit q = countOver (λ p. eqb (getD curve p 0) limit) q
+
+-- kept by a cut: higher than the limit, or one of the first, so many, that are equal to it
+unfoldable pub keptBy : List ℕ → ℕ → ℕ → ℕ → Bool
+keptBy curve limit equals q =
+    ltb limit (getD curve q 0) || (eqb (getD curve q 0) limit && ltb (equalsBefore curve limit q) equals)
