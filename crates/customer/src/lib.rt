@@ -9,10 +9,10 @@ ghost use Rattle.dates.specs.Dates.{yearDays};
 ghost use Rattle.readings.specs.Runs.{dayLen, runReadings};
 ghost use Rattle.sheet.specs.Answers.{saidOfSheet};
 ghost use Rattle.tariff.specs.Answers.{saidOf};
-ghost use Rattle.figures.specs.Figures.{noFigures};
 ghost use Rattle.day_figures.specs.Counts.{yearRun};
 ghost use Rattle.customer.specs.Answers.{termsOf, listsAnswer, openAnswer, opened, shut, openCustomer, sumMost, dayUnder, dayAnswer, taken, dayCustomer, closeAnswer, figuresUnder, wholeAnswer, decideAnswer};
 use answers::Place;
+use day_figures::YearFigures;
 use readings::Run;
 use sheet::Sheet;
 use sheet::SheetAnswer;
@@ -50,51 +50,6 @@ pub struct Stepped {
     pub customer: Customer,
 }
 
-fn no_figures() -> Figures
-    ensures { λ r. ⌜ r ≡ noFigures ⌝ }
-{
-    Figures {
-        peak: 0,
-        sum: 0,
-        any: false,
-        high: 0,
-        day: 0,
-        quarter: 0,
-    }
-}
-
-// The figures of a whole series.
-fn collect(terms: Terms, series: &[u32]) -> Figures
-    requires { ⌜ length (now series) ≡ runReadings (yearRun (terms .year)) ⌝ }
-    ensures { λ r. ⌜ r ≡ figuresUnder terms (now (series .entry)) (yearDays (terms .year)) ⌝ }
-{
-    let year = terms.year;
-    let windows = terms.windows;
-    let carrying = terms.carrying;
-    let mut figures = no_figures();
-    let mut at = 0;
-    for d in 0..dates::year_days(year) {
-        let end = at
-            + readings::day_len(
-                Run {
-                    year,
-                    period: false,
-                },
-                d,
-            );
-        figures = day_figures::take_day(
-            figures,
-            year,
-            d,
-            carrying[d as usize],
-            &windows,
-            &series[at..end],
-        );
-        at = end;
-    }
-    figures
-}
-
 // What reading the sheet answers, as the decision's: reading never answers 14.
 fn told(answer: SheetAnswer) -> Decision
     requires { ⌜ (saidOfSheet answer .number ≡ 14 → ⊥) ⌝ }
@@ -127,25 +82,6 @@ fn open_answer(read: SheetAnswer, year: u16, holidays: &[u16], prices: Prices) -
     Decision::Taken
 }
 
-// What a whole series is answered under terms: 4, 5, then the decision over its figures.
-fn whole_answer(terms: Terms, series: &[u32]) -> Decision
-    ensures { λ r. ⌜ saidOf r ≡ wholeAnswer terms (now (series .entry)) ⌝ }
-{
-    let run = Run {
-        year: terms.year,
-        period: false,
-    };
-    if series.len() != readings::run_readings(run) {
-        return Decision::WrongLength;
-    }
-    let figures = collect(terms, series);
-    if CUSTOMER_MOST < figures.peak {
-        return Decision::BadReading(legal::first_illegal(run, series, CUSTOMER_MOST));
-    }
-    let list = terms.prices;
-    decision::judge(figures, terms.level, list, terms.option)
-}
-
 // The decision over a whole series. Refuses 12, 1, 2, 12, 3, 6, 4, 5, 8, 9, 10, 11 in this order; else 0 with the charge.
 pub fn decide(
     sheet: &[u8],
@@ -161,8 +97,30 @@ pub fn decide(
     let Decision::Taken = answer else {
         return answer;
     };
-    let terms = opened.customer.terms;
-    whole_answer(terms, series)
+    let year = opened.customer.terms.year;
+    let collected = day_figures::year_figures(
+        year,
+        &opened.customer.terms.carrying,
+        &opened.customer.terms.windows,
+        series,
+    );
+    let YearFigures::All(figures) = collected else {
+        return Decision::WrongLength;
+    };
+    if CUSTOMER_MOST < figures.peak {
+        let run = Run {
+            year,
+            period: false,
+        };
+        return Decision::BadReading(legal::first_illegal(run, series, CUSTOMER_MOST));
+    }
+    let list = opened.customer.terms.prices;
+    decision::judge(
+        figures,
+        opened.customer.terms.level,
+        list,
+        opened.customer.terms.option,
+    )
 }
 
 // What a day is answered where so many days are taken, with this sum: 13, also for a sum that no legal days have, then 4, then 5.
@@ -182,11 +140,11 @@ fn day_answer(year: u16, seen: u16, sum: u64, day: &[u32]) -> Decision
     if day.len() != readings::day_len(run, seen) {
         return Decision::WrongLength;
     }
-    if CUSTOMER_MOST < legal::highest(day) {
-        let position = legal::first_above(day, CUSTOMER_MOST) as u16;
+    let first = legal::first_above(day, CUSTOMER_MOST);
+    if first < day.len() {
         return Decision::BadReading(Place {
             day: seen + 1,
-            position,
+            position: first as u16,
         });
     }
     Decision::Taken
@@ -227,7 +185,7 @@ impl Customer {
                 carrying: calendar::window_days(meaning.year, holidays),
             },
             seen: 0,
-            figures: no_figures(),
+            figures: tariff::NO_FIGURES,
         }
     }
 
@@ -253,7 +211,7 @@ impl Customer {
                 carrying: [false; dates::MOST_DAYS],
             },
             seen: 65535,
-            figures: no_figures(),
+            figures: tariff::NO_FIGURES,
         }
     }
 

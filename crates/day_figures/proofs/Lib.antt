@@ -1,2 +1,4 @@
 pub mod OneDay
+pub mod DaySums
 pub mod Fits
+pub mod Years

@@ -1,23 +1,28 @@
--- Laws of one day: where its quarters stand in the windows, what the pass over its readings keeps, and the cases of taking it in.
+-- Laws of one day: where its quarters stand in the windows, what the masks leave of its readings, and the cases of taking it in.
 -- Assumes nothing.
 use mathlib.Core.Path.{_≡_, refl, sym, ap, _∙_}
-use mathlib.Core.Bool.{Bool, true, false, cond, _&&_, _||_, or-true, or-false}
+use mathlib.Core.Bool.{Bool, true, false, cond, _&&_, _||_, and-false, or-true, or-false}
 use mathlib.Core.Logic.{⊎-elim}
 use mathlib.Core.List.{List}
-use Prim.Native.Nat.{ℕ, _+_, _*_, _/_, _%_, _≤_, _<_, max}
+use Prim.Native.Nat.{ℕ, _+_, _≤_, _<_, max}
+use native.Mathlib.Nat.{mod-eq-of-lt}
 use native.Mathlib.Omega.{arith}
-use borrow.Author.Tests.{lt-ltb, le-ltb, leb-false}
-use lib.Dec.{leb, eqb}
+use borrow.Author.Tests.{lt-ltb, le-ltb}
+use lib.Bits.{bitAnd, and-mask, and-zero-r}
+use lib.Dec.{eqb}
 use lib.ListN.{length, getD}
 use Rattle.over.specs.Over.{largestOver, sumOver, anyOver, firstOver, counted, largestIn, placeIn}
-use Rattle.over.proofs.Bools.{decided, clash}
-use Rattle.over.proofs.Largest.{largest-none, largest-more}
-use Rattle.over.proofs.Sums.{sum-none, sum-more, sum-halves}
-use Rattle.over.proofs.Tests.{any-fails}
-use Rattle.over.proofs.Inside.{in-none, in-more, place-in}
+use Rattle.over.proofs.Bools.{decided, both}
+use Rattle.over.proofs.Largest.{largest-cong}
+use Rattle.over.proofs.Tests.{any-at, any-fails, all-passed}
+use Rattle.over.proofs.First.{first-holds}
+use Rattle.over.proofs.Tables.{getD-table}
+use Rattle.over.proofs.Inside.{place-in}
+use Rattle.answers.specs.Ruling.{dayQuarters}
 use Rattle.dates.specs.Dates.{seasonOf}
 use Rattle.dates.proofs.Seasons.{season-range}
 use Rattle.readings.specs.declared.Run.{Run}
+use Rattle.readings.specs.Legal.{highestOf}
 use Rattle.readings.specs.Runs.{dayLen, quarterOf}
 use Rattle.readings.proofs.Runs.{quarter-in}
 use Rattle.sheet.specs.Windows.{places, placeOf}
@@ -26,26 +31,51 @@ use Rattle.tariff.specs.declared.Figures.{Figures}
 use Rattle.day_figures.specs.declared.Tops.{Tops}
 use Rattle.day_figures.specs.Counts.{yearRun, setOn, countsOn}
 use Rattle.day_figures.specs.Day.{alone}
-use Rattle.day_figures.specs.Within.{topsOf, plainly}
+use Rattle.day_figures.specs.Within.{topsOf, someSet, allOnes, masksOf, maskedHigh, plainly}
 use Rattle.figures.specs.Figures.{anyOn, highOn, quarterOn, DayRecord, recordOf, better, takenIn}
 
+-- a mask leaves a reading of 32 bits where the quarter is set, and else nothing
+mask-leaves : (b : Bool) (v : ℕ) → v ≤ allOnes → bitAnd v (counted b allOnes) ≡ counted b v
+mask-leaves true v l = and-mask v 32 ∙ mod-eq-of-lt (omega arith)
+mask-leaves false v l = and-zero-r v
+
 -- the windows of the day's season begin at `base`
-module _ (y : ℕ) (ws : List Bool) (d : ℕ) {base : ℕ} (e : base ≡ placeOf (seasonOf y (d + 1)) 0) (p : ℕ) (l : p < dayLen (yearRun y) d) where
-  pub place-fits : base + quarterOf (yearRun y) d p < places
-  place-fits = omega (arith, season-range y (d + 1), quarter-in (yearRun y) d p l)
+module _ (y : ℕ) (ws : List Bool) (d : ℕ) {base : ℕ} (e : base ≡ placeOf (seasonOf y (d + 1)) 0) where
+  module _ (p : ℕ) (l : p < dayLen (yearRun y) d) where
+    pub place-fits : base + quarterOf (yearRun y) d p < places
+    place-fits = omega (arith, season-range y (d + 1), quarter-in (yearRun y) d p l)
 
-  pub set-on : {q : ℕ} → q ≡ quarterOf (yearRun y) d p → getD ws (base + q) false ≡ setOn y ws d p
-  unfolding setOn
-  set-on {q} f =
-      let at : base + q ≡ placeOf (seasonOf y (d + 1)) (quarterOf (yearRun y) d p) = omega arith in
-      ap (λ (k : ℕ). getD ws k false) at ∙ set-at ws (seasonOf y (d + 1)) (quarterOf (yearRun y) d p) (season-range y (d + 1)) (quarter-in (yearRun y) d p l)
+    pub set-on : {q : ℕ} → q ≡ quarterOf (yearRun y) d p → getD ws (base + q) false ≡ setOn y ws d p
+    unfolding setOn
+    set-on {q} f =
+        let at : base + q ≡ placeOf (seasonOf y (d + 1)) (quarterOf (yearRun y) d p) = omega arith in
+        ap (λ (k : ℕ). getD ws k false) at ∙ set-at ws (seasonOf y (d + 1)) (quarterOf (yearRun y) d p) (season-range y (d + 1)) (quarter-in (yearRun y) d p l)
 
--- a day has an in-window quarter only where it carries windows
-pub carries-none : (y : ℕ) (ws : List Bool) (d n : ℕ) {c : Bool} → c ≡ false → false ≡ anyOver (countsOn y c ws d) n
-carries-none y ws d n e = sym (any-fails _ n (λ k l. rw e))
+    masked-is : (v : ℕ) → v ≤ allOnes → bitAnd v (getD (masksOf ws base) (quarterOf (yearRun y) d p) 0) ≡ counted (setOn y ws d p) v
+    unfolding masksOf
+    masked-is v s =
+        let q = quarterOf (yearRun y) d p in
+        ap (bitAnd v) (getD-table (λ k. counted (getD ws (base + k) false) allOnes) dayQuarters q 0 (quarter-in (yearRun y) d p l))
+        ∙ mask-leaves (getD ws (base + q) false) v s ∙ ap (λ (b : Bool). counted b v) (set-on refl)
 
-pub carries-some : (y : ℕ) (ws : List Bool) (d n : ℕ) (c : Bool) → anyOver (countsOn y c ws d) n ≡ true → c ≡ true
-carries-some y ws d n c h = ⊎-elim (λ t. t) (λ e. absurd (clash h (sym (carries-none y ws d n e)))) (decided c)
+    -- without set quarters in the season, or on a day that carries none, no position counts
+    silent : (c : Bool) → (c && someSet ws base) ≡ false → countsOn y c ws d p ≡ false
+    unfolding someSet
+    silent false h = refl
+    silent true h = sym (set-on refl) ∙ all-passed (λ q. getD ws (base + q) false) dayQuarters h .fails (quarterOf (yearRun y) d p) (quarter-in (yearRun y) d p l)
+
+  pub counts-none : (c : Bool) → (c && someSet ws base) ≡ false → anyOver (countsOn y c ws d) (dayLen (yearRun y) d) ≡ false
+  counts-none c h = any-fails _ _ (λ p l. silent p l c h)
+
+  -- what the masks leave of a day's readings is what is in a window
+  pub masked-in :
+      (day : List ℕ) {masks : List ℕ}
+      → length day ≡ dayLen (yearRun y) d
+      → ((k : ℕ) → alone day k ≤ allOnes)
+      → masks ≡ masksOf ws base
+      → maskedHigh masks y d day ≡ largestIn (setOn y ws d) (alone day) (length day)
+  unfolding maskedHigh largestIn
+  masked-in day l s m = ap (λ (ms : List ℕ). maskedHigh ms y d day) m ∙ largest-cong _ _ (length day) (λ k b. masked-is k (omega arith) (alone day k) (s k))
 
 -- a position that is set and has the value
 module _ (y : ℕ) (ws : List Bool) (d : ℕ) (day : List ℕ) (high : ℕ) where
@@ -55,68 +85,15 @@ module _ (y : ℕ) (ws : List Bool) (d : ℕ) (day : List ℕ) (high : ℕ) wher
   pub hit-at : (p : ℕ) {b t : Bool} → b ≡ setOn y ws d p → (b && eqb (alone day p) high) ≡ t → hits p ≡ t
   hit-at p e h = (λ i. sym e i && eqb (alone day p) high) ∙ h
 
--- what a pass over the first p readings of a day keeps: the sum by halves of 16 bits
-pub record Passing (test : ℕ → Bool) (day : List ℕ) (peak low top high p : ℕ) : Type 0 where
-  pub some : p ≤ length day
-  pub peak-is : peak ≡ largestOver (alone day) p
-  pub low-is : low ≡ sumOver (λ k. alone day k % 65536) p
-  pub low-small : low ≤ 65535 * p
-  pub top-is : top ≡ sumOver (λ k. alone day k / 65536) p
-  pub top-small : top ≤ 65535 * p
-  pub high-is : high ≡ largestIn test (alone day) p
-
-module _ (test : ℕ → Bool) (day : List ℕ) where
-  pub passing-none : Passing test day 0 0 0 0 0
-  passing-none =
-      record {
-        some = omega arith;
-        peak-is = sym (largest-none (alone day));
-        low-is = sym (sum-none (λ k. alone day k % 65536));
-        low-small = omega arith;
-        top-is = sym (sum-none (λ k. alone day k / 65536));
-        top-small = omega arith;
-        high-is = sym (in-none test (alone day));
-      }
-
-  pub passing-more :
-      {peak low top high p next less more higher : ℕ}
-      → Passing test day peak low top high p
-      → p < length day
-      → next ≡ max peak (alone day p)
-      → (less ≡ alone day p % 65536) × (less ≤ 65535)
-      → (more ≡ alone day p / 65536) × (more ≤ 65535)
-      → higher ≡ max high (counted (test p) (alone day p))
-      → Passing test day next (low + less) (top + more) higher (p + 1)
-  passing-more {p = p} h l a b c e =
-      record {
-        some = omega arith;
-        peak-is = omega (arith, h .peak-is, largest-more (alone day) p);
-        low-is = omega (arith, h .low-is, b .0, sum-more (λ k. alone day k % 65536) p);
-        low-small = omega (arith, h .low-small, b .1);
-        top-is = omega (arith, h .top-is, c .0, sum-more (λ k. alone day k / 65536) p);
-        top-small = omega (arith, h .top-small, c .1);
-        high-is = omega (arith, h .high-is, in-more test (alone day) p);
-      }
-
-  pub passing-all :
-      {peak low top high p sum : ℕ}
-      → Passing test day peak low top high p
-      → length day ≤ p
-      → sum ≡ low + 65536 * top
-      → record { peak = peak; sum = sum; high = high } ≡ topsOf test day
-  unfolding topsOf
-  passing-all {p = p} {sum} h l s =
-      let e : p ≡ length day = omega (arith, h .some) in
-      let a = h .peak-is ∙ ap (largestOver (alone day)) e in
-      let here : sum ≡ sumOver (alone day) p = omega (arith, s, h .low-is, h .top-is, sum-halves (alone day) p) in
-      let b = here ∙ ap (sumOver (alone day)) e in
-      let c = h .high-is ∙ ap (largestIn test (alone day)) e in
-      λ i. record { peak = a i; sum = b i; high = c i }
+-- a day's tops, figure by figure
+pub tops-are : (day : List ℕ) {peak sum : ℕ} → peak ≡ highestOf day → sum ≡ sumOver (alone day) (length day) → record { peak = peak; sum = sum } ≡ topsOf day
+unfolding topsOf
+tops-are day a b = λ i. record { peak = a i; sum = b i }
 
 -- taking a day's record in
 module _ (f : Figures) (d : ℕ) (r : DayRecord) where
   -- its in-window peak does not count
-  pub taken-plain : (t : Tops) → t .peak ≡ r .peak → t .sum ≡ r .sum → better f r ≡ false → (f .any || r .any) ≡ f .any → plainly f t ≡ takenIn f d r
+  taken-plain : (t : Tops) → t .peak ≡ r .peak → t .sum ≡ r .sum → better f r ≡ false → (f .any || r .any) ≡ f .any → plainly f t ≡ takenIn f d r
   unfolding takenIn
   taken-plain t a b n e =
       λ i. record {
@@ -129,7 +106,7 @@ module _ (f : Figures) (d : ℕ) (r : DayRecord) where
       }
 
   -- it does
-  pub taken-new :
+  taken-new :
       {p s h q : ℕ}
       → p ≡ max (f .peak) (r .peak)
       → s ≡ f .sum + r .sum
@@ -150,59 +127,68 @@ module _ (f : Figures) (d : ℕ) (r : DayRecord) where
       }
 
 -- a day's tops, and its record by the positions that pass the test
-module _ (run : Run) (test : ℕ → ℕ → Bool) (d : ℕ) (day : List ℕ) (l : length day ≡ dayLen run d) (f : Figures) where
+module _ (run : Run) (test : ℕ → ℕ → Bool) (d : ℕ) (day : List ℕ) (l : length day ≡ dayLen run d) (f : Figures) {t : Tops} (e : t ≡ topsOf day) where
   abbrev today : DayRecord
   today = recordOf run test d (alone day)
 
-  peak-of : (s : ℕ → Bool) {t : Tops} → t ≡ topsOf s day → t .peak ≡ today .peak
-  unfolding topsOf
-  peak-of s e = ap (λ (x : Tops). x .peak) e ∙ ap (largestOver (alone day)) l
+  peak-of : t .peak ≡ today .peak
+  unfolding topsOf highestOf
+  peak-of = ap (λ (x : Tops). x .peak) e ∙ ap (largestOver (alone day)) l
 
-  sum-of : (s : ℕ → Bool) {t : Tops} → t ≡ topsOf s day → t .sum ≡ today .sum
+  sum-of : t .sum ≡ today .sum
   unfolding topsOf
-  sum-of s e = ap (λ (x : Tops). x .sum) e ∙ ap (sumOver (alone day)) l
+  sum-of = ap (λ (x : Tops). x .sum) e ∙ ap (sumOver (alone day)) l
 
   -- it has no in-window quarter
-  pub taken-none : (s : ℕ → Bool) {t : Tops} → t ≡ topsOf s day → anyOver (test d) (dayLen run d) ≡ false → plainly f t ≡ takenIn f (d + 1) today
+  pub taken-none : anyOver (test d) (dayLen run d) ≡ false → plainly f t ≡ takenIn f (d + 1) today
   unfolding anyOn
-  taken-none s {t} e n = taken-plain f (d + 1) today t (peak-of s e) (sum-of s e) (rw n) (rw n (or-false (f .any)))
+  taken-none n = taken-plain f (d + 1) today t peak-of sum-of (rw n) (rw n (or-false (f .any)))
 
-  module _ {t : Tops} (e : t ≡ topsOf (test d) day) (some : anyOver (test d) (dayLen run d) ≡ true) where
-    high-of : t .high ≡ today .high
-    unfolding topsOf highOn
-    high-of = ap (λ (x : Tops). x .high) e ∙ ap (largestIn (test d) (alone day)) l
+  module _ {high : ℕ} (g : high ≡ largestIn (test d) (alone day) (length day)) where
+    high-of : high ≡ today .high
+    unfolding highOn
+    high-of = g ∙ ap (largestIn (test d) (alone day)) l
 
-    -- its in-window peak is not above the year's
-    pub taken-old : f .any ≡ true → t .high ≤ f .high → plainly f t ≡ takenIn f (d + 1) today
-    unfolding anyOn
-    taken-old a h =
-        taken-plain f (d + 1) today t (peak-of (test d) e) (sum-of (test d) e) (rw (some, a, le-ltb (f .high) (today .high) (omega (arith, high-of)))) (rw a)
+    -- its in-window peak, if it has one, is not above the year's
+    pub taken-old : f .any ≡ true → high ≤ f .high → plainly f t ≡ takenIn f (d + 1) today
+    taken-old a h = taken-plain f (d + 1) today t peak-of sum-of (rw (a, le-ltb (f .high) (today .high) (omega (arith, high-of))) (and-false (today .any))) (rw a)
 
     -- the first position that has it
-    place-of : {p : ℕ} → p ≡ firstOver (λ k. test d k && eqb (alone day k) (t .high)) (length day) → p ≡ placeIn (test d) (alone day) (dayLen run d)
-    unfolding placeIn highOn
-    place-of g =
-        g ∙ ap (firstOver (λ k. test d k && eqb (alone day k) (t .high))) l
-        ∙ ap (λ (h : ℕ). firstOver (λ k. test d k && eqb (alone day k) h) (dayLen run d)) high-of
+    module _ {p : ℕ} (at : p ≡ firstOver (λ k. test d k && eqb (alone day k) high) (length day)) where
+      place-of : p ≡ placeIn (test d) (alone day) (dayLen run d)
+      unfolding placeIn highOn
+      place-of =
+          at ∙ ap (firstOver (λ k. test d k && eqb (alone day k) high)) l
+          ∙ ap (λ (h : ℕ). firstOver (λ k. test d k && eqb (alone day k) h) (dayLen run d)) high-of
 
-    pub position-in : {p : ℕ} → p ≡ firstOver (λ k. test d k && eqb (alone day k) (t .high)) (length day) → p < dayLen run d
-    position-in g = rw (place-of g) (place-in (test d) (alone day) (dayLen run d) some)
+      -- there is none
+      pub taken-nowhere : length day ≤ p → plainly f t ≡ takenIn f (d + 1) today
+      taken-nowhere m =
+          taken-none (⊎-elim (λ s. absurd (omega (arith, place-of, place-in (test d) (alone day) (dayLen run d) s))) (λ n. n) (decided _))
 
-    -- it is the year's first, or higher
-    pub taken-higher :
-        {p q : ℕ} {next : Figures}
-        → next ≡ plainly f t
-        → (f .any && leb (t .high) (f .high)) ≡ false
-        → p ≡ firstOver (λ k. test d k && eqb (alone day k) (t .high)) (length day)
-        → q ≡ quarterOf run d p
-        → record { peak = next .peak; sum = next .sum; any = true; high = t .high; day = d + 1; quarter = q } ≡ takenIn f (d + 1) today
-    unfolding anyOn quarterOn
-    taken-higher n h g k =
-        taken-new f (d + 1) today
-        (ap (λ (x : Figures). x .peak) n ∙ ap (max (f .peak)) (peak-of (test d) e))
-        (ap (λ (x : Figures). x .sum) n ∙ ap (_+_ (f .sum)) (sum-of (test d) e))
-        high-of (k ∙ ap (quarterOf run d) (place-of g)) some (newer (f .any) refl)
-      where
-        newer : (b : Bool) → f .any ≡ b → better f today ≡ true
-        newer false a = rw (some, a)
-        newer true a = rw (some, a, lt-ltb (f .high) (today .high) (omega (arith, high-of, leb-false (t .high) (f .high) (rw a at h))))
+      some-in : p < length day → anyOver (test d) (dayLen run d) ≡ true
+      some-in m =
+          let hit = both (test d p) _ (rw (sym at) at (first-holds (λ k. test d k && eqb (alone day k) high) (length day) (omega arith))) in
+          any-at (test d) (dayLen run d) p (omega arith) (hit .0)
+
+      -- it is the year's first, or higher
+      pub taken-higher :
+          {q : ℕ} {next : Figures}
+          → p < length day
+          → next ≡ plainly f t
+          → (f .any ≡ true → f .high < high)
+          → q ≡ quarterOf run d p
+          → record { peak = next .peak; sum = next .sum; any = true; high = high; day = d + 1; quarter = q } ≡ takenIn f (d + 1) today
+      unfolding anyOn quarterOn
+      taken-higher m n h k =
+          taken-new f (d + 1) today
+          (ap (λ (x : Figures). x .peak) n ∙ ap (max (f .peak)) peak-of)
+          (ap (λ (x : Figures). x .sum) n ∙ ap (_+_ (f .sum)) sum-of)
+          high-of (k ∙ ap (quarterOf run d) place-of) some (newer (f .any) refl)
+        where
+          some : anyOver (test d) (dayLen run d) ≡ true
+          some = some-in m
+
+          newer : (b : Bool) → f .any ≡ b → better f today ≡ true
+          newer false a = rw (some, a)
+          newer true a = rw (some, a, lt-ltb (f .high) (today .high) (omega (arith, high-of, h a)))

@@ -1,30 +1,53 @@
-// A day of a customer's year, taken into the year's figures: one pass over its readings. Document 01, Customer's year and decision.
+// A day of a customer's year, taken into the year's figures by short passes over its readings, and a whole year, month by month.
+// Document 01, Customer's year and decision.
 // Main theorem: the figures of the days before and the day's readings give the figures with the day, for every day that fits
 // (`day-fits`, proofs/Fits); one that does not leaves them as they are.
 ghost use mathlib.Core.Path.{_≡_};
-ghost use mathlib.Core.Bool.{true, false, _&&_};
-ghost use Prim.Native.Nat.{ℕ, _+_, _/_, _%_, _≤_, _<_};
+ghost use mathlib.Core.Bool.{_&&_};
+ghost use Prim.Native.Nat.{ℕ, _+_, _*_, _%_, _≤_, _<_};
+ghost use lib.Bits.{bitAnd};
 ghost use lib.Dec.{eqb};
 ghost use lib.ListN.{length};
-ghost use Rattle.over.specs.Over.{anyOver, firstOver, counted};
-ghost use Rattle.dates.specs.Dates.{mostDays, seasonOf};
-ghost use Rattle.readings.specs.Runs.{dayLen};
-ghost use Rattle.sheet.specs.Windows.{placeOf};
-ghost use Rattle.figures.specs.Figures.{recordOf, takenIn};
+ghost use Rattle.over.specs.Over.{firstOver, counted, sumOver};
+ghost use Rattle.answers.specs.Ruling.{dayQuarters};
+ghost use Rattle.dates.specs.Dates.{mostDays, yearDays, seasonOf};
+ghost use Rattle.readings.specs.Runs.{dayLen, dayStart, runReadings};
+ghost use Rattle.readings.specs.Legal.{highestOf};
+ghost use Rattle.sheet.specs.Windows.{places, placeOf};
+ghost use Rattle.figures.specs.Figures.{noFigures, recordOf, takenIn};
 ghost use Rattle.day_figures.specs.Counts.{yearRun, setOn, countsOn};
 ghost use Rattle.day_figures.specs.Day.{alone, dayMost, sumEnd, dayTaken};
-ghost use Rattle.day_figures.specs.Within.{topsOf, plainly};
+ghost use Rattle.day_figures.specs.Year.{figuresIn, yearFigures};
+ghost use Rattle.day_figures.specs.Within.{fourEnd, allOnes, someSet, masksOf, maskedHigh, topsOf, plainly};
 use readings::Run;
 use tariff::Figures;
 
 // The highest sum to which a day, at most 100 readings of 32 bits, can be added within 64 bits.
 const SUM_ROOM: u64 = 18_446_743_644_212_822_115;
 
-// The highest reading of a day, the sum, and the highest in-window reading.
+// A mask that leaves every bit.
+const ALL_ONES: u32 = 4_294_967_295;
+
+// Four readings below this fit 32 bits together.
+const FOUR_END: u32 = 1_073_741_824;
+
+// The highest reading of a day, and the sum.
 struct Tops {
     peak: u32,
     sum: u64,
-    high: u32,
+}
+
+// How far a pass over a year has come: the figures of the first days, the number of these days, and the readings before the next.
+struct Reach {
+    figures: Figures,
+    d: u16,
+    at: usize,
+}
+
+// The figures of a whole year, or 4.
+pub enum YearFigures {
+    All(Figures),
+    WrongLength,
 }
 
 fn wide(x: u32) -> u64
@@ -33,130 +56,145 @@ fn wide(x: u32) -> u64
     x as u64
 }
 
-// The two halves of a reading, 16 bits each. A day's sum is kept by halves, so that the pass stays in 32 bits.
-fn low_half(x: u32) -> u32
-    ensures { λ r. ⌜ (r ≡ x % 65536) × (r ≤ 65535) ⌝ }
+// Four readings below 2^30, added up: their sum fits 32 bits.
+fn sum_four(a: u32, b: u32, c: u32, e: u32) -> u64
+    requires { ⌜ (a < fourEnd) × (b < fourEnd) × (c < fourEnd) × (e < fourEnd) ⌝ }
+    ensures { λ r. ⌜ (r ≡ a + b + c + e) × (r < 4294967296) ⌝ }
 {
-    x % 65536
+    wide(a + b + c + e)
 }
 
-fn top_half(x: u32) -> u32
-    ensures { λ r. ⌜ (r ≡ x / 65536) × (r ≤ 65535) ⌝ }
+// The sum of a day whose readings are all below 2^30: its four fourths side by side, so that only sums of four are widened.
+fn sum_fourths(day: &[u32]) -> u64
+    requires { ⌜ (length (now day) ≤ 100) × (length (now day) % 4 ≡ 0) × (highestOf (now day) < fourEnd) ⌝ }
+    ensures { λ r. ⌜ (r ≡ sumOver (alone (now (day .entry))) (length (now (day .entry)))) × (r ≤ dayMost) ⌝ }
 {
-    x / 65536
+    let n = day.len() / 4;
+    let mut sum: u64 = 0;
+    for p in 0..n {
+        sum += sum_four(day[p], day[n + p], day[2 * n + p], day[3 * n + p]);
+    }
+    sum
 }
 
-// Is position p of day d set in its season's windows, which begin at `base`?
-fn is_in(windows: &[bool; sheet::PLACES], year: u16, d: u16, base: usize, p: usize) -> bool
-    requires { ⌜ (base ≡ placeOf (seasonOf year (d + 1)) 0) × (p < dayLen (yearRun year) d) ⌝ }
-    ensures { λ r. ⌜ r ≡ setOn year (now (windows .entry)) d p ⌝ }
+// The sum of any day, reading by reading.
+fn sum_each(day: &[u32]) -> u64
+    requires { ⌜ length (now day) ≤ 100 ⌝ }
+    ensures { λ r. ⌜ (r ≡ sumOver (alone (now (day .entry))) (length (now (day .entry)))) × (r ≤ dayMost) ⌝ }
 {
-    windows[base
-        + readings::quarter_of(
-            Run {
-                year,
-                period: false,
-            },
-            d,
-            p,
-        )]
+    let mut sum: u64 = 0;
+    for p in 0..day.len() {
+        sum += wide(day[p]);
+    }
+    sum
 }
 
-fn if_in(inside: bool, reading: u32) -> u32
-    ensures { λ r. ⌜ r ≡ counted inside reading ⌝ }
+// The sum of a day with this peak: legal readings are below 2^30.
+fn sum_of(day: &[u32], peak: u32) -> u64
+    requires { ⌜ (length (now day) ≤ 100) × (peak ≡ highestOf (now day)) ⌝ }
+    ensures { λ r. ⌜ (r ≡ sumOver (alone (now (day .entry))) (length (now (day .entry)))) × (r ≤ dayMost) ⌝ }
 {
-    if inside { reading } else { 0 }
+    if peak < FOUR_END {
+        if day.len() % 4 == 0 {
+            return sum_fourths(day);
+        }
+    }
+    sum_each(day)
 }
 
-// Is any position of day d set? No way out of the loop, so that it costs next to nothing.
-fn some_in(windows: &[bool; sheet::PLACES], year: u16, d: u16, base: usize) -> bool
-    requires { ⌜ base ≡ placeOf (seasonOf year (d + 1)) 0 ⌝ }
-    ensures { λ r. ⌜ r ≡ anyOver (setOn year (now (windows .entry)) d) (dayLen (yearRun year) d) ⌝ }
+// Highest reading and sum of a day.
+fn tops_of(day: &[u32]) -> Tops
+    requires { ⌜ length (now day) ≤ 100 ⌝ }
+    ensures { λ r. ⌜ (r ≡ topsOf (now (day .entry))) × (r .sum ≤ dayMost) ⌝ }
+{
+    let peak = legal::highest(day);
+    let sum = sum_of(day, peak);
+    Tops { peak, sum }
+}
+
+// Where the windows of day d's season begin.
+fn base_of(year: u16, d: u16) -> usize
+    requires { ⌜ d < mostDays ⌝ }
+    ensures { λ r. ⌜ (r ≡ placeOf (seasonOf year (d + 1)) 0) × (r + dayQuarters ≤ places) ⌝ }
+{
+    answers::DAY_QUARTERS * (dates::season(year, d + 1) as usize - 1)
+}
+
+// Is any quarter of the season set that begins at `base`? No way out of the loop, so that it costs next to nothing.
+fn some_set(windows: &[bool; sheet::PLACES], base: usize) -> bool
+    requires { ⌜ base + dayQuarters ≤ places ⌝ }
+    ensures { λ r. ⌜ r ≡ someSet (now (windows .entry)) base ⌝ }
 {
     let mut any = false;
-    for p in 0..readings::day_len(
-        Run {
-            year,
-            period: false,
-        },
-        d,
-    ) {
-        any = any | is_in(windows, year, d, base, p);
+    for q in 0..answers::DAY_QUARTERS {
+        any = any | windows[base + q];
     }
     any
 }
 
-// A day without in-window quarters: maximum and sum alone.
-fn plain_tops(day: &[u32]) -> Tops
-    requires { ⌜ length (now day) ≤ 100 ⌝ }
-    ensures { λ r. ⌜ (r ≡ topsOf (λ (p : ℕ). false) (now (day .entry))) × (r .sum ≤ dayMost) ⌝ }
+fn mask_if(set: bool) -> u32
+    ensures { λ r. ⌜ r ≡ counted set allOnes ⌝ }
 {
-    let mut peak = 0;
-    let mut low: u32 = 0;
-    let mut top: u32 = 0;
-    for p in 0..day.len() {
-        peak = legal::larger(peak, day[p]);
-        low += low_half(day[p]);
-        top += top_half(day[p]);
-    }
-    let sum = wide(low) + 65536 * wide(top);
-    Tops { peak, sum, high: 0 }
+    if set { ALL_ONES } else { 0 }
 }
 
-// A day with in-window quarters, in one pass.
-fn window_tops(day: &[u32], windows: &[bool; sheet::PLACES], year: u16, d: u16, base: usize) -> Tops
-    requires { ⌜ (length (now day) ≡ dayLen (yearRun year) d) × (base ≡ placeOf (seasonOf year (d + 1)) 0) ⌝ }
-    ensures { λ r. ⌜ (r ≡ topsOf (setOn year (now (windows .entry)) d) (now (day .entry))) × (r .sum ≤ dayMost) ⌝ }
+// The windows of the season that begins at `base` as masks of 32 bits, all ones where a quarter is set: no reading widens them then.
+fn masks_of(windows: &[bool; sheet::PLACES], base: usize) -> [u32; 96]
+    requires { ⌜ base + dayQuarters ≤ places ⌝ }
+    ensures { λ r. ⌜ r ≡ masksOf (now (windows .entry)) base ⌝ }
 {
-    let mut peak = 0;
-    let mut low: u32 = 0;
-    let mut top: u32 = 0;
+    let mut out = [0; 96];
+    for q in 0..answers::DAY_QUARTERS {
+        out[q] = mask_if(windows[base + q]);
+    }
+    out
+}
+
+// What a mask leaves of a reading.
+fn masked(reading: u32, mask: u32) -> u32
+    ensures { λ r. ⌜ r ≡ bitAnd reading mask ⌝ }
+{
+    reading & mask
+}
+
+// The highest reading of day d that the masks leave.
+fn masked_high(masks: &[u32; 96], year: u16, d: u16, day: &[u32]) -> u32
+    requires { ⌜ length (now day) ≡ dayLen (yearRun year) d ⌝ }
+    ensures { λ r. ⌜ r ≡ maskedHigh (now (masks .entry)) year d (now (day .entry)) ⌝ }
+{
+    let run = Run {
+        year,
+        period: false,
+    };
     let mut high = 0;
     for p in 0..day.len() {
-        peak = legal::larger(peak, day[p]);
-        low += low_half(day[p]);
-        top += top_half(day[p]);
-        high = legal::larger(high, if_in(is_in(windows, year, d, base, p), day[p]));
+        high = legal::larger(high, masked(day[p], masks[readings::quarter_of(run, d, p)]));
     }
-    let sum = wide(low) + 65536 * wide(top);
-    Tops { peak, sum, high }
+    high
 }
 
-// The first in-window position of a day whose reading is `high`, or the day's length: searched only where the year's H moves.
+// The first in-window position of day d whose reading is `high`, or the day's length: searched only where the year's H moves.
 fn first_in(
-    day: &[u32],
     windows: &[bool; sheet::PLACES],
+    base: usize,
     year: u16,
     d: u16,
-    base: usize,
+    day: &[u32],
     high: u32,
 ) -> usize
-    requires { ⌜ (length (now day) ≡ dayLen (yearRun year) d) × (base ≡ placeOf (seasonOf year (d + 1)) 0) ⌝ }
+    requires { ⌜ (base ≡ placeOf (seasonOf year (d + 1)) 0) × (length (now day) ≡ dayLen (yearRun year) d) ⌝ }
     ensures { λ r. ⌜ r ≡ firstOver (λ (p : ℕ). setOn year (now (windows .entry)) d p && eqb (alone (now (day .entry)) p) high) (length (now (day .entry))) ⌝ }
 {
+    let run = Run {
+        year,
+        period: false,
+    };
     for p in 0..day.len() {
-        if is_in(windows, year, d, base, p) & (day[p] == high) {
+        if windows[base + readings::quarter_of(run, d, p)] & (day[p] == high) {
             return p;
         }
     }
     day.len()
-}
-
-// Does day d have an in-window quarter?
-fn has_window(
-    carries: bool,
-    windows: &[bool; sheet::PLACES],
-    year: u16,
-    d: u16,
-    base: usize,
-) -> bool
-    requires { ⌜ base ≡ placeOf (seasonOf year (d + 1)) 0 ⌝ }
-    ensures { λ r. ⌜ r ≡ anyOver (countsOn year carries (now (windows .entry)) d) (dayLen (yearRun year) d) ⌝ }
-{
-    if carries {
-        return some_in(windows, year, d, base);
-    }
-    false
 }
 
 // The figures with a day taken in whose in-window peak, if it has one, does not count.
@@ -174,58 +212,62 @@ fn take_plain(f: Figures, t: Tops) -> Figures
     }
 }
 
-// The figures with day d, from 0, taken in, which has an in-window quarter.
-fn take_window(
+// The figures with day d, from 0, taken in, which carries windows.
+fn take_masked(
     f: Figures,
     year: u16,
     d: u16,
     windows: &[bool; sheet::PLACES],
     base: usize,
+    masks: &[u32; 96],
     day: &[u32],
 ) -> Figures
-    requires { ⌜ (length (now day) ≡ dayLen (yearRun year) d) × (base ≡ placeOf (seasonOf year (d + 1)) 0) × (anyOver (setOn year (now windows) d) (dayLen (yearRun year) d) ≡ true) × (d < mostDays) × (f .sum + dayMost < sumEnd) ⌝ }
+    requires { ⌜ (length (now day) ≡ dayLen (yearRun year) d) × (d < mostDays) × (f .sum + dayMost < sumEnd) × (base ≡ placeOf (seasonOf year (d + 1)) 0) × (now masks ≡ masksOf (now windows) base) ⌝ }
     ensures { λ r. ⌜ (r ≡ takenIn f (d + 1) (recordOf (yearRun year) (setOn year (now (windows .entry))) d (alone (now (day .entry))))) × (r .sum ≤ f .sum + dayMost) ⌝ }
 {
-    let t = window_tops(day, windows, year, d, base);
-    let next = take_plain(f, t);
-    if f.any & (t.high <= f.high) {
+    let next = take_plain(f, tops_of(day));
+    let high = masked_high(masks, year, d, day);
+    if f.any & (high <= f.high) {
         return next;
     }
-    let position = first_in(day, windows, year, d, base, t.high);
+    let position = first_in(windows, base, year, d, day, high);
+    if day.len() <= position {
+        return next;
+    }
+    let run = Run {
+        year,
+        period: false,
+    };
     Figures {
         peak: next.peak,
         sum: next.sum,
         any: true,
-        high: t.high,
+        high,
         day: d + 1,
-        quarter: readings::quarter_of(
-            Run {
-                year,
-                period: false,
-            },
-            d,
-            position,
-        ) as u8,
+        quarter: readings::quarter_of(run, d, position) as u8,
     }
 }
 
-// The figures with day d, from 0, taken in, which fits: one pass over its readings, and without in-window quarters maximum and sum alone.
+// The figures with day d, from 0, taken in, which fits. `some` tells whether its season has windows: without in-window quarters maximum and
+// sum alone are looked for.
 fn take_fit(
     f: Figures,
     year: u16,
     d: u16,
     carries: bool,
+    some: bool,
     windows: &[bool; sheet::PLACES],
+    base: usize,
+    masks: &[u32; 96],
     day: &[u32],
 ) -> Figures
-    requires { ⌜ (length (now day) ≡ dayLen (yearRun year) d) × (d < mostDays) × (f .sum + dayMost < sumEnd) ⌝ }
+    requires { ⌜ (length (now day) ≡ dayLen (yearRun year) d) × (d < mostDays) × (f .sum + dayMost < sumEnd) × (base ≡ placeOf (seasonOf year (d + 1)) 0) × (now masks ≡ masksOf (now windows) base) × (some ≡ someSet (now windows) base) ⌝ }
     ensures { λ r. ⌜ (r ≡ takenIn f (d + 1) (recordOf (yearRun year) (countsOn year carries (now (windows .entry))) d (alone (now (day .entry))))) × (r .sum ≤ f .sum + dayMost) ⌝ }
 {
-    let base = answers::DAY_QUARTERS * (dates::season(year, d + 1) as usize - 1);
-    if has_window(carries, windows, year, d, base) {
-        return take_window(f, year, d, windows, base, day);
+    if carries & some {
+        return take_masked(f, year, d, windows, base, masks, day);
     }
-    take_plain(f, plain_tops(day))
+    take_plain(f, tops_of(day))
 }
 
 // The figures with day d, from 0, taken in. A day of another length than its own, one past the longest year, and any day once the sum
@@ -253,5 +295,73 @@ pub fn take_day(
     if SUM_ROOM < f.sum {
         return f;
     }
-    take_fit(f, year, d, carries, windows, day)
+    let base = base_of(year, d);
+    let some = some_set(windows, base);
+    let masks = masks_of(windows, base);
+    take_fit(f, year, d, carries, some, windows, base, &masks, day)
+}
+
+// Takes in the days from day `from` on to the end of their month: they lie in one season, so its masks are made once.
+fn take_month(
+    f: Figures,
+    year: u16,
+    from: u16,
+    start: usize,
+    carrying: &[bool; dates::MOST_DAYS],
+    windows: &[bool; sheet::PLACES],
+    series: &[u32],
+) -> Reach
+    requires { ⌜ (length (now series) ≡ runReadings (yearRun year)) × (from < yearDays year) × (start ≡ dayStart (yearRun year) from) × (f ≡ figuresIn year (now carrying) (now windows) (now series) from) × (f .sum ≤ dayMost * from) ⌝ }
+    ensures { λ r. ⌜ (from < r .d) × (r .d ≤ yearDays year) × (r .at ≡ dayStart (yearRun year) (r .d)) × (r .figures ≡ figuresIn year (now (carrying .entry)) (now (windows .entry)) (now (series .entry)) (r .d)) × (r .figures .sum ≤ dayMost * (r .d)) ⌝ }
+{
+    let base = base_of(year, from);
+    let some = some_set(windows, base);
+    let masks = masks_of(windows, base);
+    let end = from + 1 + dates::month_left(year, from + 1);
+    let mut figures = f;
+    let mut at = start;
+    for d in from..end {
+        let run = Run {
+            year,
+            period: false,
+        };
+        let next = at + readings::day_len(run, d);
+        let carries = carrying[d as usize];
+        let day = &series[at..next];
+        figures = take_fit(figures, year, d, carries, some, windows, base, &masks, day);
+        at = next;
+    }
+    Reach {
+        figures,
+        d: end,
+        at,
+    }
+}
+
+// The figures of a year's series, month by month; 4 for a series of another length.
+pub fn year_figures<'a>(
+    year: u16,
+    carrying: &'a [bool; dates::MOST_DAYS],
+    windows: &'a [bool; sheet::PLACES],
+    series: &[u32],
+) -> YearFigures
+    ensures { λ r. ⌜ r ≡ yearFigures year (now (carrying .entry)) (now (windows .entry)) (now (series .entry)) ⌝ }
+{
+    let run = Run {
+        year,
+        period: false,
+    };
+    if series.len() != readings::run_readings(run) {
+        return YearFigures::WrongLength;
+    }
+    let mut figures = tariff::NO_FIGURES;
+    let mut at = 0;
+    let mut d = 0;
+    while d < dates::year_days(year) {
+        let next = take_month(figures, year, d, at, carrying, windows, series);
+        figures = next.figures;
+        d = next.d;
+        at = next.at;
+    }
+    YearFigures::All(figures)
 }

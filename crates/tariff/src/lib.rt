@@ -27,6 +27,16 @@ pub struct Figures {
     pub quarter: u8,
 }
 
+// The figures of no day.
+pub const NO_FIGURES: Figures = Figures {
+    peak: 0,
+    sum: 0,
+    any: false,
+    high: 0,
+    day: 0,
+    quarter: 0,
+};
+
 // What 8 carries: the general charge, cent, the annual peak and the sum.
 pub struct Plain {
     pub general: u64,
