@@ -15,6 +15,29 @@ use std::time::Instant;
 
 const ROUNDS: usize = 4001;
 
+/// What is wanted: at most so many times the independent implementation's time, by call, in one of the two years.
+struct Goals {
+    windows: f64,
+    decision: f64,
+    grid_step: f64,
+    customer_step: f64,
+}
+
+const USUAL: Goals = Goals { windows: 1.05, decision: 1.0, grid_step: 1.45, customer_step: 1.2 };
+const HARD: Goals = Goals { windows: 0.8, ..USUAL };
+
+/// And of the limit pass.
+const WINDOWS_TO_LIMIT: f64 = 1.5;
+const DECISION_TO_LIMIT: f64 = 2.5;
+
+fn verdict(figure: f64, goal: f64) -> &'static str {
+    if figure <= goal {
+        "met"
+    } else {
+        "MISSED"
+    }
+}
+
 /// Something measured: what is timed, and the times of all rounds in microseconds.
 struct Timed<'a> {
     name: &'static str,
@@ -95,7 +118,7 @@ fn agree(grid: &Grid, customer: &Customer) {
     assert_eq!(expected, calls::customer_days(&customer.basis, &customer.series));
 }
 
-fn measure(grid: &Grid, customer: &Customer) {
+fn measure(grid: &Grid, customer: &Customer, goals: &Goals) {
     let mut sheets = [[0u8; 56]; 4];
     let [whole, days, rust_whole, rust_days] = &mut sheets;
     let mut all = [
@@ -118,39 +141,53 @@ fn measure(grid: &Grid, customer: &Customer) {
         println!("  {:40} {median:8.2} µs", timed.name);
     }
     let days = |series: &[u32]| (series.len() / QUARTERS) as f64;
-    show_ratios("windows", medians[1], medians[2], medians[0], 1.5);
-    show_ratios("decision", medians[6], medians[7], medians[5], 2.5);
-    show_step("grid", medians[3], medians[4], days(&grid.series));
-    show_step("customer", medians[8], medians[9], days(&customer.series));
+    show_ratios("windows", medians[1], (medians[2], goals.windows), (medians[0], WINDOWS_TO_LIMIT));
+    show_ratios("decision", medians[6], (medians[7], goals.decision), (medians[5], DECISION_TO_LIMIT));
+    show_step("grid", medians[3], (medians[4], goals.grid_step), days(&grid.series));
+    show_step("customer", medians[8], (medians[9], goals.customer_step), days(&customer.series));
 }
 
-fn show_ratios(name: &str, proved: f64, rust: f64, limit: f64, goal: f64) {
-    let met = |ratio: f64, goal: f64| if ratio <= goal { "met" } else { "MISSED" };
-    let (to_rust, to_limit) = (proved / rust, proved / limit);
-    println!("  {name}: {to_rust:.2} times Rust (goal 1.1: {}), {to_limit:.2} times the limit pass (goal {goal}: {})", met(to_rust, 1.1), met(to_limit, goal));
+/// A time beside two others, each with the goal for the ratio.
+fn show_ratios(name: &str, proved: f64, (rust, to_rust): (f64, f64), (limit, to_limit): (f64, f64)) {
+    let ratios = (proved / rust, proved / limit);
+    println!(
+        "  {name}: {:.2} times Rust (goal {to_rust}: {}), {:.2} times the limit pass (goal {to_limit}: {})",
+        ratios.0,
+        verdict(ratios.0, to_rust),
+        ratios.1,
+        verdict(ratios.1, to_limit)
+    );
 }
 
-fn show_step(name: &str, proved: f64, rust: f64, days: f64) {
-    println!("  a day step of the {name}: {:.0} ns, Rust {:.0} ns, ratio {:.2}", 1e3 * proved / days, 1e3 * rust / days, proved / rust);
+fn show_step(name: &str, proved: f64, (rust, goal): (f64, f64), days: f64) {
+    let ratio = proved / rust;
+    println!(
+        "  a day step of the {name}: {:.0} ns, Rust {:.0} ns, ratio {ratio:.2} (goal {goal}: {})",
+        1e3 * proved / days,
+        1e3 * rust / days,
+        verdict(ratio, goal)
+    );
 }
 
+/// The deepest stack of each call, beside what it may take at the most.
 fn show_stack(grid: &Grid, customer: &Customer) {
     let mut sheet = [0u8; 56];
+    let show = |name: &str, bytes: usize, most: usize| println!("  {name:16} {bytes:6} (at most {most}: {})", verdict(bytes as f64, most as f64));
     println!("deepest stack, bytes");
-    println!("  windows          {:6}", stack::deepest(|| calls::windows(grid.year, grid.level, &grid.series, &mut sheet)));
-    println!("  grid by days     {:6}", stack::deepest(|| calls::grid_days(grid.year, grid.level, &grid.series, &mut sheet)));
-    println!("  decision         {:6}", stack::deepest(|| calls::decide(&customer.basis, &customer.series)));
-    println!("  customer by days {:6}", stack::deepest(|| calls::customer_days(&customer.basis, &customer.series)));
+    show("windows", stack::deepest(|| calls::windows(grid.year, grid.level, &grid.series, &mut sheet)), 3_152);
+    show("grid by days", stack::deepest(|| calls::grid_days(grid.year, grid.level, &grid.series, &mut sheet)), 5_872);
+    show("decision", stack::deepest(|| calls::decide(&customer.basis, &customer.series)), 3_032);
+    show("customer by days", stack::deepest(|| calls::customer_days(&customer.basis, &customer.series)), 5_480);
 }
 
 fn main() {
-    for (name, grid, customer) in [
-        ("a usual year: some quarters above the line, windows in winter and autumn", sample::usual_grid(), sample::usual_customer()),
-        ("a hard year: every season cut to forty, forty windows in every season", sample::hard_grid(), sample::hard_customer()),
+    for (name, grid, customer, goals) in [
+        ("a usual year: some quarters above the line, windows in winter and autumn", sample::usual_grid(), sample::usual_customer(), USUAL),
+        ("a hard year: every season cut to forty, forty windows in every season", sample::hard_grid(), sample::hard_customer(), HARD),
     ] {
         agree(&grid, &customer);
         println!("{name}; medians of {ROUNDS}");
-        measure(&grid, &customer);
+        measure(&grid, &customer, &goals);
         show_stack(&grid, &customer);
     }
 }
