@@ -212,9 +212,18 @@ fn take_plain(f: Figures, t: Tops) -> Figures
     }
 }
 
-// The figures with day d, from 0, taken in, which carries windows.
+// The same of a day's readings.
+fn plain_day(f: Figures, day: &[u32]) -> Figures
+    requires { ⌜ (length (now day) ≤ 100) × (f .sum + dayMost < sumEnd) ⌝ }
+    ensures { λ r. ⌜ (r ≡ plainly f (topsOf (now (day .entry)))) × (r .sum ≤ f .sum + dayMost) ⌝ }
+{
+    take_plain(f, tops_of(day))
+}
+
+// The figures with day d, from 0, taken in, which carries windows; `next` has its highest reading and sum.
 fn take_masked(
     f: Figures,
+    next: Figures,
     year: u16,
     d: u16,
     windows: &[bool; sheet::PLACES],
@@ -222,10 +231,9 @@ fn take_masked(
     masks: &[u32; 96],
     day: &[u32],
 ) -> Figures
-    requires { ⌜ (length (now day) ≡ dayLen (yearRun year) d) × (d < mostDays) × (f .sum + dayMost < sumEnd) × (base ≡ placeOf (seasonOf year (d + 1)) 0) × (now masks ≡ masksOf (now windows) base) ⌝ }
+    requires { ⌜ (length (now day) ≡ dayLen (yearRun year) d) × (d < mostDays) × (f .sum + dayMost < sumEnd) × (base ≡ placeOf (seasonOf year (d + 1)) 0) × (now masks ≡ masksOf (now windows) base) × (next ≡ plainly f (topsOf (now day))) × (next .sum ≤ f .sum + dayMost) ⌝ }
     ensures { λ r. ⌜ (r ≡ takenIn f (d + 1) (recordOf (yearRun year) (setOn year (now (windows .entry))) d (alone (now (day .entry))))) × (r .sum ≤ f .sum + dayMost) ⌝ }
 {
-    let next = take_plain(f, tops_of(day));
     let high = masked_high(masks, year, d, day);
     if f.any & (high <= f.high) {
         return next;
@@ -248,10 +256,12 @@ fn take_masked(
     }
 }
 
-// The figures with day d, from 0, taken in, which fits. `some` tells whether its season has windows: without in-window quarters maximum and
-// sum alone are looked for.
+// The figures with day d, from 0, taken in, which fits. `next` has its highest reading and sum, and `some` tells whether its season has
+// windows: without in-window quarters nothing else is looked for. (The pass that finds these two is the callers': this function is then
+// small enough to be laid into both of them.)
 fn take_fit(
     f: Figures,
+    next: Figures,
     year: u16,
     d: u16,
     carries: bool,
@@ -261,13 +271,13 @@ fn take_fit(
     masks: &[u32; 96],
     day: &[u32],
 ) -> Figures
-    requires { ⌜ (length (now day) ≡ dayLen (yearRun year) d) × (d < mostDays) × (f .sum + dayMost < sumEnd) × (base ≡ placeOf (seasonOf year (d + 1)) 0) × (now masks ≡ masksOf (now windows) base) × (some ≡ someSet (now windows) base) ⌝ }
+    requires { ⌜ (length (now day) ≡ dayLen (yearRun year) d) × (d < mostDays) × (f .sum + dayMost < sumEnd) × (base ≡ placeOf (seasonOf year (d + 1)) 0) × (now masks ≡ masksOf (now windows) base) × (some ≡ someSet (now windows) base) × (next ≡ plainly f (topsOf (now day))) × (next .sum ≤ f .sum + dayMost) ⌝ }
     ensures { λ r. ⌜ (r ≡ takenIn f (d + 1) (recordOf (yearRun year) (countsOn year carries (now (windows .entry))) d (alone (now (day .entry))))) × (r .sum ≤ f .sum + dayMost) ⌝ }
 {
     if carries & some {
-        return take_masked(f, year, d, windows, base, masks, day);
+        return take_masked(f, next, year, d, windows, base, masks, day);
     }
-    take_plain(f, tops_of(day))
+    next
 }
 
 // The figures with day d, from 0, taken in. A day of another length than its own, one past the longest year, and any day once the sum
@@ -298,7 +308,8 @@ pub fn take_day(
     let base = base_of(year, d);
     let some = some_set(windows, base);
     let masks = masks_of(windows, base);
-    take_fit(f, year, d, carries, some, windows, base, &masks, day)
+    let next = plain_day(f, day);
+    take_fit(f, next, year, d, carries, some, windows, base, &masks, day)
 }
 
 // Takes in the days from day `from` on to the end of their month: they lie in one season, so its masks are made once.
@@ -328,7 +339,19 @@ fn take_month(
         let next = at + readings::day_len(run, d);
         let carries = carrying[d as usize];
         let day = &series[at..next];
-        figures = take_fit(figures, year, d, carries, some, windows, base, &masks, day);
+        let more = plain_day(figures, day);
+        figures = take_fit(
+            figures,
+            more,
+            year,
+            d,
+            carries,
+            some,
+            windows,
+            base,
+            &masks,
+            day,
+        );
         at = next;
     }
     Reach {

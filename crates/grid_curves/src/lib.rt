@@ -16,6 +16,8 @@ const FOUR_DAYS: usize = 384;
 // The last day number that 16 bits hold.
 const LAST_DAY: u16 = 65535;
 
+const WINTER: u8 = 1;
+
 // How far a pass over a series has come: the days that are laid, and the readings before the next.
 struct Reach {
     d: u16,
@@ -35,7 +37,7 @@ fn season_of(year: u16, d: u16) -> u8
     if d < LAST_DAY {
         return dates::period_season(year, d + 1);
     }
-    1
+    WINTER
 }
 
 // Lays the readings of day d, from 0, over the curve of its season: every day counts, weekends too.

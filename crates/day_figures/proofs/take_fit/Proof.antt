@@ -1,14 +1,11 @@
 -- `day_figures::take_fit` meets its contract: a day of which no position counts is taken in plainly.
 -- Assumes nothing.
-use mathlib.Core.Path.{sym, ap, _∙_}
+use mathlib.Core.Path.{refl, sym, ap, _∙_}
 use mathlib.Core.Bool.{Bool, _&&_}
 use Prim.Native.Nat.{_+_}
-use native.Mathlib.Omega.{arith}
 use borrow.Author.Needs.{needs}
 use Rattle.over.proofs.Bools.{both}
-use Rattle.tariff.specs.declared.Figures.{Figures}
 use Rattle.figures.specs.Figures.{recordOf, takenIn}
-use Rattle.readings.proofs.Runs.{len-most}
 use Rattle.day_figures.specs.Counts.{yearRun, countsOn}
 use Rattle.day_figures.specs.Day.{alone}
 use Rattle.day_figures.proofs.OneDay.{counts-none, taken-none}
@@ -26,14 +23,10 @@ returns c =
 
 returns-2 : tie.Need-returns-2
 returns-2 c =
-    let s = c .before .before .before .before in
+    let s = c .before .before in
     let a = s .args in
-    let tops = c .before .tops-of .ensures in
-    let none = counts-none (a .year) (a .windows .now) (a .d) (s .pre .3) (a .carries) (ap (λ (b : Bool). a .carries && b) (sym (s .pre .5)) ∙ c .before .before .if1 .left) in (
-      c .take-plain .ensures
-          ∙ taken-none (yearRun (a .year)) (countsOn (a .year) (a .carries) (a .windows .now)) (a .d) (a .day .now) (s .pre .0) (a .f) (tops .0) none,
-      omega (arith, ap (λ (x : Figures). x .sum) (c .take-plain .ensures), tops .1),
-    )
+    let none = counts-none (a .year) (a .windows .now) (a .d) (s .pre .3) (a .carries) (ap (λ (b : Bool). a .carries && b) (sym (s .pre .5)) ∙ c .if1 .left) in
+    (s .pre .6 ∙ taken-none (yearRun (a .year)) (countsOn (a .year) (a .carries) (a .windows .now)) (a .d) (a .day .now) (s .pre .0) (a .f) refl none, s .pre .7)
 
 pub take-fit-spec : {M : Type 1} → statement M
 take-fit-spec =
@@ -41,6 +34,4 @@ take-fit-spec =
     (tie.spec
     (λ c κs. search needs)  -- take-masked-requires
     returns
-    (λ c κs. let a = c .before .before .args in omega (arith, len-most (yearRun (a .year)) (a .d)))  -- tops-of-requires
-    (λ c κs. search needs)  -- take-plain-requires
     returns-2)

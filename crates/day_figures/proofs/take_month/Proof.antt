@@ -10,7 +10,7 @@ use Rattle.dates.specs.Dates.{mostDays, yearDays, seasonOf}
 use Rattle.dates.proofs.Leaps.{leap-small}
 use Rattle.dates.proofs.Seasons.{season-stays, year-room}
 use Rattle.readings.specs.Runs.{dayLen, dayStart}
-use Rattle.readings.proofs.Runs.{start-more, run-held, year-run}
+use Rattle.readings.proofs.Runs.{start-more, run-held, year-run, len-most}
 use Rattle.readings.proofs.Part.{cut-at, cut-long}
 use Rattle.sheet.specs.Windows.{placeOf}
 use Rattle.tariff.specs.declared.Figures.{Figures}
@@ -62,25 +62,44 @@ same-base e =
     let stays = season-stays (a .year) (a .from + 1) (d - a .from) (omega (arith, m .month-left .ensures)) in
     b .base-of .ensures .0 ∙ ap (λ (s : ℕ). placeOf s 0) (sym stays ∙ ap (seasonOf (a .year)) on)
 
+-- the day's readings
+long :
+    (e : tie.After-day-len Inv-loop μ-loop)
+    → let a = e .before .before .before .before .before .before .before .before .args in
+    let at = e .before .before .loop in
+    length (take (at .at + e .day-len .result - at .at) (drop (at .at) (a .series .now))) ≡ dayLen (yearRun (a .year)) (at .d)
+long e =
+    let a = e .before .before .before .before .before .before .before .before .args in
+    let at = e .before .before .loop in
+    cut-long (yearRun (a .year)) (a .series .now) (at .d) {size = at .at + e .day-len .result - at .at} (at .inv .3) (omega arith) (omega (arith, room e))
+
+plain-day-requires : tie.Need-plain-day-requires Inv-loop μ-loop
+plain-day-requires c κs =
+    let e = c .before .before in
+    let a = e .before .before .before .before .before .before .before .before .args in
+    let at = e .before .before .loop in
+    (omega (arith, long e, len-most (yearRun (a .year)) (at .d)), omega (arith, at .inv .4, within (e .before)))
+
 take-fit-requires : tie.Need-take-fit-requires Inv-loop μ-loop
 take-fit-requires c κs =
-    let e = c .before .before .before in
+    let e = c .before .before .before .before in
     let m = e .before .before .before in
-    let a = m .before .before .before .before .before .args in
     let at = e .before .before .loop in
-    let size = at .at + e .day-len .result - at .at in (
-      cut-long (yearRun (a .year)) (a .series .now) (at .d) {size = size} (at .inv .3) (omega arith) (omega (arith, room e)),
+    let p = c .before .plain-day .ensures in (
+      long e,
       within (e .before),
       omega (arith, at .inv .4, within (e .before)),
       same-base (e .before),
       m .before .masks-of .ensures,
       m .before .before .some-set .ensures,
+      p .0,
+      p .1,
     )
 
 loop-again : tie.Need-loop-again Inv-loop μ-loop
 unfolding anyOn highOn quarterOn
 loop-again c =
-    let e = c .before .before .before .before in
+    let e = c .before .before .before .before .before in
     let a = e .before .before .before .before .before .before .before .before .args in
     let at = e .before .before .loop in
     let size = at .at + e .day-len .result - at .at in
@@ -128,8 +147,9 @@ take-month-spec =
     (λ c. search needs)  -- sub-day
     (λ c. search needs)  -- part-day-start
     (λ c. let h = room (c .before) in search needs)  -- part-day-end
+    plain-day-requires
     take-fit-requires
-    (λ c. let r = within (c .before .before .before .before .before) in omega arith)  -- add-d
+    (λ c. let r = within (c .before .before .before .before .before .before) in omega arith)  -- add-d
     (λ c. search needs)  -- loop-less
     loop-again
     returns)
