@@ -3,7 +3,7 @@
 use mathlib.Core.List.{List}
 use Prim.Native.Nat.{ℕ}
 use Rattle.answers.specs.Said.{Said}
-use Rattle.dates.specs.Period.{periodDays}
+use Rattle.periods.specs.Period.{periodDays}
 use Rattle.readings.specs.Days.{offered, daysOf}
 use Rattle.grid.specs.declared.Grid.{Grid}
 use Rattle.grid.specs.Answers.{openGrid, dayGrid, closeAnswer, closeBuffer}

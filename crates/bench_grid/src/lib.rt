@@ -2,7 +2,7 @@
 // Each is the called function and no more; its promise is that function's, through the same definitions.
 ghost use mathlib.Core.Path.{_≡_};
 ghost use lib.ListN.{length};
-ghost use Rattle.dates.specs.Period.{periodDays};
+ghost use Rattle.periods.specs.Period.{periodDays};
 ghost use Rattle.grid.specs.Answers.{windowsAnswer, windowsBuffer};
 ghost use Rattle.flat.specs.Flat.{flatOf};
 ghost use Rattle.bench_grid.specs.Days.{gridAfter, gridDaysAnswer, gridDaysBuffer};
@@ -22,7 +22,7 @@ fn all_grid_days(year: u16, level: u8, series: &[u32]) -> Grid
     ensures { λ r. ⌜ r ≡ gridAfter year level (now (series .entry)) (periodDays year) ⌝ }
 {
     let mut state = Grid::open(year, level).grid;
-    for d in 0..dates::period_days(year) {
+    for d in 0..periods::period_days(year) {
         state = state.day(readings::day_part(series, d as usize + 1)).grid;
     }
     state

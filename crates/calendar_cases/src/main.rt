@@ -49,7 +49,7 @@ fn mark(line: u8, year: u16, list: &[u16], day: u16) -> u8 {
     match line {
         b'W' => digit(dates::weekday(year, day)),
         b'S' => digit(dates::season(year, day)),
-        b'P' => digit(dates::period_season(year, day)),
+        b'P' => digit(periods::period_season(year, day)),
         _ => letter(calendar::carries_windows(year, list, day)),
     }
 }
@@ -75,7 +75,7 @@ fn whole_year(year: u16, list: &[u16]) {
     write(b" ");
     write_number(dates::year_days(year) as u64);
     write(b" ");
-    write_number(dates::period_days(year) as u64);
+    write_number(periods::period_days(year) as u64);
     write(b"\n");
     write_line(b'W', year, list);
     write_line(b'S', year, list);

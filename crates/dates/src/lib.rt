@@ -1,9 +1,8 @@
-// Dates of document 01's calendar: leap years, weekdays, seasons, and the days of the reference period.
+// Dates of document 01's calendar: leap years, weekdays, months and seasons.
 // Main theorem: the weekday by three divisions is the weekday by counting every day, each 29 February with them, in every year.
 ghost use mathlib.Core.Path.{_≡_};
-ghost use Prim.Native.Nat.{_-_, _<_};
+ghost use Prim.Native.Nat.{_<_};
 ghost use Rattle.dates.specs.Dates.{leap, leapDay, yearDays, daysTo, monthOf, weekdayOf, seasonOf, monthLeft};
-ghost use Rattle.dates.specs.Period.{periodDays, periodDate, periodSeason, periodLeft};
 
 // The most days that a year has.
 pub const MOST_DAYS: usize = 366;
@@ -14,22 +13,6 @@ const DAYS_BEFORE: [u16; 13] = [0, 31, 59, 90, 120, 151, 181, 212, 243, 273, 304
 const SEASONS: [u8; 12] = [1, 1, 2, 2, 2, 3, 3, 3, 4, 4, 4, 1];
 
 const MONTHS: usize = 12;
-
-// September to December of any year.
-const LATE_DAYS: u16 = 122;
-
-// A day of a year, from 1.
-struct Date {
-    year: u16,
-    day: u16,
-}
-
-// The year n years before, and year 0 where there is none.
-fn years_back(year: u16, n: u16) -> u16
-    ensures { λ r. ⌜ r ≡ year - n ⌝ }
-{
-    if year < n { 0 } else { year - n }
-}
 
 fn is_leap(year: u16) -> bool
     ensures { λ r. ⌜ r ≡ leap year ⌝ }
@@ -98,45 +81,4 @@ pub fn weekday(year: u16, day: u16) -> u8
     let y = year as u32;
     let leaps = (y + 3) / 4 - (y + 99) / 100 + (y + 399) / 400;
     ((y + leaps + (day as u32) + 4) % 7) as u8
-}
-
-// The days of the reference period of any charge year.
-pub fn period_days(year: u16) -> u16
-    ensures { λ r. ⌜ r ≡ periodDays year ⌝ }
-{
-    365 + leap_day(years_back(year, 1))
-}
-
-// The date of a day of the reference period.
-fn period_date(year: u16, k: u16) -> Date
-    ensures { λ r. ⌜ r ≡ periodDate year k ⌝ }
-{
-    if k <= LATE_DAYS {
-        let start = years_back(year, 2);
-        Date {
-            year: start,
-            day: days_to(start, 8) + k,
-        }
-    } else {
-        Date {
-            year: years_back(year, 1),
-            day: k - LATE_DAYS,
-        }
-    }
-}
-
-// The season of any day, from 1, of the reference period of any charge year.
-pub fn period_season(year: u16, k: u16) -> u8
-    ensures { λ r. ⌜ r ≡ periodSeason year k ⌝ }
-{
-    let date = period_date(year, k);
-    season(date.year, date.day)
-}
-
-// The days of the reference period that come after a day in its month.
-pub fn period_left(year: u16, k: u16) -> u16
-    ensures { λ r. ⌜ r ≡ periodLeft year k ⌝ }
-{
-    let date = period_date(year, k);
-    month_left(date.year, date.day)
 }

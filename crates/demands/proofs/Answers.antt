@@ -14,7 +14,7 @@ use Rattle.over.specs.Limits.{Within}
 use Rattle.over.proofs.Tables.{getD-table, table-cong}
 use Rattle.answers.specs.Ruling.{dayQuarters, gridMost}
 use Rattle.answers.specs.Said.{Said, only, after, orElse}
-use Rattle.dates.specs.Period.{periodDays}
+use Rattle.periods.specs.Period.{periodDays}
 use Rattle.calendar.proofs.Answers.{exactly}
 use Rattle.readings.specs.Legal.{highestOf}
 use Rattle.readings.specs.Days.{seriesAnswer}

@@ -18,7 +18,7 @@ use Rattle.over.proofs.Largest.{largest-le}
 use Rattle.answers.specs.Ruling.{gridMost, customerMost, yearOut, levelOut}
 use Rattle.answers.specs.Said.{Said, only}
 use Rattle.dates.specs.Dates.{leapDay}
-use Rattle.dates.specs.Period.{periodDays}
+use Rattle.periods.specs.Period.{periodDays}
 use Rattle.readings.specs.declared.Run.{Run}
 use Rattle.readings.specs.Runs.{runDays, dayLen, dayStart, reading}
 use Rattle.readings.specs.Legal.{highestOf, dayPeak, peakOf}

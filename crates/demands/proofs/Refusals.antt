@@ -13,7 +13,7 @@ use Rattle.answers.specs.declared.Place.{Place}
 use Rattle.answers.specs.Ruling.{gridMost, customerMost, yearOut, levelOut}
 use Rattle.answers.specs.Said.{Said, only, after, orElse}
 use Rattle.dates.specs.Dates.{yearDays}
-use Rattle.dates.specs.Period.{periodDays}
+use Rattle.periods.specs.Period.{periodDays}
 use Rattle.holidays.specs.Holidays.{badHolidays}
 use Rattle.calendar.specs.Free.{carries}
 use Rattle.calendar.specs.Answer.{dayOut, dayAnswer}

@@ -19,7 +19,7 @@ use Rattle.over.proofs.Tests.{count-fails}
 use Rattle.answers.specs.Ruling.{dayQuarters, lineParts, peakParts, windowsMost}
 use Rattle.answers.specs.Said.{only}
 use Rattle.dates.specs.Dates.{leap, leapDay, daysTo, monthOf, seasonOf}
-use Rattle.dates.specs.Period.{periodDays, periodDate, periodSeason}
+use Rattle.periods.specs.Period.{periodDays, periodDate, periodSeason}
 use Rattle.readings.specs.Runs.{runDays, dayLen, quarterOf, runReadings, reading}
 use Rattle.readings.proofs.Runs.{len-some, quarter-is, period-run}
 use Rattle.sheet.specs.Windows.{seasons, isSet}

@@ -11,7 +11,7 @@ use Rattle.over.specs.Limits.{Within}
 use Rattle.over.specs.Over.{table}
 use Rattle.answers.specs.Ruling.{dayQuarters, gridMost}
 use Rattle.answers.specs.Said.{only, badPlace}
-use Rattle.dates.specs.Period.{periodDays}
+use Rattle.periods.specs.Period.{periodDays}
 use Rattle.calendar.specs.Answer.{DayRow, dayAnswer as calendarAnswer}
 use Rattle.readings.specs.Days.{offered, takenReadings, BadThere}
 use Rattle.readings.specs.Rows.{NextRow}

@@ -101,7 +101,7 @@ pub fn windows(year: u16, level: u8, series: &[u32], out: &mut [u8]) -> GridAnsw
 fn day_answer(year: u16, seen: u16, day: &[u32]) -> GridAnswer
     ensures { λ r. ⌜ saidOfGrid r ≡ nextAnswer (periodRun year) gridMost seen (now (day .entry)) ⌝ }
 {
-    if dates::period_days(year) <= seen {
+    if periods::period_days(year) <= seen {
         return GridAnswer::DayOut;
     }
     if day.len() != readings::day_len(Run { year, period: true }, seen) {
@@ -195,7 +195,7 @@ impl Grid {
         if out.len() < sheet::SHEET_SIZE {
             return GridAnswer::Short;
         }
-        if self.seen != dates::period_days(self.year) {
+        if self.seen != periods::period_days(self.year) {
             return GridAnswer::DayOut;
         }
         let peak = legal::highest(&curves);

@@ -15,7 +15,7 @@ use Rattle.over.specs.Over.{largestOver, counted, table}
 use Rattle.over.proofs.Largest.{largest-none, largest-more, largest-add, largest-above, largest-le, largest-cong, largest-rest}
 use Rattle.over.proofs.Tables.{is-table, getD-table, table-cong}
 use Rattle.answers.specs.Ruling.{dayQuarters}
-use Rattle.dates.specs.Period.{periodSeason}
+use Rattle.periods.specs.Period.{periodSeason}
 use Rattle.readings.specs.Runs.{dayLen, dayStart, quarterOf, reading}
 use Rattle.readings.proofs.Runs.{len-is, quarter-is, start-formula}
 use Rattle.sheet.specs.Windows.{places}

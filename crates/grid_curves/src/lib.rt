@@ -4,7 +4,7 @@
 ghost use mathlib.Core.Path.{_≡_};
 ghost use Prim.Native.Nat.{ℕ, _<_, _≤_, _+_, min};
 ghost use lib.ListN.{length};
-ghost use Rattle.dates.specs.Period.{periodDays, periodSeason};
+ghost use Rattle.periods.specs.Period.{periodDays, periodSeason};
 ghost use Rattle.readings.specs.Runs.{dayLen, dayStart};
 ghost use Rattle.grid_curves.specs.Curves.{periodRun, flatCurves, merged};
 ghost use Rattle.grid_curves.specs.Four.{fourDays, overlaid};
@@ -35,7 +35,7 @@ fn season_of(year: u16, d: u16) -> u8
     ensures { λ r. ⌜ r ≡ periodSeason year (d + 1) ⌝ }
 {
     if d < LAST_DAY {
-        return dates::period_season(year, d + 1);
+        return periods::period_season(year, d + 1);
     }
     WINTER
 }
@@ -110,8 +110,8 @@ fn lay_month(curves: &mut [u32; 384], year: u16, from: u16, start: usize, series
     requires { ⌜ (from < periodDays year) × (start ≡ dayStart (periodRun year) from) × (now curves ≡ flatCurves year (now series) from) ⌝ }
     ensures { λ r. ⌜ (from < r .d) × (r .d ≤ periodDays year) × (r .at ≡ dayStart (periodRun year) (r .d)) × (now (curves .exit) ≡ flatCurves year (now (series .entry)) (r .d)) ⌝ }
 {
-    let season = dates::period_season(year, from + 1);
-    let end = from + 1 + dates::period_left(year, from + 1);
+    let season = periods::period_season(year, from + 1);
+    let end = from + 1 + periods::period_left(year, from + 1);
     let mut d = from;
     let mut at = start;
     while d < end {
@@ -126,7 +126,7 @@ fn lay_month(curves: &mut [u32; 384], year: u16, from: u16, start: usize, series
 pub fn collect(year: u16, series: &[u32]) -> [u32; 384]
     ensures { λ r. ⌜ r ≡ flatCurves year (now (series .entry)) (periodDays year) ⌝ }
 {
-    let days = dates::period_days(year);
+    let days = periods::period_days(year);
     let mut curves = [0; 384];
     let mut at = 0;
     let mut d = 0;

@@ -9,7 +9,7 @@ use lib.Dec.{ltb, eqb}
 use Rattle.answers.specs.Ruling.{yearOut, levelOut}
 use Rattle.answers.specs.Said.{Said, only}
 use Rattle.answers.specs.declared.Place.{Place}
-use Rattle.dates.specs.Period.{periodDays}
+use Rattle.periods.specs.Period.{periodDays}
 use Rattle.readings.specs.Legal.{highestOf}
 use Rattle.sheet.specs.Windows.{tooFull}
 use Rattle.sheet.specs.Bytes.{sheetSize}

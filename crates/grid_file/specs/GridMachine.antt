@@ -3,7 +3,7 @@ use mathlib.Core.List.{List, [], _∷_}
 use Prim.Native.Nat.{ℕ, _+_}
 use lib.ListN.{replicate}
 use Rattle.answers.specs.Said.{Said, badPlace}
-use Rattle.dates.specs.Period.{periodDays}
+use Rattle.periods.specs.Period.{periodDays}
 use Rattle.sheet.specs.Bytes.{sheetSize}
 use Rattle.grid.specs.declared.Grid.{Grid}
 use Rattle.grid_curves.specs.Curves.{periodRun}

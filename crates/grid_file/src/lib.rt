@@ -133,7 +133,7 @@ impl GridFile {
             }
             let year = self.grid.year;
             let seen = self.grid.seen;
-            if seen < dates::period_days(year) {
+            if seen < periods::period_days(year) {
                 return field_steps::READING_BYTES
                     * readings::day_len(Run { year, period: true }, seen);
             }
@@ -214,7 +214,7 @@ impl GridFile {
             if self.field < FIELDS {
                 return self.take_field(b);
             }
-            if self.grid.seen < dates::period_days(self.grid.year) {
+            if self.grid.seen < periods::period_days(self.grid.year) {
                 return self.take_day(b);
             }
             return self.take_end(b);

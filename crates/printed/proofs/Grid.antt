@@ -15,8 +15,8 @@ use Rattle.over.proofs.Tests.{Passed}
 use Rattle.over.proofs.Bools.{clash}
 use Rattle.answers.specs.Ruling.{gridMost, yearOut, levelOut}
 use Rattle.answers.specs.Said.{Said, only}
-use Rattle.dates.specs.Period.{periodDays}
-use Rattle.dates.proofs.Seasons.{period-most}
+use Rattle.periods.specs.Period.{periodDays}
+use Rattle.periods.proofs.Periods.{period-most}
 use Rattle.readings.specs.declared.Run.{Run}
 use Rattle.readings.specs.Runs.{runDays, dayLen, dayStart}
 use Rattle.readings.specs.Legal.{highestOf, badIn}

@@ -9,9 +9,9 @@ use native.Mathlib.Omega.{arith}
 use Rattle.over.proofs.Sums.{sum-none, sum-suc, sum-more}
 use Rattle.answers.specs.Ruling.{dayQuarters}
 use Rattle.dates.specs.Dates.{yearDays, mostDays}
-use Rattle.dates.specs.Period.{periodDays}
+use Rattle.periods.specs.Period.{periodDays}
 use Rattle.dates.proofs.Leaps.{leap-small}
-use Rattle.dates.proofs.Seasons.{period-most}
+use Rattle.periods.proofs.Periods.{period-most}
 use Rattle.readings.specs.declared.Run.{Run}
 use Rattle.readings.specs.Runs.{runDays, dayLen, quarterOf, dayStart, runReadings}
 

@@ -8,7 +8,7 @@ use lib.ListN.{getD}
 use Rattle.over.specs.Over.{sumOver}
 use Rattle.answers.specs.Ruling.{dayQuarters}
 use Rattle.dates.specs.Dates.{yearDays}
-use Rattle.dates.specs.Period.{periodDays}
+use Rattle.periods.specs.Period.{periodDays}
 use Rattle.readings.specs.declared.Run.{Run}
 
 -- the days of a run

@@ -15,7 +15,7 @@ pub fn run_days(run: Run) -> u16
     ensures { λ r. ⌜ r ≡ runDays run ⌝ }
 {
     if run.period {
-        return dates::period_days(run.year);
+        return periods::period_days(run.year);
     }
     dates::year_days(run.year)
 }

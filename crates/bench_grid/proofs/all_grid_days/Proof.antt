@@ -4,7 +4,7 @@ use mathlib.Core.Path.{_≡_, sym, ap, _∙_}
 use Prim.Native.Nat.{_≤_, _-_, _+_}
 use native.Mathlib.Omega.{arith}
 use borrow.Author.Needs.{needs}
-use Rattle.dates.specs.Period.{periodDays}
+use Rattle.periods.specs.Period.{periodDays}
 use Rattle.readings.specs.Days.{offered, daysOf}
 use Rattle.readings.specs.Part.{dayPart}
 use Rattle.grid.specs.declared.Grid.{Grid}

@@ -6,7 +6,7 @@ use native.Mathlib.Omega.{arith}
 use borrow.Author.Needs.{needs}
 use lib.ListN.{length}
 use Rattle.answers.specs.Ruling.{gridMost}
-use Rattle.dates.specs.Period.{periodDays}
+use Rattle.periods.specs.Period.{periodDays}
 use Rattle.readings.specs.Runs.{runDays, dayLen}
 use Rattle.readings.proofs.Runs.{len-most, period-run}
 use Rattle.readings.proofs.Legal.{found-illegal, none-illegal}

@@ -4,8 +4,8 @@ use mathlib.Core.Path.{_≡_, sym, ap, _∙_}
 use Prim.Native.Nat.{ℕ, _≤_, _<_, _+_, _-_}
 use native.Mathlib.Omega.{arith}
 use borrow.Author.Needs.{needs}
-use Rattle.dates.specs.Period.{periodDays, periodSeason, periodLeft}
-use Rattle.dates.proofs.Seasons.{period-most, period-stays, period-room}
+use Rattle.periods.specs.Period.{periodDays, periodSeason, periodLeft}
+use Rattle.periods.proofs.Periods.{period-most, period-stays, period-room}
 use Rattle.readings.specs.Runs.{dayStart}
 use Rattle.grid_curves.specs.Curves.{periodRun, flatCurves}
 use Rattle.grid_curves.proofs.lay_month.Statement.{statement}

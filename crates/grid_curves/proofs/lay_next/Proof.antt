@@ -7,8 +7,8 @@ use borrow.Author.Needs.{needs}
 use borrow.Author.Tests.{leb-true}
 use lib.ListN.{length, length-take, length-drop}
 use Rattle.over.proofs.Bools.{both}
-use Rattle.dates.specs.Period.{periodSeason}
-use Rattle.dates.proofs.Seasons.{period-most, period-season-range}
+use Rattle.periods.specs.Period.{periodSeason}
+use Rattle.periods.proofs.Periods.{period-most, period-season-range}
 use Rattle.readings.specs.Runs.{dayLen}
 use Rattle.readings.proofs.Runs.{start-more, start-most, start-formula, len-most}
 use Rattle.grid_curves.specs.Curves.{periodRun}

@@ -4,8 +4,8 @@ use mathlib.Core.Path.{_≡_, sym, ap, _∙_}
 use Prim.Native.Nat.{ℕ, _+_}
 use native.Mathlib.Omega.{arith}
 use borrow.Author.Needs.{needs}
-use Rattle.dates.specs.Period.{periodSeason}
-use Rattle.dates.proofs.Seasons.{period-far}
+use Rattle.periods.specs.Period.{periodSeason}
+use Rattle.periods.proofs.Periods.{period-far}
 use Rattle.grid_curves.proofs.season_of.Statement.{statement}
 use Rattle.grid_curves.proofs.season_of.Tie as tie
 

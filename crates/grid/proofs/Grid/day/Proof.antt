@@ -6,7 +6,7 @@ use native.Mathlib.Omega.{arith}
 use borrow.Author.Needs.{needs}
 use types.Run.{miss}
 use Rattle.answers.specs.Said.{only}
-use Rattle.dates.proofs.Seasons.{period-most}
+use Rattle.periods.proofs.Periods.{period-most}
 use Rattle.grid.specs.Answers.{saidOfGrid, dayAnswer}
 use Rattle.grid.proofs.Steps.{refuses, others, day-left, day-refused, day-taken}
 use Rattle.grid.proofs.Grid.day.Statement.{statement}

@@ -1,9 +1,9 @@
--- `dates::period_left` meets its contract: the days after the period day's date in its month.
+-- `periods::period_left` meets its contract: the days after the period day's date in its month.
 -- Assumes nothing.
 use borrow.Author.Needs.{needs}
-use Rattle.dates.proofs.Seasons.{period-left}
-use Rattle.dates.proofs.period_left.Statement.{statement}
-use Rattle.dates.proofs.period_left.Tie as tie
+use Rattle.periods.proofs.Periods.{period-left}
+use Rattle.periods.proofs.period_left.Statement.{statement}
+use Rattle.periods.proofs.period_left.Tie as tie
 
 pub period-left-spec : {M : Type 1} → statement M
 period-left-spec =
