@@ -2,3 +2,4 @@ pub mod Forty
 pub mod Ahead
 pub mod Cutting
 pub mod Added
+pub mod Equal
