@@ -11,7 +11,7 @@ use Rattle.tariff.specs.declared.Row.{Row}
 use Rattle.tariff.specs.declared.Prices.{Prices}
 use Rattle.tariff.specs.declared.Figures.{Figures}
 use Rattle.tariff.specs.Prices.{pricesOut}
-use Rattle.tariff.specs.Charges.{centParts, capacityParts, partsFor, chargeFor, general, reduced, floorOf, charge, generalIn, flooredIn}
+use Rattle.tariff.specs.Charges.{fewHours, centParts, capacityParts, partsFor, chargeFor, general, reduced, floorOf, charge, generalIn, flooredIn}
 
 module _ (power : ℕ) (row : Row) (sum : ℕ) where
   pub charge-split :
@@ -58,6 +58,11 @@ unfolding chargeFor
 charge-mono a b row sum h =
     let m : capacityParts * a * row .capacity ≤ capacityParts * b * row .capacity = mul-le-mul-right (row .capacity) (omega arith) in
     omega arith
+
+-- at 2,500 hours and more the option changes nothing
+pub option-idle : (f : Figures) (p : Prices) (option : Bool) → fewHours f ≡ false → charge f p option ≡ charge f p false
+unfolding charge reduced
+option-idle f p option h = simp h
 
 -- the larger of reduced charge and floor is the charge
 pub charge-of : (f : Figures) (p : Prices) (option : Bool) {r g : ℕ} → r ≡ reduced f p option → g ≡ general f p → max r (floorOf g) ≡ charge f p option
