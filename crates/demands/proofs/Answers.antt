@@ -2,18 +2,17 @@
 -- Assumes nothing.
 use mathlib.Core.Path.{_≡_, refl, sym, ap, _∙_}
 use mathlib.Core.Bool.{Bool, true, false, cond}
-use mathlib.Core.List.{List, [], _++_}
+use mathlib.Core.List.{List, []}
 use Prim.Native.Nat.{ℕ, _+_, _-_, _*_, _/_, _%_, _<_}
 use native.Mathlib.Decide.{ℕ-discrete}
 use native.Mathlib.Omega.{arith}
 use borrow.Author.Tests.{eq-eqb, ne-eqb}
 use lib.Dec.{ltb, eqb}
 use lib.ListN.{length, getD, take, drop}
-use lib.Seq.{drop-at}
 use Rattle.over.specs.Limits.{Within}
 use Rattle.over.proofs.Tables.{getD-table, table-cong}
 use Rattle.answers.specs.Ruling.{dayQuarters, gridMost}
-use Rattle.answers.specs.Said.{Said, only, after, orElse}
+use Rattle.answers.specs.Said.{Said, only, orElse}
 use Rattle.periods.specs.Period.{periodDays}
 use Rattle.calendar.proofs.Answers.{exactly}
 use Rattle.readings.specs.Legal.{highestOf}
@@ -21,12 +20,11 @@ use Rattle.readings.specs.Days.{seriesAnswer}
 use Rattle.readings.proofs.Days.{next-exactly}
 use Rattle.sheet.specs.declared.Sheet.{Sheet}
 use Rattle.sheet.specs.Windows.{seasons, places, isSet}
-use Rattle.sheet.specs.Bytes.{sheetSize, sheetBytes}
+use Rattle.sheet.specs.Bytes.{sheetSize}
 use Rattle.sheet.specs.Answers.{SheetRead, readOf, writeAnswer, written}
 use Rattle.sheet.proofs.Windows.{set-at, length-flat}
-use Rattle.sheet.proofs.Bytes.{length-bytes}
 use Rattle.sheet.proofs.Exactly.{read-exactly, write-exactly}
-use Rattle.sheet.proofs.Back.{buffer-read, same-bytes}
+use Rattle.sheet.proofs.Back.{buffer-read}
 use Rattle.windows.specs.Chosen.{kept, curveOf, curvesOf}
 use Rattle.windows.proofs.Forty.{chosen-at}
 use Rattle.grid_curves.specs.Curves.{periodRun, curveAt, flatCurves}
@@ -39,9 +37,11 @@ use Rattle.tariff.proofs.Answered.{number-is}
 use Rattle.tariff.proofs.Exactly.{eligible-exactly, charge-exactly, judge-exactly}
 use Rattle.customer.proofs.Exactly.{customer-open-exactly, customer-day-exactly, customer-close-exactly, decide-exactly}
 use Rattle.customer.proofs.Whole.{days-whole as customer-days, same-place as customer-place}
-use Rattle.demands.specs.Answers.{ExactlyWhen, Sheets, curveIn, ToTheQuarterHour, DaysAsWhole}
+use Rattle.demands.specs.Module.{ours}
+use Rattle.demands.specs.Answers.{ExactlyWhen, curveIn, ToTheQuarterHour, DaysAsWhole}
+use Rattle.demands.proofs.Sheets.{handed, rest-stays}
 
-pub exactly-when : ExactlyWhen
+pub exactly-when : ExactlyWhen ours
 exactly-when =
     record {
       calendar = exactly;
@@ -54,16 +54,22 @@ exactly-when =
       eligible = eligible-exactly;
       charge = charge-exactly;
       judge = judge-exactly;
-      decide = decide-exactly;
-      customer-open = customer-open-exactly;
+      decide = λ k xs. decide-exactly (k .sheet) (k .holidays) (k .prices) (k .option) xs;
+      customer-open = λ k. customer-open-exactly (k .sheet) (k .holidays) (k .prices);
       customer-day = customer-day-exactly;
       customer-close = customer-close-exactly;
     }
 
--- what 0 hands over is the new value, and where a second answer behind a first is 0, it is the second
-handed : {A : Type 0} (a : Said) (new old : A) → a .number ≡ 0 → after a new old ≡ new
-handed a new old z = rw (eq-eqb _ _ z)
+pub days-as-whole : DaysAsWhole ours
+days-as-whole =
+    record {
+      grid = λ y level buffer o. grid-days y level o buffer;
+      grid-place = λ y level xs buffer d q e. grid-place y level xs buffer d q e;
+      customer = λ k o. customer-days (k .sheet) (k .holidays) (k .prices) (k .option) o;
+      customer-place = λ k xs d q o e. customer-place (k .sheet) (k .holidays) (k .prices) (k .option) o xs d q e;
+    }
 
+-- where a second answer behind a first is 0, it is the second
 second : (a b : Said) → orElse a b .number ≡ 0 → orElse a b ≡ b
 second a b z = go (ℕ-discrete (a .number) 0)
   where
@@ -74,25 +80,6 @@ second a b z = go (ℕ-discrete (a .number) 0)
 otherwise : (t : Bool) (n : ℕ) (a : Said) → (n ≡ 0 → ⊥) → cond t (only n) a .number ≡ 0 → cond t (only n) a ≡ a
 otherwise true n a r z = absurd (r z)
 otherwise false n a r z = refl
-
-fills : (s : Sheet) (buffer : List ℕ) → writeAnswer s (length buffer) .number ≡ 0 → written s buffer ≡ sheetBytes s ++ drop sheetSize buffer
-unfolding written
-fills s buffer z = handed (writeAnswer s (length buffer)) _ _ z
-
-size : (s : Sheet) → length (sheetBytes s) ≡ sheetSize
-size s = length-bytes (s .year) (s .level) (s .windows)
-
-pub sheets : Sheets
-sheets = record { reads-back = buffer-read; same-bytes = same-bytes; fills = fills; size = size }
-
-pub days-as-whole : DaysAsWhole
-days-as-whole =
-    record {
-      grid = λ y level days buffer o full. grid-days y level o days buffer full;
-      grid-place = λ y level xs buffer d q e. grid-place y level xs buffer d q e;
-      customer = λ k days o full. customer-days (k .sheet) (k .holidays) (k .prices) (k .option) o days full;
-      customer-place = λ k xs d q o e. customer-place (k .sheet) (k .holidays) (k .prices) (k .option) o xs d q e;
-    }
 
 -- the curve of a season, out of the flat curves
 curve-is : (y : ℕ) (xs : List ℕ) (s : ℕ) → Within 1 seasons s → getD (curvesOf (flatCurves y xs (periodDays y))) (s - 1) [] ≡ curveIn y xs s
@@ -145,7 +132,7 @@ module _ (y level : ℕ) (xs buffer : List ℕ) (z : windowsAnswer y level xs (l
       ∙ ap (λ (m : ℕ). kept m (getD (curvesOf flat) (s - 1) []) q) (peak-curves y xs (periodDays y))
       ∙ ap (λ (curve : List ℕ). kept (periodPeak y xs) curve q) (curve-is y xs s h)
 
-pub to-the-quarter-hour : ToTheQuarterHour
+pub to-the-quarter-hour : ToTheQuarterHour ours
 unfolding sheetOf
 to-the-quarter-hour y level xs buffer z =
     let r = reads y level xs buffer z in
@@ -154,7 +141,5 @@ to-the-quarter-hour y level xs buffer z =
       year-is = ap (λ (x : SheetRead). x .sheet .year) r;
       level-is = ap (λ (x : SheetRead). x .sheet .level) r;
       windows-are = λ s q h l. ap (λ (x : SheetRead). isSet (x .sheet .windows) s q) r ∙ window-is y level xs buffer z s q h l;
-      rest-stays =
-          ap (drop sheetSize) (buffer-is y level xs buffer z ∙ fills (laid y level xs buffer z) buffer (accepts y level xs buffer z))
-          ∙ drop-at (sheetBytes (laid y level xs buffer z)) (drop sheetSize buffer) sheetSize (size (laid y level xs buffer z));
+      rest-stays = ap (drop sheetSize) (buffer-is y level xs buffer z) ∙ rest-stays (laid y level xs buffer z) buffer (accepts y level xs buffer z);
     }

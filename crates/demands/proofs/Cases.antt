@@ -1,4 +1,4 @@
--- The starred cases 1 to 12 of document 01: every case of the list holds, computed by the checker.
+-- The starred cases 1 to 12 of document 01: every case of the list holds, computed by the checker; case 10, for every peak, by the law of equal values.
 -- Assumes nothing.
 use mathlib.Core.Path.{refl}
 use Rattle.over.specs.Over.{joined, largestOver, sumOver, countOver, anyOver, table, inBase}
@@ -10,6 +10,7 @@ use Rattle.readings.specs.Legal.{highestOf}
 use Rattle.sheet.specs.Windows.{flatOf}
 use Rattle.sheet.specs.Bytes.{windowByte, bytesOf}
 use Rattle.windows.specs.Chosen.{aboveLine, comesBefore, rank, kept, keptOf, chosenOf, curveOf, curvesOf}
+use Rattle.windows.proofs.Equal.{first-forty}
 use Rattle.grid.specs.Answers.{sheetOf}
 use Rattle.tariff.specs.Prices.{rowOut, pricesOut}
 use Rattle.tariff.specs.Charges.{chargeFor, general, reduced, floorOf, charge}
@@ -18,4 +19,4 @@ use Rattle.demands.specs.Cases.{AllHold}
 
 pub all-hold : AllHold
 unfolding joined largestOver sumOver countOver anyOver table inBase shareOf levelOut leap leapDay daysTo weekdayOf listed christmas free candidate bridge highestOf flatOf windowByte bytesOf aboveLine comesBefore rank kept keptOf chosenOf curveOf curvesOf sheetOf rowOut pricesOut chargeFor general reduced floorOf charge eligibleRules chargeRules judgeRules judgeAnswer
-all-hold u = (refl, (refl, (refl, (refl, (refl, (refl, (refl, (refl, (refl, (refl, (refl, (refl, (refl, (refl, (refl, (refl, (refl, (refl, (refl, (refl, (refl, tt)))))))))))))))))))))
+all-hold u = (refl, (refl, (refl, (refl, (refl, (refl, (refl, (refl, (refl, (refl, (refl, (refl, (refl, (refl, (refl, (refl, (first-forty (u .peak) (u .positive), (refl, (refl, (refl, (refl, tt)))))))))))))))))))))

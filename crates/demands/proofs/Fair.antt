@@ -8,10 +8,11 @@ use Prim.Native.Nat.{ℕ}
 use native.Mathlib.Omega.{arith}
 use Rattle.over.specs.Limits.{Within}
 use Rattle.answers.specs.Ruling.{Level}
-use Rattle.answers.specs.Said.{Said}
+use Rattle.answers.specs.Said.{Said, only}
+use Rattle.readings.proofs.Runs.{year-run}
 use Rattle.sheet.specs.Bytes.{sheetIn}
 use Rattle.tariff.specs.Charges.{general, charge}
-use Rattle.tariff.specs.Answers.{withCharge, chargedOf}
+use Rattle.tariff.specs.Answers.{withCharge, payable, chargedOf}
 use Rattle.tariff.specs.declared.Prices.{Prices}
 use Rattle.tariff.specs.declared.Figures.{Figures}
 use Rattle.tariff.specs.Decision.{judgeAnswer}
@@ -22,28 +23,39 @@ use Rattle.tariff.proofs.Exactly.{judge-exactly}
 use Rattle.tariff.proofs.Demand.{pays-is}
 use Rattle.customer.specs.Rows.{CustomerOpenRow}
 use Rattle.customer.specs.Rows.CustomerOpenRow.{sheet, three, six, zero}
-use Rattle.customer.specs.Demand.{Basis, LegalYear, Given}
+use Rattle.customer.specs.declared.Terms.{Terms}
+use Rattle.customer.specs.Answers.{termsOf, judged}
+use Rattle.customer.specs.Demand.{Basis, basisYear, LegalYear}
 use Rattle.sheet.specs.Rows.{ReadRow}
 use Rattle.sheet.specs.Rows.ReadRow.{zero}
 use Rattle.customer.proofs.Exactly.{customer-open-exactly}
-use Rattle.customer.proofs.Demand.{given-one, same-answer, pays-no-more, stays-accepted, accepted-fair}
+use Rattle.customer.proofs.Whole.{days-whole}
+use Rattle.customer.proofs.Demand.{whole-one, same-answer, pays-no-more, stays-accepted, accepted-fair}
+use Rattle.demands.specs.Year.{opensFor, decideFor, figuresIn}
+use Rattle.demands.specs.Module.{ours}
 use Rattle.demands.specs.Refusals.{yearColumn}
-use Rattle.demands.specs.Year.{figuresIn}
-use Rattle.demands.specs.Fair.{FairCharge, Fairness}
-use Rattle.demands.proofs.Refusals.{carried, said-is}
+use Rattle.demands.specs.Fair.{Given, FairCharge, Fairness}
+use Rattle.demands.specs.Fair.Given.{whole, days}
+use Rattle.demands.proofs.Carried.{carried, said-is}
+
+abbrev terms : Basis → Terms
+terms k = termsOf (sheetIn (k .sheet)) (k .holidays) (k .prices) (k .option)
 
 -- a legal year's level and prices are legal
 legal-read : {b : List ℕ} → ReadRow b 0 → Level (sheetIn b .level)
 legal-read (zero f y l w) = l
 
-pub legal-basis : (k : Basis) (xs : List ℕ) → LegalYear k xs → Legal (sheetIn (k .sheet) .level) (k .prices)
-legal-basis k xs l = go (customer-open-exactly (k .sheet) (k .holidays) (k .prices) 0 .0 (ap (λ (s : Said). s .number) (l .opens))) refl
+pub legal-opening : (k : Basis) → opensFor k ≡ only 0 → Legal (sheetIn (k .sheet) .level) (k .prices)
+legal-opening k o = go (customer-open-exactly (k .sheet) (k .holidays) (k .prices) 0 .0 (ap (λ (s : Said). s .number) o)) refl
   where
     go : {n : ℕ} → CustomerOpenRow (k .sheet) (k .holidays) (k .prices) n → n ≡ 0 → Legal (sheetIn (k .sheet) .level) (k .prices)
     go (sheet r z) e = absurd (z e)
     go (three r h) e = absurd (omega arith)
     go (six r h p) e = absurd (omega arith)
     go (zero r h p) e = record { legal-level = legal-read r; legal-prices = p }
+
+pub legal-basis : (k : Basis) (xs : List ℕ) → LegalYear k xs → Legal (sheetIn (k .sheet) .level) (k .prices)
+legal-basis k xs l = legal-opening k (l .opens)
 
 -- under a legal level and legal prices figures are answered 0 or 8 to 11
 pub judged-numbers : (f : Figures) (level : ℕ) (p : Prices) (option : Bool) → Legal level p → (judgeAnswer f level p option .number ≡ 0) ⊎ Within 8 11 (judgeAnswer f level p option .number)
@@ -58,20 +70,32 @@ judged-numbers f level p option l = go (judge-exactly f level p option _ .0 refl
     go (eleven h s m r) = inr (record { from = omega arith; to = omega arith })
     go (zero h s m r) = inl refl
 
-fair : (k : Basis) (xs : List ℕ) (a : Said) → LegalYear k xs → Given k xs a → a .number ≡ 0 → FairCharge a
+-- whole or by days, a legal year has one answer
+pub given-one : (k : Basis) {xs : List ℕ} {a : Said} → LegalYear k xs → Given ours k xs a → a ≡ judged (terms k) (figuresIn k xs)
+given-one k l whole = whole-one k l
+given-one k l (days ds e full) =
+    days-whole (k .sheet) (k .holidays) (k .prices) (k .option) (l .opens) .taken ds (full ∙ sym (year-run (basisYear k)))
+    ∙ ap (decideFor k) e
+    ∙ whole-one k l
+
+fair : (k : Basis) (xs : List ℕ) (a : Said) → LegalYear k xs → Given ours k xs a → a .number ≡ 0 → FairCharge a
 fair k xs a l g z =
     let one = given-one k l g in
     let f = figuresIn k xs in
     let c = chargedOf f (general f (k .prices)) (charge f (k .prices) (k .option)) in
     let is : a ≡ withCharge c = one ∙ said-is _ (yearColumn f (k .prices) (k .option)) 0 (carried .judge f _ (k .prices) (k .option)) (sym (number-is one) ∙ z) in
-    record { charged = c; carried = is; fair = accepted-fair k c l (rw is at g) }
+    let fair = accepted-fair k xs c (sym is ∙ one) in
+    record { c = c .charge; g = c .peaks .plain .general; rest = _; carried = ap (λ (s : Said). s .carries) is; fifth = fair .floor; below = fair .reduction }
 
-pub fairness : Fairness
+pub fairness : Fairness ours
 fairness =
     record {
-      same-answer = λ k xs ys a b t. same-answer k (t .alike) (t .first) (t .second) (t .first-given) (t .second-given);
-      no-more = λ k xs ys a b t. pays-no-more k (t .alike) (t .first) (t .second) (t .first-given) (t .second-given);
-      stays-accepted = λ k xs ys a b t. stays-accepted k (t .alike) (t .first) (t .second) (t .first-given) (t .second-given);
+      same-answer = λ k xs ys a b t agree. given-one k (t .second) (t .second-given) ∙ same-answer k (t .alike) agree ∙ sym (given-one k (t .first) (t .first-given));
+      no-more = λ k xs ys a b t none.
+          omega (arith, ap payable (given-one k (t .first) (t .first-given)), ap payable (given-one k (t .second) (t .second-given)), pays-no-more k (t .alike) none);
+      stays-accepted = λ k xs ys a b t none z.
+          number-is (given-one k (t .second) (t .second-given))
+          ∙ stays-accepted k (t .alike) none (sym (number-is (given-one k (t .first) (t .first-given))) ∙ z);
       answered = λ k xs a l g. rw (given-one k l g) (judged-numbers (figuresIn k xs) _ _ _ (legal-basis k xs l));
       pays = λ k xs a l g. rw (given-one k l g) (pays-is _ _ _ (legal-basis k xs l) (figuresIn k xs));
       accepted-fair = fair;

@@ -12,7 +12,7 @@ use Rattle.readings.specs.declared.Run.{Run}
 use Rattle.readings.specs.Runs.{runDays, dayLen, dayStart, runReadings, reading}
 use Rattle.readings.specs.Legal.{dayPeak, peakOf}
 use Rattle.readings.proofs.Runs.{len-some, start-none, start-below, run-held}
-use Rattle.readings.proofs.Days.{reading-le}
+use Rattle.readings.proofs.Legal.{reading-le}
 
 -- zeros alone
 pub zeros : (n k : ℕ) → _≡_ {A = ℕ} (getD (replicate n 0) k 0) 0

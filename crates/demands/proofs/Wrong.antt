@@ -1,19 +1,25 @@
--- What document 01 names as shut out is shut out: an input for each wrong module on which it differs from the definition.
+-- What document 01 names as shut out is shut out: for each wrong module an input on which it breaks a demand.
 -- Assumes nothing.
+use native.Mathlib.Omega.{arith}
+use Rattle.answers.specs.Ruling.{Level}
 use Rattle.demands.specs.Wrong.{ShutOut}
-use Rattle.demands.proofs.WrongWindows.{doing-nothing, refusing-series, one-sheet}
-use Rattle.demands.proofs.WrongYears.{refusing-years, one-charge, made-up-sum}
-use Rattle.demands.proofs.FirstDay.{first-day-grid, first-day-customer}
+use Rattle.demands.proofs.WrongWindows.{one-sheet}
+use Rattle.demands.proofs.WrongYears.{one-charge, made-up-sum}
+use Rattle.demands.proofs.WrongDays.{wrong-grid-days, wrong-customer-days, day-twice}
+use Rattle.demands.proofs.Refusing.{refusing-always, doing-nothing}
+
+middle : Level 5
+middle = record { from = omega arith; to = omega arith }
 
 pub shut-out : ShutOut
 shut-out =
     record {
+      refusing-always = refusing-always;
       doing-nothing = doing-nothing;
-      refusing-series = refusing-series;
-      refusing-years = refusing-years;
-      one-sheet = λ call windows meets fixed. one-sheet call meets windows fixed;
-      one-charge = λ call c meets fixed. one-charge call meets c fixed;
+      one-sheet = λ m d o. one-sheet m d 5 middle o;
+      one-charge = one-charge;
       made-up-sum = made-up-sum;
-      first-day-grid = first-day-grid;
-      first-day-customer = first-day-customer;
+      wrong-grid-days = λ m y level d o wrong. wrong-grid-days m d y level o wrong;
+      wrong-customer-days = λ m k d o wrong. wrong-customer-days m d k o wrong;
+      day-twice = day-twice;
     }

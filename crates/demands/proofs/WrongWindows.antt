@@ -1,5 +1,5 @@
--- Calls for windows that do nothing, always refuse or lay one fixed sheet do not meet document 01's definition: two series of 2025 on which they say
--- something else.
+-- Windows of two series of 2025, at every level: what a module that meets the demands answers to them, and that it neither leaves the buffer nor lays one
+-- fixed sheet.
 -- Assumes nothing.
 use mathlib.Core.Path.{_≡_, refl, sym, ap, _∙_}
 use mathlib.Core.Bool.{Bool, true, false, _&&_, and-false}
@@ -11,60 +11,48 @@ use borrow.Author.Tests.{lt-ltb, le-ltb, eq-eqb, ne-eqb}
 use lib.Dec.{eqb}
 use lib.ListN.{length, getD, take, replicate, length-replicate}
 use Rattle.over.specs.Limits.{Within}
-use Rattle.over.specs.Over.{joined, sumOver, countOver, anyOver, largestOver, counted}
+use Rattle.over.specs.Over.{joined, sumOver, countOver, largestOver, counted}
 use Rattle.over.proofs.Bools.{clash, pair}
 use Rattle.over.proofs.Largest.{largest-le}
 use Rattle.over.proofs.Tables.{getD-table}
 use Rattle.over.proofs.Tests.{count-fails}
-use Rattle.answers.specs.Ruling.{dayQuarters, lineParts, peakParts, windowsMost}
-use Rattle.answers.specs.Said.{only}
+use Rattle.answers.specs.Ruling.{Level, gridMost, dayQuarters, lineParts, peakParts, windowsMost}
 use Rattle.dates.specs.Dates.{leap, leapDay, daysTo, monthOf, seasonOf}
 use Rattle.periods.specs.Period.{periodDays, periodDate, periodSeason}
 use Rattle.readings.specs.Runs.{runDays, dayLen, quarterOf, runReadings, reading}
+use Rattle.readings.specs.Illegal.{AllLegalIn}
 use Rattle.readings.proofs.Runs.{len-some, quarter-is, period-run}
+use Rattle.readings.proofs.Illegal.{all-legal-in}
 use Rattle.sheet.specs.Windows.{seasons, isSet}
-use Rattle.packed.specs.Bytes.{unlike}
 use Rattle.sheet.specs.Bytes.{sheetSize}
-use Rattle.sheet.specs.Answers.{readAnswer, readSheet}
 use Rattle.windows.specs.Chosen.{aboveLine, comesBefore, rank, kept}
 use Rattle.grid_curves.specs.Curves.{periodRun, inSeason, topOf, curveAt}
-use Rattle.grid.specs.Answers.{windowsAnswer, windowsBuffer}
 use Rattle.grid.specs.Rows.{periodPeak}
 use Rattle.grid.specs.Rows.WindowsRow.{zero}
 use Rattle.grid_curves.proofs.Curves.{curve-le, in-curve}
-use Rattle.grid.proofs.Exactly.{windows-exactly}
 use Rattle.tariff.proofs.Answered.{number-is}
 use Rattle.demands.specs.Answers.{curveIn, SheetLaid}
-use Rattle.demands.specs.Wrong.{Laid, WindowsCall, MeetsWindows, DoesNothing, RefusesSeries, OneSheet}
+use Rattle.demands.specs.Module.{Module}
+use Rattle.demands.specs.Demands.{Demands}
+use Rattle.demands.specs.Wrong.{OneSheet}
 use Rattle.demands.proofs.Series.{everywhere, everywhere-long, everywhere-at, everywhere-peak, atStart, start-later, start-long, start-peak}
-use Rattle.demands.proofs.Answers.{to-the-quarter-hour}
 
 -- the reference period of 2025, and a buffer of 56 zeros
 pub days-2025 : periodDays 2025 ≡ 366
 unfolding periodDays daysTo leapDay leap sumOver joined
 days-2025 = refl
 
-some-2025 : 0 < runDays (periodRun 2025)
+pub some-2025 : 0 < runDays (periodRun 2025)
 some-2025 = omega (arith, period-run 2025, days-2025)
 
 abbrev pub blankBuffer : List ℕ
 blankBuffer = replicate sheetSize 0
 
--- a complete series of 2025 with a peak of 1 is accepted at every level
-module _ (xs : List ℕ) (long : length xs ≡ runReadings (periodRun 2025)) (peak : periodPeak 2025 xs ≡ 1) where
-  accepted : windowsAnswer 2025 5 xs (length blankBuffer) .number ≡ 0
-  accepted =
-      windows-exactly 2025 5 xs blankBuffer 0 .1
-      (zero (record { enough = omega (arith, length-replicate {A = ℕ} sheetSize 0); legal-year = record { from = omega arith; to = omega arith }; legal-level = record { from = omega arith; to = omega arith }; long = long }) (omega arith) (omega arith))
-
-  laid : SheetLaid 2025 5 xs blankBuffer
-  laid = to-the-quarter-hour 2025 5 xs blankBuffer accepted
-
 -- the same reading everywhere, and one reading at the very start, 1 September
-abbrev same : List ℕ
+abbrev pub same : List ℕ
 same = everywhere (periodRun 2025) 1
 
-same-peak : periodPeak 2025 same ≡ 1
+pub same-peak : periodPeak 2025 same ≡ 1
 same-peak = rw (← period-run 2025) (everywhere-peak (periodRun 2025) 1 some-2025)
 
 abbrev first : List ℕ
@@ -72,17 +60,6 @@ first = atStart (periodRun 2025) 1
 
 first-peak : periodPeak 2025 first ≡ 1
 first-peak = rw (← period-run 2025) (start-peak (periodRun 2025) 1 some-2025)
-
-same-laid : SheetLaid 2025 5 same blankBuffer
-same-laid = laid same (everywhere-long (periodRun 2025) 1) same-peak
-
-first-laid : SheetLaid 2025 5 first blankBuffer
-first-laid = laid first (start-long (periodRun 2025) 1 some-2025) first-peak
-
--- 56 zeros are no sheet
-blank-read : readAnswer blankBuffer ≡ only 12
-unfolding readAnswer unlike anyOver joined
-blank-read = refl
 
 -- quarter 0 is kept where it has the peak, and a quarter with curve value 0 never is
 kept-top : (peak : ℕ) (curve : List ℕ) → 0 < peak → getD curve 0 0 ≡ peak → ((p : ℕ) → p < dayQuarters → getD curve p 0 ≤ peak) → kept peak curve 0 ≡ true
@@ -149,34 +126,44 @@ first-zero = largest-le _ (periodDays 2025) 0 (λ d l. go d (decLt 0 d))
 first-kept : kept (periodPeak 2025 first) (summerCurve first) 0 ≡ false
 first-kept = kept-none (periodPeak 2025 first) (summerCurve first) 0 (omega (arith, value-is first 0 (omega arith), first-zero))
 
--- a call that meets the definition
-module _ (call : WindowsCall) (meets : MeetsWindows call) where
-  answer-is : (xs : List ℕ) → call 2025 5 xs blankBuffer .answer ≡ windowsAnswer 2025 5 xs (length blankBuffer)
-  answer-is xs = ap (λ (l : Laid). l .answer) (meets 2025 5 xs blankBuffer)
+-- any module that meets the demands
+module _ (m : Module) (d : Demands m) (level : ℕ) (l : Level level) where
+  -- it accepts a complete series of 2025 with a peak of 1
+  module _ (xs : List ℕ) (long : length xs ≡ runReadings (periodRun 2025)) (peak : periodPeak 2025 xs ≡ 1) where
+    low : AllLegalIn (periodRun 2025) gridMost xs
+    low = all-legal-in (periodRun 2025) gridMost xs .0 (rw (period-run 2025) (omega (arith, peak)))
 
-  buffer-is : (xs : List ℕ) → call 2025 5 xs blankBuffer .buffer ≡ windowsBuffer 2025 5 xs blankBuffer
-  buffer-is xs = ap (λ (l : Laid). l .buffer) (meets 2025 5 xs blankBuffer)
+    accepted : m .windows 2025 level xs (length blankBuffer) .number ≡ 0
+    accepted =
+        d .exactly-when .windows 2025 level xs blankBuffer 0 .1
+        (zero (record { enough = omega (arith, length-replicate {A = ℕ} sheetSize 0); legal-year = record { from = omega arith; to = omega arith }; legal-level = l; long = long }) low (omega (arith, peak)))
 
-  pub doing-nothing : DoesNothing call → ⊥
-  doing-nothing idle =
-      let stays : windowsBuffer 2025 5 same blankBuffer ≡ blankBuffer = sym (buffer-is same) ∙ idle 2025 5 same blankBuffer in
-      let read : only 12 ≡ only 0 = sym blank-read ∙ ap (λ (b : List ℕ). readAnswer (take sheetSize b)) (sym stays) ∙ same-laid .accepted in
-      omega (arith, number-is read)
+    laid : SheetLaid m 2025 level xs blankBuffer
+    laid = d .to-the-quarter-hour 2025 level xs blankBuffer accepted
 
-  pub refusing-series : RefusesSeries call → ⊥
-  refusing-series refuses =
-      refuses 2025 5 same blankBuffer (number-is (answer-is same) ∙ accepted same (everywhere-long (periodRun 2025) 1) same-peak)
+  pub same-accepted : m .windows 2025 level same (length blankBuffer) .number ≡ 0
+  same-accepted = accepted same (everywhere-long (periodRun 2025) 1) same-peak
+
+  pub same-laid : SheetLaid m 2025 level same blankBuffer
+  same-laid = laid same (everywhere-long (periodRun 2025) 1) same-peak
+
+  first-accepted : m .windows 2025 level first (length blankBuffer) .number ≡ 0
+  first-accepted = accepted first (start-long (periodRun 2025) 1 some-2025) first-peak
+
+  first-laid : SheetLaid m 2025 level first blankBuffer
+  first-laid = laid first (start-long (periodRun 2025) 1 some-2025) first-peak
+
+  -- the buffer of zeros does not stay: "H" stands at its start
+  pub not-blank : m .windowsLaid 2025 level same blankBuffer ≡ blankBuffer → ⊥
+  not-blank stays =
+      let marked = d .sheets .read-so (take sheetSize (m .windowsLaid 2025 level same blankBuffer)) (number-is (same-laid .accepted)) .h in
+      omega (arith, marked, ap (λ (b : List ℕ). getD (take sheetSize b) 0 0) stays)
 
   -- quarter 0 of summer is a window of the one series and not of the other
-  pub one-sheet : (windows : List Bool) → OneSheet call windows → ⊥
-  one-sheet windows fixed =
-      let a = fixed 2025 5 same blankBuffer (number-is (answer-is same) ∙ accepted same (everywhere-long (periodRun 2025) 1) same-peak) in
-      let b = fixed 2025 5 first blankBuffer (number-is (answer-is first) ∙ accepted first (start-long (periodRun 2025) 1 some-2025) first-peak) in
+  pub one-sheet : OneSheet m → ⊥
+  one-sheet o =
       let summer : Within 1 seasons 3 = record { from = omega arith; to = omega arith } in
-      let set : isSet windows 3 0 ≡ true = sym (shown same windows a) ∙ same-laid .windows-are 3 0 summer (omega arith) ∙ same-kept in
-      let clear : isSet windows 3 0 ≡ false = sym (shown first windows b) ∙ first-laid .windows-are 3 0 summer (omega arith) ∙ first-kept in
+      let shown : List Bool → Bool = λ w. isSet w 3 0 in
+      let set : isSet (o .windows) 3 0 ≡ true = ap shown (sym (o .fixed 2025 level same blankBuffer same-accepted)) ∙ same-laid .windows-are 3 0 summer (omega arith) ∙ same-kept in
+      let clear : isSet (o .windows) 3 0 ≡ false = ap shown (sym (o .fixed 2025 level first blankBuffer first-accepted)) ∙ first-laid .windows-are 3 0 summer (omega arith) ∙ first-kept in
       clash set clear
-    where
-      shown : (xs : List ℕ) (windows : List Bool) → readSheet (take sheetSize (call 2025 5 xs blankBuffer .buffer)) .windows ≡ windows → isSet (readSheet (take sheetSize (windowsBuffer 2025 5 xs blankBuffer)) .windows) 3 0 ≡ isSet windows 3 0
-      shown xs windows e =
-          ap (λ (b : List ℕ). isSet (readSheet (take sheetSize b) .windows) 3 0) (sym (buffer-is xs)) ∙ ap (λ (w : List Bool). isSet w 3 0) e

@@ -1,37 +1,34 @@
 -- Decisions that always refuse, give one fixed charge or a made-up S do not meet document 01's definition: a year that is accepted at every capacity
 -- price.
 -- Assumes nothing.
-use mathlib.Core.Path.{_≡_, refl, sym, ap, _∙_}
-use mathlib.Core.Bool.{Bool, true, false, cond}
+use mathlib.Core.Path.{_≡_, refl, sym, _∙_}
+use mathlib.Core.Bool.{Bool, true, false}
 use mathlib.Core.List.{List, []}
 use Prim.Native.Nat.{ℕ, _+_, _*_, _≤_, _<_}
 use native.Mathlib.Decide.{decLt}
 use native.Mathlib.Omega.{arith}
-use lib.Dec.{eqb}
 use lib.ListN.{getD}
 use Rattle.over.specs.Over.{joined, sumOver, countOver, anyOver, table, inBase}
 use Rattle.over.proofs.Bools.{clash, both, pair}
 use Rattle.over.proofs.Tests.{any-at}
 use Rattle.over.proofs.Tables.{getD-table}
 use Rattle.answers.specs.Ruling.{capacityMost, customerMost, yearOut, levelOut, shareOf}
-use Rattle.answers.specs.Said.{Said, only}
+use Rattle.answers.specs.Said.{only}
 use Rattle.dates.specs.Dates.{leap, leapDay, daysTo, monthOf, seasonOf, weekdayOf, mostDays}
 use Rattle.holidays.specs.Holidays.{listed, badHolidays}
 use Rattle.calendar.specs.Free.{christmas, free, candidate, bridge, kindBy, carries, windowDays}
 use Rattle.readings.specs.Runs.{runDays, dayLen, quarterOf}
 use Rattle.readings.proofs.Runs.{len-is, year-run}
-use Rattle.readings.proofs.Days.{series-legal}
+use Rattle.readings.proofs.Illegal.{all-legal-in}
 use Rattle.sheet.specs.Windows.{isSet, setIn, tooFull}
 use Rattle.packed.specs.Bytes.{twoAt, unlike}
 use Rattle.sheet.specs.Bytes.{windowsIn, sheetIn}
 use Rattle.sheet.specs.Answers.{readAnswer}
 use Rattle.tariff.specs.declared.Prices.{Prices}
-use Rattle.tariff.specs.declared.Figures.{Figures}
-use Rattle.tariff.specs.Decision.{judgeAnswer}
 use Rattle.tariff.specs.Charges.{rowOf, chargeFor, general, reduced, floorOf, charge}
 use Rattle.tariff.specs.Answers.{payable}
-use Rattle.tariff.specs.Rows.{Legal, JudgeRow}
-use Rattle.tariff.specs.Rows.JudgeRow.{two, six, eight, nine, ten, eleven, zero}
+use Rattle.tariff.specs.Rows.{JudgeRow}
+use Rattle.tariff.specs.Rows.JudgeRow.{zero}
 use Rattle.tariff.proofs.Answered.{number-is}
 use Rattle.tariff.proofs.Exactly.{judge-exactly}
 use Rattle.tariff.proofs.Limits.{prices-legal}
@@ -40,24 +37,27 @@ use Rattle.customer.specs.declared.Terms.{Terms}
 use Rattle.customer.specs.Counts.{counts}
 use Rattle.customer.specs.Answers.{termsOf, openAnswer}
 use Rattle.customer.specs.Demand.{Basis, basisRun, basisDays, LegalYear}
-use Rattle.customer.specs.Demand.Given.{whole}
-use Rattle.customer.proofs.Demand.{given-one}
 use Rattle.customer.proofs.Answered.{open-done}
-use Rattle.figures.specs.Figures.{sumOf, anyOn, figuresOf, FirstPlace}
+use Rattle.figures.specs.Figures.{anyOn, figuresOf, FirstPlace}
 use Rattle.figures.proofs.Peak.{first-place}
 use Rattle.demands.specs.Cases.{priced, exampleSheet}
 use Rattle.demands.specs.Year.{decideFor, figuresIn}
-use Rattle.demands.specs.Refusals.{yearColumn}
-use Rattle.demands.specs.Wrong.{DecisionCall, MeetsDecision, RefusesYears, OneCharge, sumSaid, MadeUpSum}
-use Rattle.demands.proofs.Refusals.{carried, said-is}
-use Rattle.demands.proofs.Fair.{legal-basis, fairness}
+use Rattle.demands.specs.Module.{Module}
+use Rattle.demands.specs.Refusals.{bare}
+use Rattle.demands.specs.Fair.Given.{whole}
+use Rattle.demands.specs.Demands.{Demands}
+use Rattle.demands.specs.Wrong.{OneCharge, MadeUpSum}
+use Rattle.demands.proofs.Carried.{said-is}
+use Rattle.demands.proofs.Fair.{legal-basis, given-one}
+use Rattle.demands.proofs.Answers.{exactly-when}
+use Rattle.demands.proofs.Same.{sum-said}
 use Rattle.demands.proofs.Series.{atStart, start-later, start-long, start-peak}
 
 -- the printed example's sheet
 pub example : List ℕ
 example = exampleSheet
 
-example-read : readAnswer example ≡ only 0
+pub example-read : readAnswer example ≡ only 0
 unfolding example readAnswer unlike twoAt yearOut levelOut tooFull setIn windowsIn table inBase anyOver countOver sumOver joined
 example-read = refl
 
@@ -105,18 +105,22 @@ module _ (price : ℕ) (least : 100 ≤ price) (most : price ≤ capacityMost) w
       sym (open-done example [] (capacityOnly price) (sym example-read) no-holidays
       (prices-legal (capacityOnly price) .1 (record { low = record { capacity = most; energy = omega arith }; high = record { capacity = most; energy = omega arith } })))
 
-  some-days : 0 < runDays (basisRun k)
+  pub some-days : 0 < runDays (basisRun k)
   some-days = omega (arith, year-run (sheetIn example .year))
 
   -- one reading of 1,000 kW, on 1 January
-  abbrev xs : List ℕ
+  abbrev pub xs : List ℕ
   xs = atStart (basisRun k) 1000000
 
   pub legal : LegalYear k xs
   legal =
       record {
         opens = opens;
-        series = sym (series-legal (basisRun k) customerMost xs (start-long (basisRun k) 1000000 some-days) (omega (arith, start-peak (basisRun k) 1000000 some-days)));
+        series =
+            record {
+              long = start-long (basisRun k) 1000000 some-days;
+              legal = all-legal-in (basisRun k) customerMost xs .0 (omega (arith, start-peak (basisRun k) 1000000 some-days));
+            };
       }
 
   -- a day that carries windows, by the table
@@ -164,54 +168,34 @@ module _ (price : ℕ) (least : 100 ≤ price) (most : price ≤ capacityMost) w
   unfolding charge reduced floorOf chargeFor
   charge-is = rw (general-is, row-is _, high-is) (omega arith)
 
-  row : JudgeRow (figuresIn k xs) (sheetIn example .level) (capacityOnly price) false 0
+  pub row : JudgeRow (figuresIn k xs) (sheetIn example .level) (capacityOnly price) false 0
   row =
       zero (legal-basis k xs legal) (record { some = any-there; share = rw (example-share, peak-is, high-is) (omega arith) }) (omega (arith, peak-is, high-is)) (omega (arith, general-is, charge-is))
 
-  accepted : decideFor k xs .number ≡ 0
-  accepted = number-is (given-one k legal whole) ∙ judge-exactly (figuresIn k xs) _ (capacityOnly price) false 0 .1 row
+  ours-accepted : decideFor k xs .number ≡ 0
+  ours-accepted = number-is (given-one k legal whole) ∙ judge-exactly (figuresIn k xs) _ (capacityOnly price) false 0 .1 row
 
-  pays : payable (decideFor k xs) ≡ 200 * price
-  pays = fairness .pays k xs (decideFor k xs) legal whole ∙ rw accepted charge-is
+  -- what a module that meets the demands answers
+  module _ (m : Module) (d : Demands m) where
+    pub opened : m .customerOpen k ≡ only 0
+    opened =
+        said-is (m .customerOpen k) (bare []) 0 (d .carried .customer-open k)
+        (d .exactly-when .customer-open k 0 .1 (exactly-when .customer-open k 0 .0 (number-is opens)))
 
--- the decision over figures carries their sum and their peak, whatever it answers
-abbrev pub peakSaid : Said → ℕ
-peakSaid a = getD (a .carries) (cond (eqb (a .number) 0) 2 1) 0
+    pub accepted : m .decide k xs .number ≡ 0
+    accepted = d .exactly-when .decide k xs 0 .1 (exactly-when .decide k xs 0 .0 ours-accepted)
 
-module _ (f : Figures) (level : ℕ) (p : Prices) (option : Bool) (l : Legal level p) where
-  shows : {n : ℕ} → JudgeRow f level p option n → (show : Said → ℕ) → show (judgeAnswer f level p option) ≡ show (record { number = n; carries = yearColumn f p option n })
-  shows {n} r show =
-      ap show (said-is (judgeAnswer f level p option) (yearColumn f p option) n (carried .judge f level p option) (judge-exactly f level p option n .1 r))
+    pub pays : payable (m .decide k xs) ≡ 200 * price
+    pays = d .fairness .pays k xs (m .decide k xs) legal whole ∙ rw accepted charge-is
 
-  pub figures-said : (sumSaid (judgeAnswer f level p option) ≡ f .sum) × (peakSaid (judgeAnswer f level p option) ≡ f .peak)
-  figures-said = go (judge-exactly f level p option _ .0 refl)
+-- any module that meets the demands
+module _ (m : Module) (d : Demands m) where
+  pub one-charge : OneCharge m → ⊥
+  one-charge o = omega (arith, at 100 (omega arith) (omega arith), at 200 (omega arith) (omega arith))
     where
-      go : {n : ℕ} → JudgeRow f level p option n → (sumSaid (judgeAnswer f level p option) ≡ f .sum) × (peakSaid (judgeAnswer f level p option) ≡ f .peak)
-      go (two a) = absurd (a (l .legal-level))
-      go (six a b) = absurd (b (l .legal-prices))
-      go (eight h n) = (shows (eight h n) sumSaid, shows (eight h n) peakSaid)
-      go (nine h n s) = (shows (nine h n s) sumSaid, shows (nine h n s) peakSaid)
-      go (ten h s m) = (shows (ten h s m) sumSaid, shows (ten h s m) peakSaid)
-      go (eleven h s m r) = (shows (eleven h s m r) sumSaid, shows (eleven h s m r) peakSaid)
-      go (zero h s m r) = (shows (zero h s m r) sumSaid, shows (zero h s m r) peakSaid)
+      at : (price : ℕ) → 100 ≤ price → price ≤ capacityMost → 200 * price ≡ o .charge
+      at price least most = sym (pays price least most m d) ∙ o .fixed (basis price) (xs price least most) (accepted price least most m d)
 
-sum-said : (k : Basis) (xs : List ℕ) → LegalYear k xs → sumSaid (decideFor k xs) ≡ sumOf (basisRun k) xs (basisDays k)
-unfolding figuresOf
-sum-said k xs l = ap sumSaid (given-one k l whole) ∙ figures-said (figuresIn k xs) _ _ _ (legal-basis k xs l) .0
-
--- a call that meets the definition
-module _ (call : DecisionCall) (meets : MeetsDecision call) where
-  pub refusing-years : RefusesYears call → ⊥
-  refusing-years refuses =
-      refuses (basis 100) (xs 100 (omega arith) (omega arith)) (number-is (meets _ _) ∙ accepted 100 (omega arith) (omega arith))
-
-  pub one-charge : (c : ℕ) → OneCharge call c → ⊥
-  one-charge c fixed = omega (arith, at 100 (omega arith) (omega arith), at 200 (omega arith) (omega arith))
-    where
-      at : (price : ℕ) → 100 ≤ price → price ≤ capacityMost → 200 * price ≡ c
-      at price least most =
-          sym (pays price least most) ∙ ap payable (sym (meets _ _))
-          ∙ fixed (basis price) (xs price least most) (number-is (meets _ _) ∙ accepted price least most)
-
-  pub made-up-sum : MadeUpSum call → ⊥
-  made-up-sum m = m .made-up (ap sumSaid (meets _ _) ∙ sum-said (m .basis) (m .series) (m .legal))
+  pub made-up-sum : MadeUpSum m → ⊥
+  unfolding figuresOf
+  made-up-sum u = u .made-up (sum-said m d (u .basis) (u .series) (u .legal))

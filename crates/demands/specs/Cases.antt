@@ -3,7 +3,7 @@
 use mathlib.Core.Path.{_≡_}
 use mathlib.Core.Bool.{Bool, true, false}
 use mathlib.Core.List.{List, [], _∷_, _++_}
-use Prim.Native.Nat.{ℕ}
+use Prim.Native.Nat.{ℕ, _<_}
 use lib.ListN.{replicate}
 use Rattle.answers.specs.Ruling.{dayQuarters}
 use Rattle.answers.specs.Said.{Said}
@@ -71,12 +71,14 @@ abbrev pub exampleSheet : List ℕ
 exampleSheet = (0x48 ∷ 0x4c ∷ 0x5a ∷ 0x00 ∷ 0x01 ∷ 0x07 ∷ 0xe9 ∷ 0x05 ∷ []) ++ (replicate 9 0x00 ++ (0x80 ∷ replicate 38 0x00))
 
 -- what the cases leave open, so that they hold whatever it is: where H first occurs; the option, where hours of use are 2,500 and more; H
--- in case 4
+-- in case 4; the peak in case 10, which is not zero
 pub record Unsaid : Type 0 where
   pub day : ℕ
   pub quarter : ℕ
   pub option : Bool
   pub high : ℕ
+  pub peak : ℕ
+  pub positive : 0 < peak
 
 module _ (u : Unsaid) where
   -- a year with M, H and S
@@ -118,7 +120,7 @@ module _ (u : Unsaid) where
       ∷ test (aboveLine 2000 1900) false
       ∷ test (aboveLine 2000 1901) true
       -- 10. All 96 curve values equal the peak: quarters 0 to 39.
-      ∷ quarters (keptOf 2000 (replicate dayQuarters 2000)) (replicate 40 true ++ replicate 56 false)
+      ∷ quarters (keptOf (u .peak) (replicate dayQuarters (u .peak))) (replicate 40 true ++ replicate 56 false)
       -- 11. 2 March 2024 is a Saturday; 1 May 2025 a Thursday, so with it listed 2 May is a bridge day.
       ∷ number (weekdayOf 2024 (dayOf 2024 3 2)) saturday
       ∷ number (weekdayOf 2025 (dayOf 2025 5 1)) thursday

@@ -1,6 +1,10 @@
 pub mod Year
+pub mod Module
 pub mod Refusals
+pub mod Calendar
 pub mod Answers
+pub mod Sheets
 pub mod Fair
+pub mod Demands
 pub mod Wrong
 pub mod Cases

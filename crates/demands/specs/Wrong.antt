@@ -1,96 +1,127 @@
 -- Document 01, How far a contract goes: "Refusing always, or answering one fixed sheet or charge, is shut out by demand 2, since each number is given
 -- exactly when its row says. So is doing nothing. A day-by-day machine that works on the first day and then only moves its day number is shut out by
--- equality with the whole series. A made-up S is shut out by demand 2 too, since S is the sum." What is wrong is said of any call in the place of ours;
--- `ShutOut` says that no such call meets document 01's definition.
+-- equality with the whole series. A made-up S is shut out by demand 2 too, since S is the sum." What is wrong is said of any module; `ShutOut` says that
+-- no module is so that meets the demands.
 use mathlib.Core.Path.{_≡_}
 use mathlib.Core.Bool.{Bool, cond}
 use mathlib.Core.List.{List}
-use Prim.Native.Nat.{ℕ, _+_}
+use Prim.Native.Nat.{ℕ, _+_, _-_, _*_}
 use lib.Dec.{eqb}
-use lib.ListN.{length, getD, take}
-use Rattle.answers.specs.Said.{Said, after}
-use Rattle.sheet.specs.Bytes.{sheetSize}
-use Rattle.sheet.specs.Answers.{readSheet}
+use lib.ListN.{length, getD}
+use Rattle.over.specs.Over.{sumOver}
+use Rattle.answers.specs.Ruling.{gridMost, customerMost}
+use Rattle.answers.specs.Said.{Said, only}
+use Rattle.readings.specs.declared.Run.{Run}
+use Rattle.readings.specs.Runs.{runDays}
+use Rattle.readings.specs.Illegal.{LegalSeries}
+use Rattle.readings.specs.Part.{dayPart}
+use Rattle.readings.specs.Days.{offered, daysOf}
+use Rattle.sheet.specs.declared.Sheet.{Sheet}
 use Rattle.grid.specs.declared.Grid.{Grid}
-use Rattle.grid.specs.Answers.{windowsAnswer, windowsBuffer, dayAnswer as gridDay, dayGrid}
+use Rattle.grid_curves.specs.Curves.{periodRun}
+use Rattle.tariff.specs.declared.Prices.{Prices}
+use Rattle.tariff.specs.declared.Figures.{Figures}
 use Rattle.tariff.specs.Answers.{payable}
 use Rattle.figures.specs.Figures.{sumOf}
 use Rattle.customer.specs.declared.Customer.{Customer}
-use Rattle.customer.specs.Answers.{dayAnswer as customerDay, dayCustomer}
 use Rattle.customer.specs.Demand.{Basis, basisRun, basisDays, LegalYear}
-use Rattle.demands.specs.Year.{decideFor}
-use Rattle.demands.specs.Refusals.{Refused}
-use Rattle.demands.specs.Answers.{GridAsWhole, CustomerAsWhole}
+use Rattle.demands.specs.Module.{Module, Refused}
+use Rattle.demands.specs.Answers.{sheetShown}
+use Rattle.demands.specs.Demands.{Demands}
 
--- a call for windows: year, level, series and lent buffer go in, an answer and the buffer come out; and a decision over a customer's year
-pub record Laid : Type 0 where
-  pub answer : Said
-  pub buffer : List ℕ
+-- "Refusing always", by whatever numbers: one of the calls
+pub data RefusesAlways (m : Module) : Type 0 where
+  calendar : ((y : ℕ) (hs : List ℕ) (d : ℕ) → Refused (m .calendar y hs d)) → RefusesAlways m
+  read : ((b : List ℕ) → Refused (m .read b)) → RefusesAlways m
+  write : ((s : Sheet) (buffer : List ℕ) → Refused (m .write s (length buffer))) → RefusesAlways m
+  windows : ((y level : ℕ) (xs buffer : List ℕ) → Refused (m .windows y level xs (length buffer))) → RefusesAlways m
+  grid-open : ((y level : ℕ) → Refused (m .gridOpen y level)) → RefusesAlways m
+  grid-day : ((g : Grid) (day : List ℕ) → Refused (m .gridDay g day)) → RefusesAlways m
+  grid-close : ((g : Grid) (buffer : List ℕ) → Refused (m .gridClose g (length buffer))) → RefusesAlways m
+  eligible : ((f : Figures) (level : ℕ) (p : Prices) → Refused (m .eligible f level p)) → RefusesAlways m
+  charge : ((f : Figures) (p : Prices) (option : Bool) → Refused (m .charge f p option)) → RefusesAlways m
+  judge : ((f : Figures) (level : ℕ) (p : Prices) (option : Bool) → Refused (m .judge f level p option)) → RefusesAlways m
+  decide : ((k : Basis) (xs : List ℕ) → Refused (m .decide k xs)) → RefusesAlways m
+  customer-open : ((k : Basis) → Refused (m .customerOpen k)) → RefusesAlways m
+  customer-day : ((c : Customer) (day : List ℕ) → Refused (m .customerDay c day)) → RefusesAlways m
+  customer-close : ((c : Customer) → Refused (m .customerClose c)) → RefusesAlways m
 
-abbrev pub WindowsCall : Type 0
-WindowsCall = ℕ → ℕ → List ℕ → List ℕ → Laid
-
-abbrev pub DecisionCall : Type 0
-DecisionCall = Basis → List ℕ → Said
-
--- it meets document 01's definition: the same for every input
-abbrev pub MeetsWindows : WindowsCall → Type 0
-MeetsWindows call =
-    (y level : ℕ) (xs buffer : List ℕ)
-    → call y level xs buffer ≡ record { answer = windowsAnswer y level xs (length buffer); buffer = windowsBuffer y level xs buffer }
-
-abbrev pub MeetsDecision : DecisionCall → Type 0
-MeetsDecision call = (k : Basis) (xs : List ℕ) → call k xs ≡ decideFor k xs
-
--- "doing nothing": every buffer stays as it was
-abbrev pub DoesNothing : WindowsCall → Type 0
-DoesNothing call = (y level : ℕ) (xs buffer : List ℕ) → call y level xs buffer .buffer ≡ buffer
-
--- "Refusing always", by whatever numbers
-abbrev pub RefusesSeries : WindowsCall → Type 0
-RefusesSeries call = (y level : ℕ) (xs buffer : List ℕ) → Refused (call y level xs buffer .answer)
-
-abbrev pub RefusesYears : DecisionCall → Type 0
-RefusesYears call = (k : Basis) (xs : List ℕ) → Refused (call k xs)
+-- "doing nothing": a call that leaves the buffer or the state as it was, and an opening that hands back the same state whatever it opens
+pub data DoesNothing (m : Module) : Type 0 where
+  write : ((s : Sheet) (buffer : List ℕ) → m .written s buffer ≡ buffer) → DoesNothing m
+  windows : ((y level : ℕ) (xs buffer : List ℕ) → m .windowsLaid y level xs buffer ≡ buffer) → DoesNothing m
+  grid-open : (g : Grid) → ((y level : ℕ) → m .gridOpened y level ≡ g) → DoesNothing m
+  grid-day : ((g : Grid) (day : List ℕ) → m .gridNext g day ≡ g) → DoesNothing m
+  grid-close : ((g : Grid) (buffer : List ℕ) → m .gridLaid g buffer ≡ buffer) → DoesNothing m
+  customer-open : (c : Customer) → ((k : Basis) → m .customerOpened k ≡ c) → DoesNothing m
+  customer-day : ((c : Customer) (day : List ℕ) → m .customerNext c day ≡ c) → DoesNothing m
 
 -- "answering one fixed sheet": the windows that a reader of the bytes has are the same whatever the series is
-abbrev pub OneSheet : WindowsCall → List Bool → Type 0
-OneSheet call windows =
-    (y level : ℕ) (xs buffer : List ℕ)
-    → call y level xs buffer .answer .number ≡ 0
-    → readSheet (take sheetSize (call y level xs buffer .buffer)) .windows ≡ windows
+pub record OneSheet (m : Module) : Type 0 where
+  pub windows : List Bool
+  pub fixed :
+      (y level : ℕ) (xs buffer : List ℕ)
+      → m .windows y level xs (length buffer) .number ≡ 0
+      → sheetShown m y level xs buffer .windows ≡ windows
 
 -- "or charge"
-abbrev pub OneCharge : DecisionCall → ℕ → Type 0
-OneCharge call c = (k : Basis) (xs : List ℕ) → call k xs .number ≡ 0 → payable (call k xs) ≡ c
+pub record OneCharge (m : Module) : Type 0 where
+  pub charge : ℕ
+  pub fixed : (k : Basis) (xs : List ℕ) → m .decide k xs .number ≡ 0 → payable (m .decide k xs) ≡ charge
 
 -- "A made-up S": for some legal year the S that the answer carries, behind c, g, M or behind g, M, is not the sum of the year's readings
 abbrev pub sumSaid : Said → ℕ
 sumSaid a = getD (a .carries) (cond (eqb (a .number) 0) 3 2) 0
 
-pub record MadeUpSum (call : DecisionCall) : Type 0 where
+pub record MadeUpSum (m : Module) : Type 0 where
   pub basis : Basis
   pub series : List ℕ
   pub legal : LegalYear basis series
-  pub made-up : sumSaid (call basis series) ≡ sumOf (basisRun basis) series (basisDays basis) → ⊥
+  pub made-up : sumSaid (m .decide basis series) ≡ sumOf (basisRun basis) series (basisDays basis) → ⊥
 
--- "A day-by-day machine that works on the first day and then only moves its day number"
-unfoldable pub firstDayGrid : Grid → List ℕ → Grid
-firstDayGrid g day =
-    cond (eqb (g .seen) 0) (dayGrid g day)
-    (after (gridDay g day) (record { year = g .year; level = g .level; seen = g .seen + 1; curves = g .curves }) g)
+-- Wrong machines of days, seen from outside: complete legal series are offered day by day.
+pub data WrongDays {S : Type 0} (run : Run) (limit : ℕ) (step : S → List ℕ → S) (start : S) : Type 0 where
+  -- "works on the first day and then only moves its day number": series with the same first day lead to the same state
+  first-day :
+      ((xs ys : List ℕ)
+      → LegalSeries run limit xs
+      → LegalSeries run limit ys
+      → dayPart xs 1 ≡ dayPart ys 1
+      → offered step start (daysOf xs (runDays run)) ≡ offered step start (daysOf ys (runDays run)))
+      → WrongDays run limit step start
+  -- the last day is lost
+  last-day :
+      ((xs : List ℕ)
+      → LegalSeries run limit xs
+      → offered step start (daysOf xs (runDays run)) ≡ offered step start (daysOf xs (runDays run - 1)))
+      → WrongDays run limit step start
+  -- every day keeps the state, whatever it is answered
+  kept : ((s : S) (day : List ℕ) → step s day ≡ s) → WrongDays run limit step start
 
-unfoldable pub firstDayCustomer : Customer → List ℕ → Customer
-firstDayCustomer c day =
-    cond (eqb (c .seen) 0) (dayCustomer c day)
-    (after (customerDay c day) (record { terms = c .terms; seen = c .seen + 1; figures = c .figures }) c)
+-- a customer's day that is taken twice: its readings count twice towards S
+abbrev pub DayTwice : Module → Type 0
+DayTwice m =
+    (c : Customer) (day : List ℕ)
+    → m .customerDay c day ≡ only 0
+    → m .customerNext c day .figures .sum ≡ c .figures .sum + 2 * sumOver (λ p. getD day p 0) (length day)
 
 pub record ShutOut : Type 0 where
-  pub doing-nothing : (call : WindowsCall) → MeetsWindows call → DoesNothing call → ⊥
-  pub refusing-series : (call : WindowsCall) → MeetsWindows call → RefusesSeries call → ⊥
-  pub refusing-years : (call : DecisionCall) → MeetsDecision call → RefusesYears call → ⊥
-  pub one-sheet : (call : WindowsCall) (windows : List Bool) → MeetsWindows call → OneSheet call windows → ⊥
-  pub one-charge : (call : DecisionCall) (c : ℕ) → MeetsDecision call → OneCharge call c → ⊥
-  pub made-up-sum : (call : DecisionCall) → MeetsDecision call → MadeUpSum call → ⊥
-  pub first-day-grid : GridAsWhole firstDayGrid → ⊥
-  pub first-day-customer : CustomerAsWhole firstDayCustomer → ⊥
+  pub refusing-always : (m : Module) → Demands m → RefusesAlways m → ⊥
+  pub doing-nothing : (m : Module) → Demands m → DoesNothing m → ⊥
+  pub one-sheet : (m : Module) → Demands m → OneSheet m → ⊥
+  pub one-charge : (m : Module) → Demands m → OneCharge m → ⊥
+  pub made-up-sum : (m : Module) → Demands m → MadeUpSum m → ⊥
+  -- in no year and at no level, on no basis
+  pub wrong-grid-days :
+      (m : Module) (y level : ℕ)
+      → Demands m
+      → m .gridOpen y level ≡ only 0
+      → WrongDays (periodRun y) gridMost (m .gridNext) (m .gridOpened y level)
+      → ⊥
+  pub wrong-customer-days :
+      (m : Module) (k : Basis)
+      → Demands m
+      → m .customerOpen k ≡ only 0
+      → WrongDays (basisRun k) customerMost (m .customerNext) (m .customerOpened k)
+      → ⊥
+  pub day-twice : (m : Module) → Demands m → DayTwice m → ⊥

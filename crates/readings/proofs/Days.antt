@@ -11,7 +11,7 @@ use borrow.Author.Tests.{lt-ltb, le-ltb, le-leb, lt-leb, eq-eqb, ne-eqb}
 use lib.ListN.{length, getD, length-append, List·getD-append}
 use lib.Seq.{getD-append-add}
 use Rattle.over.proofs.Largest.{largest-none, largest-above, largest-le}
-use Rattle.answers.specs.Said.{only, badPlace}
+use Rattle.answers.specs.Said.{Said, only, badPlace}
 use Rattle.answers.specs.declared.Place.{Place}
 use Rattle.readings.specs.declared.Run.{Run}
 use Rattle.readings.specs.Runs.{runDays, dayLen, dayStart, runReadings, reading}
@@ -20,7 +20,9 @@ use Rattle.readings.specs.Days.{seriesAnswer, nextAnswer}
 use Rattle.readings.specs.Rows.{NextRow}
 use Rattle.readings.specs.Rows.NextRow.{thirteen, four, five, zero}
 use Rattle.readings.proofs.Runs.{start-none, start-more, start-below}
-use Rattle.readings.proofs.Legal.{highest-legal, highest-illegal, peak-legal, illegal-at}
+use Rattle.readings.specs.Illegal.{LegalSeries}
+use Rattle.readings.proofs.Legal.{highest-legal, highest-illegal, peak-legal, illegal-at, reading-le}
+use Rattle.readings.proofs.Illegal.{all-legal, some-illegal, all-legal-in}
 
 -- a whole series
 module _ (run : Run) (limit : ℕ) (xs : List ℕ) where
@@ -38,6 +40,15 @@ module _ (run : Run) (limit : ℕ) (xs : List ℕ) where
     series-legal v =
         let none : firstIllegal run limit xs .day ≡ 0 = ap (λ (x : Place). x .day) (peak-legal run limit xs v) in
         simp (eq-eqb _ _ l, le-ltb 0 (firstIllegal run limit xs .day) (omega arith))
+
+  -- it is accepted exactly when it is complete and legal
+  pub legal-series : (seriesAnswer run limit xs ≡ only 0) ↔ LegalSeries run limit xs
+  legal-series = (there (ℕ-discrete (length xs) (runReadings run)) (decLt limit (peakOf run xs (runDays run))), λ s. sym (series-legal (s .long) (all-legal-in run limit xs .1 (s .legal))))
+    where
+      there : Dec (length xs ≡ runReadings run) → Dec (limit < peakOf run xs (runDays run)) → seriesAnswer run limit xs ≡ only 0 → LegalSeries run limit xs
+      there (no l) v e = absurd (omega (arith, ap (λ (a : Said). a .number) (series-length l ∙ e)))
+      there (yes l) (yes v) e = absurd (omega (arith, ap (λ (a : Said). a .number) (series-bad l v ∙ e)))
+      there (yes l) (no v) e = record { long = l; legal = all-legal-in run limit xs .0 (omega arith) }
 
 -- a day, where n days are taken
 module _ (run : Run) (limit n : ℕ) (day : List ℕ) where
@@ -71,16 +82,16 @@ module _ (run : Run) (limit n : ℕ) (day : List ℕ) where
       go : Dec (n < runDays run) → Dec (length day ≡ dayLen run n) → Dec (limit < highestOf day) → NextRow run limit n day (nextAnswer run limit n day .number)
       go (no h) l v = let k : runDays run ≤ n = omega arith in rw (← next-out run limit n day k) (thirteen k)
       go (yes h) (no l) v = rw (← next-length run limit n day h l) (four h l)
-      go (yes h) (yes l) (yes v) = rw (← next-bad run limit n day h l v refl) (five (record { left = h; long = l }) v)
+      go (yes h) (yes l) (yes v) = rw (← next-bad run limit n day h l v refl) (five (record { left = h; long = l }) (some-illegal limit day .0 v))
       go (yes h) (yes l) (no v) =
           let k : highestOf day ≤ limit = omega arith in
-          rw (← next-taken run limit n day h l k) (zero (record { left = h; long = l }) k)
+          rw (← next-taken run limit n day h l k) (zero (record { left = h; long = l }) (all-legal limit day .0 k))
 
   next-given : {k : ℕ} → NextRow run limit n day k → nextAnswer run limit n day .number ≡ k
   next-given (thirteen h) = rw (← next-out run limit n day h)
   next-given (four h l) = rw (← next-length run limit n day h l)
-  next-given (five d v) = rw (← next-bad run limit n day (d .left) (d .long) v refl)
-  next-given (zero d v) = rw (← next-taken run limit n day (d .left) (d .long) v)
+  next-given (five d v) = rw (← next-bad run limit n day (d .left) (d .long) (some-illegal limit day .1 v) refl)
+  next-given (zero d v) = rw (← next-taken run limit n day (d .left) (d .long) (all-legal limit day .1 v))
 
   pub next-exactly : (k : ℕ) → (nextAnswer run limit n day .number ≡ k) ↔ NextRow run limit n day k
   next-exactly k = (λ e. rw e at next-holds, next-given)
@@ -93,12 +104,6 @@ pub record Read (run : Run) (limit : ℕ) (xs : List ℕ) (n : ℕ) : Type 0 whe
 pub read-none : (run : Run) (limit : ℕ) → Read run limit [] 0
 unfolding peakOf
 read-none run limit = record { long = sym (start-none run); legal = omega (arith, largest-none (dayPeak run [])) }
-
--- a reading of the first n days is at most their peak
-pub reading-le : (run : Run) (xs : List ℕ) (n d p : ℕ) → d < n → p < dayLen run d → reading run xs d p ≤ peakOf run xs n
-unfolding peakOf dayPeak
-reading-le run xs n d p h m =
-    le-trans (largest-above (reading run xs d) (dayLen run d) p m) (largest-above (dayPeak run xs) n d h)
 
 -- readings with one more day after them
 module _ (run : Run) (xs day : List ℕ) (n : ℕ) (l : length xs ≡ dayStart run n) where

@@ -4,18 +4,26 @@ use mathlib.Core.Path.{_≡_, sym, _∙_}
 use mathlib.Core.Bool.{Bool, true}
 use mathlib.Core.List.{List}
 use Prim.Native.Nat.{ℕ, _+_, _*_, _≤_, _<_}
+use native.Mathlib.Nat.{le-trans}
 use native.Mathlib.Decide.{decLt}
 use native.Mathlib.Omega.{arith}
 use borrow.Author.Tests.{lt-ltb, le-ltb, ltb-true, ltb-false}
 use lib.Dec.{ltb}
 use lib.ListN.{length, getD}
 use Rattle.over.specs.Over.{anyOver}
+use Rattle.over.proofs.Largest.{largest-above}
 use Rattle.over.proofs.Tests.{Passed, any-at, any-fails, any-cong, all-passed, passed-more}
 use Rattle.over.proofs.First.{first-fails, first-at, any-first, any-above}
 use Rattle.dates.specs.Dates.{mostDays}
 use Rattle.readings.specs.declared.Run.{Run}
 use Rattle.readings.specs.Runs.{runDays, dayLen, dayStart, reading}
 use Rattle.readings.specs.Legal.{illegal, highestOf, firstAbove, dayPeak, peakOf, badIn, badAt, badDay, firstIllegal}
+
+-- a reading of the first n days is at most their peak
+pub reading-le : (run : Run) (xs : List ℕ) (n d p : ℕ) → d < n → p < dayLen run d → reading run xs d p ≤ peakOf run xs n
+unfolding peakOf dayPeak
+reading-le run xs n d p h m =
+    le-trans (largest-above (reading run xs d) (dayLen run d) p m) (largest-above (dayPeak run xs) n d h)
 
 -- some readings: the code's search
 module _ (limit : ℕ) (xs : List ℕ) where

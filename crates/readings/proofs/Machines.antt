@@ -5,24 +5,30 @@ use mathlib.Core.Path.{_≡_, refl, sym, ap, _∙_}
 use mathlib.Core.Bool.{false}
 use mathlib.Core.List.{List, [], _∷_, _++_, append-assoc, append-nil}
 use Prim.Native.Nat.{ℕ, zero, suc, _+_, _≤_, _<_}
+use native.Mathlib.Nat.{add-zero, zero-add}
 use native.Mathlib.Decide.{decLt, ℕ-discrete}
 use native.Mathlib.Omega.{arith}
-use borrow.Author.Tests.{lt-ltb, ltb-true, ltb-false}
+use borrow.Author.Tests.{lt-ltb}
 use lib.Dec.{eqb}
-use lib.ListN.{length, getD}
-use Rattle.over.proofs.Largest.{largest-cong}
-use Rattle.over.proofs.First.{first-cong, first-below, first-holds}
+use lib.ListN.{length, getD, take, length-append}
+use lib.Seq.{take-all}
+use Rattle.over.proofs.Largest.{largest-le, largest-cong}
+use Rattle.over.proofs.First.{first-cong}
 use Rattle.answers.specs.Said.{Said, only, badPlace, after}
 use Rattle.readings.specs.declared.Run.{Run}
-use Rattle.readings.specs.Runs.{runDays, dayLen, dayStart, runReadings}
-use Rattle.readings.specs.Legal.{illegal, highestOf, firstAbove, dayPeak, peakOf, badIn, badAt, badDay, firstIllegal}
+use Rattle.readings.specs.Runs.{runDays, dayLen, dayStart, runReadings, reading}
+use Rattle.readings.specs.Legal.{illegal, highestOf, firstAbove, dayPeak, peakOf, badAt, badDay, firstIllegal}
+use Rattle.readings.specs.Illegal.{LegalSeries}
 use Rattle.readings.specs.Part.{dayPart}
-use Rattle.readings.specs.Days.{seriesAnswer, nextAnswer, offered, takenReadings, daysOf, BadThere}
-use Rattle.readings.proofs.Given.{days-none, days-more}
+use Rattle.readings.specs.Rows.{NextRow}
+use Rattle.readings.specs.Rows.NextRow.{thirteen, four, five, zero}
+use Rattle.readings.specs.Days.{seriesAnswer, nextAnswer, offered, takenDays, oneAfterOther, takenReadings, daysOf, BadThere, AsWhole}
+use Rattle.readings.proofs.Given.{days-none, days-more, taken-first, part-none-yet, part-more}
 use Rattle.readings.proofs.Runs.{run-all, run-held}
-use Rattle.readings.proofs.Legal.{peak-illegal, illegal-at, bad-peak}
+use Rattle.readings.proofs.Legal.{peak-illegal, illegal-at}
+use Rattle.readings.proofs.Illegal.{before-legal, there-bad}
 use Rattle.readings.proofs.Part.{length-part, part-at}
-use Rattle.readings.proofs.Days.{series-length, series-bad, series-legal, next-out, next-length, next-bad, next-taken, Read, read-none, read-more}
+use Rattle.readings.proofs.Days.{series-length, series-bad, series-legal, legal-series, next-out, next-length, next-bad, next-taken, next-exactly, Read, read-none, read-more}
 
 -- what a machine's day does: `holding xs n` is its state once the n days of xs are taken
 pub record Machine {S : Type 0} (run : Run) (limit : ℕ) (answer : S → List ℕ → Said) (step : S → List ℕ → S) (holding : List ℕ → ℕ → S) : Type 0 where
@@ -37,31 +43,36 @@ pub record Machine {S : Type 0} (run : Run) (limit : ℕ) (answer : S → List �
       → step (holding xs n) day ≡ holding (xs ++ day) (n + 1)
 
 module _ {S : Type 0} {run : Run} {limit : ℕ} {answer : S → List ℕ → Said} {step : S → List ℕ → S} {holding : List ℕ → ℕ → S} (m : Machine run limit answer step holding) where
-  -- a state that holds exactly these readings
-  record Holds (xs : List ℕ) (s : S) : Type 0 where
-    days : ℕ
-    read : Read run limit xs days
-    is : s ≡ holding xs days
+  -- a state that holds exactly the readings of n days
+  pub record Holds (xs : List ℕ) (n : ℕ) (s : S) : Type 0 where
+    pub read : Read run limit xs n
+    pub in-run : n ≤ runDays run
+    pub is : s ≡ holding xs n
 
-  moved : {xs zs : List ℕ} {s : S} → xs ≡ zs → Holds xs s → Holds zs s
-  moved e h = rw e at h
+  moved : {xs zs : List ℕ} {n k : ℕ} {s : S} → xs ≡ zs → n ≡ k → Holds xs n s → Holds zs k s
+  moved e f h = rw f at (rw e at h)
 
   -- one day more
-  module _ (xs : List ℕ) (n : ℕ) (r : Read run limit xs n) (day : List ℕ) where
+  module _ (xs : List ℕ) (n : ℕ) (r : Read run limit xs n) (i : n ≤ runDays run) (day : List ℕ) where
+    abbrev said : Said
+    said = answer (holding xs n) day
+
     abbrev Next : Type 0
-    Next = Holds (xs ++ after (answer (holding xs n) day) day []) (step (holding xs n) day)
+    Next = Holds (xs ++ after said day []) (n + length (after said (day ∷ []) [])) (step (holding xs n) day)
 
     kept : (a : Said) → eqb (a .number) 0 ≡ false → a ≡ nextAnswer run limit n day → Next
     kept a z e =
-        let said : a ≡ answer (holding xs n) day = e ∙ sym (m .says xs n r day) in
-        let none : xs ≡ xs ++ after (answer (holding xs n) day) day [] = sym (append-nil xs) ∙ ap (λ (k : List ℕ). xs ++ k) (simp (← said, z)) in
-        moved none (record { days = n; read = r; is = m .keeps xs n day (rw said at z) })
+        let is : a ≡ said = e ∙ sym (m .says xs n r day) in
+        let none : xs ≡ xs ++ after said day [] = sym (append-nil xs) ∙ ap (λ (k : List ℕ). xs ++ k) (simp (← is, z)) in
+        let same : n ≡ n + length (after said (day ∷ []) []) = sym (add-zero n) ∙ ap (λ (k : ℕ). n + k) (simp (← is, z)) in
+        moved none same (record { read = r; in-run = i; is = m .keeps xs n day (rw is at z) })
 
-    added : length day ≡ dayLen run n → highestOf day ≤ limit → only 0 ≡ nextAnswer run limit n day → Next
-    added l v e =
-        let said : only 0 ≡ answer (holding xs n) day = e ∙ sym (m .says xs n r day) in
-        let all : xs ++ day ≡ xs ++ after (answer (holding xs n) day) day [] = ap (λ (k : List ℕ). xs ++ k) (simp (← said)) in
-        moved all (record { days = n + 1; read = read-more run xs day n (r .long) (r .legal) v l; is = m .takes xs n r day l (sym said) })
+    added : n < runDays run → length day ≡ dayLen run n → highestOf day ≤ limit → only 0 ≡ nextAnswer run limit n day → Next
+    added h l v e =
+        let is : only 0 ≡ said = e ∙ sym (m .says xs n r day) in
+        let all : xs ++ day ≡ xs ++ after said day [] = ap (λ (k : List ℕ). xs ++ k) (simp (← is)) in
+        let more : n + 1 ≡ n + length (after said (day ∷ []) []) = ap (λ (k : ℕ). n + k) (simp (← is)) in
+        moved all more (record { read = read-more run xs day n (r .long) (r .legal) v l; in-run = omega arith; is = m .takes xs n r day l (sym is) })
 
     holds-next : Next
     holds-next = go (decLt n (runDays run)) (ℕ-discrete (length day) (dayLen run n)) (decLt limit (highestOf day))
@@ -70,54 +81,76 @@ module _ {S : Type 0} {run : Run} {limit : ℕ} {answer : S → List ℕ → Sai
         go (no h) l v = kept (only 13) refl (next-out run limit n day (omega arith))
         go (yes h) (no l) v = kept (only 4) refl (next-length run limit n day h l)
         go (yes h) (yes l) (yes v) = kept _ refl (next-bad run limit n day h l v refl)
-        go (yes h) (yes l) (no v) = added l (omega arith) (next-taken run limit n day h l (omega arith))
+        go (yes h) (yes l) (no v) = added h l (omega arith) (next-taken run limit n day h l (omega arith))
 
-  holds-none : Holds [] (holding [] 0)
-  holds-none = record { days = 0; read = read-none run limit; is = refl }
+  holds-none : Holds [] 0 (holding [] 0)
+  holds-none = record { read = read-none run limit; in-run = omega arith; is = refl }
 
-  holds-day : (xs : List ℕ) (s : S) → Holds xs s → (day : List ℕ) → Holds (xs ++ after (answer s day) day []) (step s day)
-  holds-day xs s h day = rw (h .is) (holds-next xs (h .days) (h .read) day)
+  holds-day :
+      (xs : List ℕ) (n : ℕ) (s : S)
+      → Holds xs n s
+      → (day : List ℕ)
+      → Holds (xs ++ after (answer s day) day []) (n + length (after (answer s day) (day ∷ []) [])) (step s day)
+  holds-day xs n s h day = rw (h .is) (holds-next xs n (h .read) (h .in-run) day)
 
   -- the state after offered days holds the readings of the taken ones
-  holds-days : (days : List (List ℕ)) (xs : List ℕ) (s : S) → Holds xs s → Holds (xs ++ takenReadings answer step s days) (offered step s days)
-  unfolding offered takenReadings
-  holds-days [] xs s h = moved (sym (append-nil xs)) h
-  holds-days (day ∷ days) xs s h =
-      moved (append-assoc xs (after (answer s day) day []) (takenReadings answer step (step s day) days))
-      (holds-days days (xs ++ after (answer s day) day []) (step s day) (holds-day xs s h day))
+  holds-days :
+      (days : List (List ℕ)) (xs : List ℕ) (n : ℕ) (s : S)
+      → Holds xs n s
+      → Holds (xs ++ takenReadings answer step s days) (n + length (takenDays answer step s days)) (offered step s days)
+  unfolding offered takenDays oneAfterOther
+  holds-days [] xs n s h = moved (sym (append-nil xs)) (sym (add-zero n)) h
+  holds-days (day ∷ days) xs n s h =
+      let one = after (answer s day) (day ∷ []) [] in
+      let rest = takenDays answer step (step s day) days in
+      let all : xs ++ (after (answer s day) day [] ++ oneAfterOther rest) ≡ xs ++ takenReadings answer step s (day ∷ days) = ap (λ (k : List ℕ). xs ++ k) (sym (taken-first answer step s day days)) in
+      let count : n + length one + length rest ≡ n + length (one ++ rest) = omega (arith, length-append one rest) in
+      moved (append-assoc xs (after (answer s day) day []) (oneAfterOther rest) ∙ all) count
+      (holds-days days (xs ++ after (answer s day) day []) (n + length one) (step s day) (holds-day xs n s h day))
 
-  -- a state that has all days: it holds a complete legal series
-  pub record Full (xs : List ℕ) (s : S) : Type 0 where
-    pub whole : s ≡ holding xs (runDays run)
-    pub legal : only 0 ≡ seriesAnswer run limit xs
-
-  full-holds : (xs : List ℕ) (s : S) (h : Holds xs s) → h .days ≡ runDays run → Full xs s
-  full-holds xs s h n =
-      record {
-        whole = h .is ∙ ap (holding xs) n;
-        legal = series-legal run limit xs (h .read .long ∙ ap (dayStart run) n ∙ run-all run) (rw n at (h .read .legal));
-      }
-
-  -- days that are offered from the start, refused ones among them, until all are in
-  pub all-taken :
-      (seen : S → ℕ)
-      → ((xs : List ℕ) (n : ℕ) → seen (holding xs n) ≡ n)
-      → (start : S)
+  -- days that are offered from the start, refused ones among them
+  pub holds-taken :
+      (start : S)
       → start ≡ holding [] 0
       → (days : List (List ℕ))
-      → seen (offered step start days) ≡ runDays run
+      → Holds (takenReadings answer step start days) (length (takenDays answer step start days)) (offered step start days)
+  holds-taken start e days = moved refl (zero-add _) (holds-days days [] 0 start (rw e holds-none))
+
+  -- a day is 13 only where all days are in
+  pub thirteen-full : {xs : List ℕ} {n : ℕ} {s : S} → Holds xs n s → (day : List ℕ) → answer s day .number ≡ 13 → n ≡ runDays run
+  thirteen-full {xs} {n} {s} h day e =
+      go (next-exactly run limit n day 13 .0 (ap (λ (a : Said). a .number) (sym (m .says xs n (h .read) day) ∙ ap (λ (t : S). answer t day) (sym (h .is))) ∙ e)) refl
+    where
+      go : {k : ℕ} → NextRow run limit n day k → k ≡ 13 → n ≡ runDays run
+      go (thirteen l) f = omega (arith, h .in-run)
+      go (four l c) f = absurd (omega arith)
+      go (five c v) f = absurd (omega arith)
+      go (zero c v) f = absurd (omega arith)
+
+  -- a state that has all days: it holds a complete legal series
+  record Full (xs : List ℕ) (s : S) : Type 0 where
+    whole : s ≡ holding xs (runDays run)
+    legal : only 0 ≡ seriesAnswer run limit xs
+
+  full-holds : (xs : List ℕ) (s : S) → Holds xs (runDays run) s → Full xs s
+  full-holds xs s h =
+      record { whole = h .is; legal = series-legal run limit xs (h .read .long ∙ run-all run) (h .read .legal) }
+
+  -- as many days are taken as the run has
+  all-taken :
+      (start : S)
+      → start ≡ holding [] 0
+      → (days : List (List ℕ))
+      → length (takenDays answer step start days) ≡ runDays run
       → Full (takenReadings answer step start days) (offered step start days)
-  all-taken seen counts start e days full =
-      let h = holds-days days [] start (rw e holds-none) in
-      full-holds (takenReadings answer step start days) (offered step start days) h
-      (sym (counts (takenReadings answer step start days) (h .days)) ∙ sym (ap seen (h .is)) ∙ full)
+  all-taken start e days full = full-holds _ _ (moved refl full (holds-taken start e days))
 
   -- the state after the first n days of a series
   abbrev stateAt : List ℕ → ℕ → S
   stateAt xs n = offered step (holding [] 0) (daysOf xs n)
 
-  -- a series with a bad reading, given by its days
-  module _ (xs : List ℕ) (l : length xs ≡ runReadings run) (bad : limit < peakOf run xs (runDays run)) where
+  -- a series of the run's length, given by its days, the first `end` of which are legal
+  module _ (xs : List ℕ) (l : length xs ≡ runReadings run) (end : ℕ) (in-run : end ≤ runDays run) (legal : (n : ℕ) → n < end → dayPeak run xs n ≤ limit) where
     held : (n : ℕ) → n < runDays run → dayStart run n + dayLen run n ≤ length xs
     held n h = omega (arith, run-held run n h)
 
@@ -126,67 +159,102 @@ module _ {S : Type 0} {run : Run} {limit : ℕ} {answer : S → List ℕ → Sai
     unfolding highestOf dayPeak
     part-peak n h = rw (length-part run xs n (held n h)) (largest-cong _ _ (dayLen run n) (λ p k. part-at run xs n (held n h) p k))
 
-    part-bad : (n : ℕ) → n < runDays run → firstAbove limit (dayPart xs (n + 1)) ≡ badAt run limit xs n
-    unfolding firstAbove badAt
-    part-bad n h =
-        rw (length-part run xs n (held n h))
-        (first-cong _ _ (dayLen run n) (λ p k. ap (illegal limit) (part-at run xs n (held n h) p k)))
-
-    found : badDay run limit xs < runDays run
-    found = peak-illegal run limit xs bad
-
-    before-legal : (n : ℕ) → n < badDay run limit xs → dayPeak run xs n ≤ limit
-    unfolding badDay
-    before-legal n h = ltb-false _ _ (sym (bad-peak run limit xs n) ∙ first-below (badIn run limit xs) (runDays run) n h)
-
-    there-bad : limit < dayPeak run xs (badDay run limit xs)
-    unfolding badDay
-    there-bad = ltb-true _ _ (sym (bad-peak run limit xs (badDay run limit xs)) ∙ first-holds (badIn run limit xs) (runDays run) found)
-
-    -- the first n days are taken
-    record Took (n : ℕ) : Type 0 where
-      taken : List ℕ
-      read : Read run limit taken n
-      is : stateAt xs n ≡ holding taken n
+    abbrev Took : ℕ → Type 0
+    Took n = Holds (take (dayStart run n) xs) n (stateAt xs n)
 
     took-said : (n : ℕ) → Took n → (day : List ℕ) → answer (stateAt xs n) day ≡ nextAnswer run limit n day
-    took-said n t day = ap (λ (s : S). answer s day) (t .is) ∙ m .says (t .taken) n (t .read) day
+    took-said n t day = ap (λ (s : S). answer s day) (t .is) ∙ m .says (take (dayStart run n) xs) n (t .read) day
 
-    legal-said : (n : ℕ) → n < badDay run limit xs → only 0 ≡ nextAnswer run limit n (dayPart xs (n + 1))
-    legal-said n h =
-        let k : n < runDays run = omega (arith, found) in
-        next-taken run limit n (dayPart xs (n + 1)) k (length-part run xs n (held n k)) (omega (arith, part-peak n k, before-legal n h))
+    -- one of the first days
+    module _ (n : ℕ) (h : n < end) where
+      inside : n < runDays run
+      inside = omega (arith, in-run)
 
-    took-more : (n : ℕ) → n < badDay run limit xs → Took n → Took (n + 1)
-    took-more n h t =
-        let k : n < runDays run = omega (arith, found) in
-        let long = length-part run xs n (held n k) in
-        let low : highestOf (dayPart xs (n + 1)) ≤ limit = omega (arith, part-peak n k, before-legal n h) in
-        let said : answer (holding (t .taken) n) (dayPart xs (n + 1)) ≡ only 0 = m .says (t .taken) n (t .read) _ ∙ sym (legal-said n h) in
-        record {
-          taken = t .taken ++ dayPart xs (n + 1);
-          read = read-more run (t .taken) (dayPart xs (n + 1)) n (t .read .long) (t .read .legal) low long;
-          is = days-more step (holding [] 0) xs n ∙ ap (λ (s : S). step s (dayPart xs (n + 1))) (t .is) ∙ m .takes (t .taken) n (t .read) _ long said;
-        }
+      long : length (dayPart xs (n + 1)) ≡ dayLen run n
+      long = length-part run xs n (held n inside)
 
-    took : (n : ℕ) → n ≤ badDay run limit xs → Took n
-    took zero h = record { taken = []; read = read-none run limit; is = days-none step (holding [] 0) xs }
+      low : highestOf (dayPart xs (n + 1)) ≤ limit
+      low = omega (arith, part-peak n inside, legal n h)
+
+      legal-said : only 0 ≡ nextAnswer run limit n (dayPart xs (n + 1))
+      legal-said = next-taken run limit n (dayPart xs (n + 1)) inside long low
+
+      took-more : Took n → Took (n + 1)
+      took-more t =
+          let before = take (dayStart run n) xs in
+          let day = dayPart xs (n + 1) in
+          moved (part-more run xs n (held n inside)) refl
+          (record {
+            read = read-more run before day n (t .read .long) (t .read .legal) low long;
+            in-run = omega (arith, inside);
+            is =
+                days-more step (holding [] 0) xs n ∙ ap (λ (s : S). step s day) (t .is)
+                ∙ m .takes before n (t .read) day long (m .says before n (t .read) day ∙ sym legal-said);
+          })
+
+    took : (n : ℕ) → n ≤ end → Took n
+    took zero h = moved (sym (part-none-yet run xs)) refl (record { read = read-none run limit; in-run = omega arith; is = days-none step (holding [] 0) xs })
     took (suc n) h =
         let more : n + 1 ≡ suc n = omega arith in
         rw more at (took-more n (omega arith) (took n (omega arith)))
 
-    -- the days before it are taken
-    taken-before : (n : ℕ) → n < badDay run limit xs → answer (stateAt xs n) (dayPart xs (n + 1)) ≡ only 0
+    taken-before : (n : ℕ) → n < end → answer (stateAt xs n) (dayPart xs (n + 1)) ≡ only 0
     taken-before n h = took-said n (took n (omega arith)) (dayPart xs (n + 1)) ∙ sym (legal-said n h)
 
+  -- closing a state that holds a complete legal series gives what the whole series does
+  module _ {A : Type 0} (closes : S → A) (whole : List ℕ → A) (same : (xs : List ℕ) → only 0 ≡ seriesAnswer run limit xs → closes (holding xs (runDays run)) ≡ whole xs) where
+    -- a complete legal series
+    module _ (xs : List ℕ) (s : LegalSeries run limit xs) where
+      each : (n : ℕ) → n < runDays run → dayPeak run xs n ≤ limit
+      unfolding dayPeak
+      each n h = largest-le (reading run xs n) (dayLen run n) limit (λ p k. s .legal n p h k)
+
+      said-all : (d : ℕ) → d < runDays run → answer (stateAt xs d) (dayPart xs (d + 1)) ≡ only 0
+      said-all = taken-before xs (s .long) (runDays run) (omega arith) each
+
+      closed-all : closes (stateAt xs (runDays run)) ≡ whole xs
+      closed-all =
+          let t = took xs (s .long) (runDays run) (omega arith) each (runDays run) (omega arith) in
+          let all : take (dayStart run (runDays run)) xs ≡ xs = take-all (dayStart run (runDays run)) xs (omega (arith, run-all run, s .long)) in
+          ap closes (t .is ∙ ap (λ (ys : List ℕ). holding ys (runDays run)) all) ∙ same xs (sym (legal-series run limit xs .1 s))
+
+    -- Document 01: "Closing after all days answers as the whole series does."
+    pub as-whole : (start : S) → start ≡ holding [] 0 → AsWhole run limit answer step start closes whole
+    as-whole start e =
+        record {
+          taken = λ days full. let f = all-taken start e days full in ap closes (f .whole) ∙ same _ (f .legal);
+          every-day = λ xs s d h. rw e (said-all xs s d h);
+          all-days = λ xs s. rw e (closed-all xs s);
+        }
+
+  -- a series with a bad reading, given by its days
+  module _ (xs : List ℕ) (l : length xs ≡ runReadings run) (bad : limit < peakOf run xs (runDays run)) where
+    abbrev there : ℕ
+    there = badDay run limit xs
+
+    found : there < runDays run
+    found = peak-illegal run limit xs bad
+
+    part-bad : (n : ℕ) → n < runDays run → firstAbove limit (dayPart xs (n + 1)) ≡ badAt run limit xs n
+    unfolding firstAbove badAt
+    part-bad n h =
+        let inside : dayStart run n + dayLen run n ≤ length xs = omega (arith, run-held run n h) in
+        rw (length-part run xs n inside) (first-cong _ _ (dayLen run n) (λ p k. ap (illegal limit) (part-at run xs n inside p k)))
+
+    -- the days before it are taken
+    before-taken : (n : ℕ) → n < there → answer (stateAt xs n) (dayPart xs (n + 1)) ≡ only 0
+    before-taken = taken-before xs l there (omega (arith, found)) (before-legal run limit xs bad)
+
     -- and its day answers the place
-    bad-there : answer (stateAt xs (badDay run limit xs)) (dayPart xs (badDay run limit xs + 1)) ≡ badPlace (firstIllegal run limit xs)
+    bad-there : answer (stateAt xs there) (dayPart xs (there + 1)) ≡ badPlace (firstIllegal run limit xs)
     unfolding firstIllegal
     bad-there =
-        let d = badDay run limit xs in
-        took-said d (took d (omega arith)) (dayPart xs (d + 1))
-        ∙ sym (next-bad run limit d (dayPart xs (d + 1)) found (length-part run xs d (held d found)) (omega (arith, part-peak d found, there-bad)) (sym (part-bad d found)))
-        ∙ simp (lt-ltb d (runDays run) found)
+        let peak = part-peak xs l there (omega (arith, found)) (before-legal run limit xs bad) there found in
+        let inside : dayStart run there + dayLen run there ≤ length xs = omega (arith, run-held run there found) in
+        let t = took xs l there (omega (arith, found)) (before-legal run limit xs bad) there (omega arith) in
+        took-said xs l there (omega (arith, found)) (before-legal run limit xs bad) there t (dayPart xs (there + 1))
+        ∙ sym (next-bad run limit there (dayPart xs (there + 1)) found (length-part run xs there inside) (omega (arith, peak, there-bad run limit xs bad)) (sym (part-bad there found)))
+        ∙ simp (lt-ltb there (runDays run) found)
 
   -- where the whole series answers 5 at a day, from 1, and a position, the days before are taken, and that day answers the same
   pub same-bad : (xs : List ℕ) (d q : ℕ) → seriesAnswer run limit xs ≡ badPlace (record { day = d + 1; position = q }) → BadThere answer step (holding [] 0) xs d q
@@ -203,6 +271,6 @@ module _ {S : Type 0} {run : Run} {limit : ℕ} {answer : S → List ℕ → Sai
       go (yes l) (no v) = absurd (omega (arith, number (series-legal run limit xs l (omega arith))))
       go (yes l) (yes v) =
           record {
-            before = λ n h. taken-before xs l v n (omega (arith, here l v));
+            before = λ n h. before-taken xs l v n (omega (arith, here l v));
             there = rw (here l v) at (bad-there xs l v ∙ series-bad run limit xs l v ∙ e);
           }

@@ -11,6 +11,7 @@ use Rattle.answers.specs.Said.{Said, only, badPlace, after}
 use Rattle.readings.specs.declared.Run.{Run}
 use Rattle.readings.specs.Runs.{runDays, dayLen, runReadings}
 use Rattle.readings.specs.Legal.{firstAbove, firstIllegal}
+use Rattle.readings.specs.Illegal.{LegalSeries}
 use Rattle.readings.specs.Part.{dayPart}
 
 -- a whole series: 4 for a wrong length, then 5 for the first illegal reading
@@ -33,10 +34,17 @@ unfoldable pub offered : {S : Type 0} → (S → List ℕ → S) → S → List 
 offered step s [] = s
 offered step s (day ∷ days) = offered step (step s day) days
 
--- the readings of the days that are taken, one day after the other
-unfoldable pub takenReadings : {S : Type 0} → (S → List ℕ → Said) → (S → List ℕ → S) → S → List (List ℕ) → List ℕ
-takenReadings answer step s [] = []
-takenReadings answer step s (day ∷ days) = after (answer s day) day [] ++ takenReadings answer step (step s day) days
+-- the days among them that are answered 0, in their order, and their readings, one day after the other
+unfoldable pub takenDays : {S : Type 0} → (S → List ℕ → Said) → (S → List ℕ → S) → S → List (List ℕ) → List (List ℕ)
+takenDays answer step s [] = []
+takenDays answer step s (day ∷ days) = after (answer s day) (day ∷ []) [] ++ takenDays answer step (step s day) days
+
+unfoldable pub oneAfterOther : List (List ℕ) → List ℕ
+oneAfterOther [] = []
+oneAfterOther (day ∷ days) = day ++ oneAfterOther days
+
+abbrev pub takenReadings : {S : Type 0} → (S → List ℕ → Said) → (S → List ℕ → S) → S → List (List ℕ) → List ℕ
+takenReadings answer step s days = oneAfterOther (takenDays answer step s days)
 
 -- the first n days of a series, each as it is handed out
 unfoldable pub daysOf : List ℕ → ℕ → List (List ℕ)
@@ -46,3 +54,15 @@ daysOf xs n = table (λ d. dayPart xs (d + 1)) n
 pub record BadThere {S : Type 0} (answer : S → List ℕ → Said) (step : S → List ℕ → S) (start : S) (xs : List ℕ) (d q : ℕ) : Type 0 where
   pub before : (n : ℕ) → n < d → answer (offered step start (daysOf xs n)) (dayPart xs (n + 1)) ≡ only 0
   pub there : answer (offered step start (daysOf xs d)) (dayPart xs (d + 1)) ≡ badPlace (record { day = d + 1; position = q })
+
+-- Days from `start` on close as the whole series does: `closes` is what closing a state gives, `whole` what the call for whole series gives. Said of what
+-- the caller sees, for any machine: its answers, and not a number that it keeps itself.
+pub record AsWhole {S A : Type 0} (run : Run) (limit : ℕ) (answer : S → List ℕ → Said) (step : S → List ℕ → S) (start : S) (closes : S → A) (whole : List ℕ → A) : Type 0 where
+  -- whenever as many days were answered 0 as the run has, refused days among the offered or not
+  pub taken :
+      (days : List (List ℕ))
+      → length (takenDays answer step start days) ≡ runDays run
+      → closes (offered step start days) ≡ whole (takenReadings answer step start days)
+  -- a complete legal series, offered day by day, is answered 0 every day, and closes as the whole
+  pub every-day : (xs : List ℕ) → LegalSeries run limit xs → (d : ℕ) → d < runDays run → answer (offered step start (daysOf xs d)) (dayPart xs (d + 1)) ≡ only 0
+  pub all-days : (xs : List ℕ) → LegalSeries run limit xs → closes (offered step start (daysOf xs (runDays run))) ≡ whole xs

@@ -1,5 +1,6 @@
 pub mod Runs
 pub mod Legal
+pub mod Illegal
 pub mod Part
 pub mod Days
 pub mod Rows

@@ -6,7 +6,7 @@ use Prim.Native.Nat.{ℕ, _≤_, _<_}
 use lib.ListN.{length}
 use Rattle.readings.specs.declared.Run.{Run}
 use Rattle.readings.specs.Runs.{runDays, dayLen}
-use Rattle.readings.specs.Legal.{highestOf}
+use Rattle.readings.specs.Illegal.{AllLegal, SomeIllegal}
 
 -- a day is left, and the given one is as long as it
 pub record NextDay (run : Run) (n : ℕ) (day : List ℕ) : Type 0 where
@@ -16,5 +16,5 @@ pub record NextDay (run : Run) (n : ℕ) (day : List ℕ) : Type 0 where
 pub data NextRow (run : Run) (limit n : ℕ) (day : List ℕ) : ℕ → Type 0 where
   thirteen : runDays run ≤ n → NextRow run limit n day 13
   four : n < runDays run → (length day ≡ dayLen run n → ⊥) → NextRow run limit n day 4
-  five : NextDay run n day → limit < highestOf day → NextRow run limit n day 5
-  zero : NextDay run n day → highestOf day ≤ limit → NextRow run limit n day 0
+  five : NextDay run n day → SomeIllegal limit day → NextRow run limit n day 5
+  zero : NextDay run n day → AllLegal limit day → NextRow run limit n day 0

@@ -1,0 +1,87 @@
+-- Two modules that meet the demands answer every input alike: the rows fix the number, the columns the figures, and the first illegal reading is one.
+-- Assumes nothing.
+use mathlib.Core.Path.{_≡_, refl, sym, _∙_}
+use mathlib.Core.List.{List, [], _∷_}
+use Prim.Native.Nat.{ℕ, _+_, _<_}
+use native.Mathlib.Decide.{decLt, ℕ-discrete}
+use native.Mathlib.Omega.{arith}
+use Rattle.answers.specs.Said.{Said}
+use Rattle.readings.specs.declared.Run.{Run}
+use Rattle.readings.specs.Illegal.{FirstIllegalIn}
+use Rattle.demands.specs.Refusals.{Carries, NamesFirst, CarriesPlace, FirstToday}
+use Rattle.demands.specs.Demands.{NothingElse}
+use Rattle.demands.proofs.Carried.{said-is}
+
+-- the same number and the same column
+carried-same : {a b : Said} {column : ℕ → List ℕ} → a .number ≡ b .number → Carries a column → Carries b column → a ≡ b
+carried-same {a} {b} {column} e c d = said-is a column (b .number) c e ∙ sym (said-is b column (b .number) d refl)
+
+-- one place alone can be named
+abbrev One : (ℕ → ℕ → Type 0) → Type 0
+One First = (d q e r : ℕ) → First d q → First e r → (d ≡ e) × (q ≡ r)
+
+placed-same : {a b : Said} {First : ℕ → ℕ → Type 0} {column : ℕ → List ℕ} → One First → a .number ≡ b .number → CarriesPlace a First column → CarriesPlace b First column → a ≡ b
+placed-same {a} {b} {First} one e c d = go (ℕ-discrete (a .number) 5)
+  where
+    named : NamesFirst a First → NamesFirst b First → a ≡ b
+    named x y =
+        let p = one (x .on) (x .at) (y .on) (y .at) (x .first) (y .first) in
+        let same : a .carries ≡ b .carries = x .named ∙ (λ i. (p .0 i + 1) ∷ p .1 i ∷ []) ∙ sym (y .named) in
+        λ i. record { number = e i; carries = same i }
+
+    go : Dec (a .number ≡ 5) → a ≡ b
+    go (yes z) = named (c .place z) (d .place (sym e ∙ z))
+    go (no n) = carried-same e (c .listed n) (d .listed (λ z. n (e ∙ z)))
+
+one-in : (run : Run) (limit : ℕ) (xs : List ℕ) → One (FirstIllegalIn run limit xs)
+one-in run limit xs d q e r f g = (day, position)
+  where
+    day : d ≡ e
+    day = go (decLt d e) (decLt e d)
+      where
+        go : Dec (d < e) → Dec (e < d) → d ≡ e
+        go (yes l) m = absurd (omega (arith, f .above, g .days-before d q l (f .at-in)))
+        go (no l) (yes m) = absurd (omega (arith, g .above, f .days-before e r m (g .at-in)))
+        go (no l) (no m) = omega arith
+
+    position : q ≡ r
+    position = go (decLt q r) (decLt r q)
+      where
+        there : FirstIllegalIn run limit xs d r
+        there = rw day g
+
+        go : Dec (q < r) → Dec (r < q) → q ≡ r
+        go (yes l) m = absurd (omega (arith, f .above, there .before q l))
+        go (no l) (yes m) = absurd (omega (arith, there .above, f .before r m))
+        go (no l) (no m) = omega arith
+
+one-today : (limit n : ℕ) (day : List ℕ) → One (FirstToday limit n day)
+one-today limit n day d q e r f g = (f .today ∙ sym (g .today), go (decLt q r) (decLt r q))
+  where
+    go : Dec (q < r) → Dec (r < q) → q ≡ r
+    go (yes l) m = absurd (omega (arith, f .first .above, g .first .before q l))
+    go (no l) (yes m) = absurd (omega (arith, g .first .above, f .first .before r m))
+    go (no l) (no m) = omega arith
+
+pub nothing-else : NothingElse
+nothing-else m n d e =
+    let given = d .exactly-when in
+    let row = e .exactly-when in
+    let mine = d .carried in
+    let other = e .carried in
+    record {
+      calendar = λ y hs k. carried-same (given .calendar y hs k _ .1 (row .calendar y hs k _ .0 refl)) (mine .calendar y hs k) (other .calendar y hs k);
+      read = λ b. carried-same (given .read b _ .1 (row .read b _ .0 refl)) (mine .read b) (other .read b);
+      write = λ s room. carried-same (given .write s room _ .1 (row .write s room _ .0 refl)) (mine .write s room) (other .write s room);
+      windows = λ y level xs buffer. placed-same (one-in _ _ xs) (given .windows y level xs buffer _ .1 (row .windows y level xs buffer _ .0 refl)) (mine .windows y level xs buffer) (other .windows y level xs buffer);
+      grid-open = λ y level. carried-same (given .grid-open y level _ .1 (row .grid-open y level _ .0 refl)) (mine .grid-open y level) (other .grid-open y level);
+      grid-day = λ g day. placed-same (one-today _ (g .seen) day) (given .grid-day g day _ .1 (row .grid-day g day _ .0 refl)) (mine .grid-day g day) (other .grid-day g day);
+      grid-close = λ g buffer. carried-same (given .grid-close g buffer _ .1 (row .grid-close g buffer _ .0 refl)) (mine .grid-close g _) (other .grid-close g _);
+      eligible = λ f level p. carried-same (given .eligible f level p _ .1 (row .eligible f level p _ .0 refl)) (mine .eligible f level p) (other .eligible f level p);
+      charge = λ f p option. carried-same (given .charge f p option _ .1 (row .charge f p option _ .0 refl)) (mine .charge f p option) (other .charge f p option);
+      judge = λ f level p option. carried-same (given .judge f level p option _ .1 (row .judge f level p option _ .0 refl)) (mine .judge f level p option) (other .judge f level p option);
+      decide = λ k xs. placed-same (one-in _ _ xs) (given .decide k xs _ .1 (row .decide k xs _ .0 refl)) (mine .decide k xs) (other .decide k xs);
+      customer-open = λ k. carried-same (given .customer-open k _ .1 (row .customer-open k _ .0 refl)) (mine .customer-open k) (other .customer-open k);
+      customer-day = λ c day. placed-same (one-today _ (c .seen) day) (given .customer-day c day _ .1 (row .customer-day c day _ .0 refl)) (mine .customer-day c day) (other .customer-day c day);
+      customer-close = λ c. carried-same (given .customer-close c _ .1 (row .customer-close c _ .0 refl)) (mine .customer-close c) (other .customer-close c);
+    }

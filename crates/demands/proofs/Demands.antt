@@ -1,0 +1,30 @@
+-- Our module meets the demands.
+-- Assumes nothing.
+use Rattle.demands.specs.Module.{ours}
+use Rattle.demands.specs.Demands.{Demands}
+use Rattle.demands.proofs.Refusals.{left-as-before, fixed-state}
+use Rattle.demands.proofs.Carried.{carried}
+use Rattle.demands.proofs.Calendar.{calendar}
+use Rattle.demands.proofs.Fair.{fairness}
+use Rattle.demands.proofs.HandedBack.{handed-back}
+use Rattle.demands.proofs.Sheets.{sheets}
+use Rattle.demands.proofs.Answers.{exactly-when, to-the-quarter-hour, days-as-whole}
+use Rattle.demands.proofs.Missing.{never-legal}
+use Rattle.demands.proofs.Eligibility.{eligibility}
+
+pub met : Demands ours
+met =
+    record {
+      left-as-before = left-as-before;
+      fixed-state = fixed-state;
+      handed-back = handed-back;
+      carried = carried;
+      exactly-when = exactly-when;
+      never-legal = never-legal;
+      calendar = calendar;
+      to-the-quarter-hour = to-the-quarter-hour;
+      eligibility = eligibility;
+      days-as-whole = days-as-whole;
+      sheets = sheets;
+      fairness = fairness;
+    }

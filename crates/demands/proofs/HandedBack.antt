@@ -1,0 +1,170 @@
+-- States that our calls handed back: those of a refused opening stay the fixed one; those of an accepted one hold the taken readings.
+-- Assumes nothing.
+use mathlib.Core.Path.{_≡_, refl, sym, ap, _∙_}
+use mathlib.Core.Logic.{_⊎_, inl, inr}
+use mathlib.Core.List.{List, []}
+use Prim.Native.Nat.{ℕ, _≤_, _<_}
+use native.Mathlib.Decide.{decLt, ℕ-discrete}
+use native.Mathlib.Omega.{arith}
+use lib.ListN.{length}
+use Rattle.answers.specs.Ruling.{ChargeYear, Level}
+use Rattle.answers.specs.Said.{Said, only}
+use Rattle.periods.specs.Period.{periodDays}
+use Rattle.readings.specs.Days.{offered, takenDays, takenReadings}
+use Rattle.readings.proofs.Runs.{period-run, year-run}
+use Rattle.readings.proofs.Given.{offered-stays}
+use Rattle.readings.proofs.Machines.{Holds, holds-taken, thirteen-full}
+use Rattle.sheet.specs.Bytes.{sheetSize, sheetIn}
+use Rattle.grid.specs.declared.Grid.{Grid}
+use Rattle.grid.specs.Answers.{openAnswer as gridOpens, openGrid, shut as gridShut, dayAnswer as gridDay, dayGrid, closeAnswer as gridCloses}
+use Rattle.grid.specs.Rows.{OpenRow, CloseRow}
+use Rattle.grid.specs.Rows.OpenRow.{one, two, zero}
+use Rattle.grid.specs.Rows.CloseRow.{fourteen, early, seven, one, two, zero}
+use Rattle.grid.proofs.Exactly.{open-exactly, close-exactly}
+use Rattle.grid.proofs.Whole.{holding as gridHolding, machine as gridMachine, opens-empty}
+use Rattle.tariff.specs.Rows.{JudgeRow}
+use Rattle.tariff.specs.Rows.JudgeRow.{two, six, eight, nine, ten, eleven, zero}
+use Rattle.tariff.proofs.Answered.{number-is}
+use Rattle.tariff.specs.declared.Figures.{Figures}
+use Rattle.figures.specs.Figures.{figuresOf}
+use Rattle.customer.specs.declared.Terms.{Terms}
+use Rattle.customer.specs.declared.Customer.{Customer}
+use Rattle.customer.specs.Answers.{termsOf, shut as customerShut, sumMost, dayAnswer as customerDay, dayCustomer, closeAnswer as customerCloses}
+use Rattle.customer.specs.Rows.{CustomerCloseRow}
+use Rattle.customer.specs.Rows.CustomerCloseRow.{early, judged}
+use Rattle.customer.specs.Demand.{Basis, basisRun, basisDays}
+use Rattle.customer.proofs.Exactly.{customer-close-exactly}
+use Rattle.customer.proofs.Answered.{open-taken}
+use Rattle.customer.proofs.Whole.{holding as customerHolding, machine as customerMachine, opens-holding, legal-sum}
+use Rattle.demands.specs.Year.{opensFor, openFor}
+use Rattle.demands.specs.Module.{ours, gridAfter, customerAfter, Refused}
+use Rattle.demands.specs.Refusals.{bare, HandedBack}
+use Rattle.demands.proofs.Refusals.{left-as-before, fixed-state}
+use Rattle.demands.proofs.Carried.{carried, said-is}
+use Rattle.demands.proofs.Fair.{legal-opening}
+
+-- an answer that carries nothing
+bare-zero : {a : Said} → a .number ≡ 0 → a .carries ≡ bare [] (a .number) → a ≡ only 0
+bare-zero {a} z l = said-is a (bare []) 0 (record { listed = l }) z
+
+-- the grid
+module _ (y level : ℕ) (days : List (List ℕ)) where
+  abbrev grid : Grid
+  grid = gridAfter ours y level days
+
+  grid-shut : Refused (gridOpens y level) → grid ≡ gridShut
+  grid-shut r =
+      ap (λ (g : Grid). offered dayGrid g days) (fixed-state .grid-open y level r)
+      ∙ offered-stays dayGrid gridShut (λ day. left-as-before .grid-day gridShut day (λ z. omega (arith, number-is (fixed-state .grid-day day)))) days
+
+  module _ (z : gridOpens y level .number ≡ 0) where
+    grid-holds : Holds (gridMachine y level) (takenReadings gridDay dayGrid (openGrid y level) days) (length (takenDays gridDay dayGrid (openGrid y level) days)) grid
+    grid-holds = holds-taken (gridMachine y level) (openGrid y level) (opens-empty y level (bare-zero z (carried .grid-open y level .listed))) days
+
+    legal-grid : {n : ℕ} → OpenRow y level n → n ≡ 0 → ChargeYear y × Level level
+    legal-grid (one a) e = absurd (omega arith)
+    legal-grid (two a b) e = absurd (omega arith)
+    legal-grid (zero a b) e = (a, b)
+
+    grid-row : (xs : List ℕ) (k room : ℕ) {n : ℕ} → CloseRow (gridHolding y level xs k) room n → (n ≡ 1 → ⊥) × (n ≡ 2 → ⊥)
+    grid-row xs k room (fourteen h) = ((λ e. omega arith), (λ e. omega arith))
+    grid-row xs k room (early h f) = ((λ e. omega arith), (λ e. omega arith))
+    grid-row xs k room (seven c h) = ((λ e. omega arith), (λ e. omega arith))
+    grid-row xs k room (one c h a) = absurd (a (legal-grid (open-exactly y level 0 .0 z) refl .0))
+    grid-row xs k room (two c h a b) = absurd (b (legal-grid (open-exactly y level 0 .0 z) refl .1))
+    grid-row xs k room (zero c h a b) = ((λ e. omega arith), (λ e. omega arith))
+
+  grid-thirteen : (day : List ℕ) → gridDay grid day .number ≡ 13 → Refused (gridOpens y level) ⊎ (length (takenDays gridDay dayGrid (openGrid y level) days) ≡ periodDays y)
+  grid-thirteen day e = go (ℕ-discrete (gridOpens y level .number) 0)
+    where
+      go : Dec (gridOpens y level .number ≡ 0) → Refused (gridOpens y level) ⊎ (length (takenDays gridDay dayGrid (openGrid y level) days) ≡ periodDays y)
+      go (no r) = inl r
+      go (yes z) = inr (thirteen-full (gridMachine y level) (grid-holds z) day e ∙ period-run y)
+
+  grid-never : (buffer : List ℕ) → (gridCloses grid (length buffer) .number ≡ 1 → ⊥) × (gridCloses grid (length buffer) .number ≡ 2 → ⊥)
+  grid-never buffer = go (ℕ-discrete (gridOpens y level .number) 0) (decLt (length buffer) sheetSize)
+    where
+      not-so : {a : Said} {n k : ℕ} → a ≡ only n → (n ≡ k → ⊥) → a .number ≡ k → ⊥
+      not-so e d f = d (sym (number-is e) ∙ f)
+
+      shut-not : {n : ℕ} → gridCloses gridShut (length buffer) ≡ only n → 13 ≤ n → Refused (gridOpens y level) → (gridCloses grid (length buffer) .number ≡ 1 → ⊥) × (gridCloses grid (length buffer) .number ≡ 2 → ⊥)
+      shut-not e l r =
+          let f = ap (λ (g : Grid). gridCloses g (length buffer)) (grid-shut r) ∙ e in
+          (not-so f (λ k. omega arith), not-so f (λ k. omega arith))
+
+      go : Dec (gridOpens y level .number ≡ 0) → Dec (length buffer < sheetSize) → (gridCloses grid (length buffer) .number ≡ 1 → ⊥) × (gridCloses grid (length buffer) .number ≡ 2 → ⊥)
+      go (no r) (yes h) = shut-not (fixed-state .grid-short buffer h) (omega arith) r
+      go (no r) (no h) = shut-not (fixed-state .grid-close buffer (omega arith)) (omega arith) r
+      go (yes z) h =
+          let holds = grid-holds z in
+          rw (holds .is) (grid-row z _ _ _ (close-exactly (gridHolding y level _ _) buffer _ .0 refl))
+
+-- a customer's year
+module _ (k : Basis) (days : List (List ℕ)) where
+  abbrev customer : Customer
+  customer = customerAfter ours k days
+
+  abbrev terms : Terms
+  terms = termsOf (sheetIn (k .sheet)) (k .holidays) (k .prices) (k .option)
+
+  customer-shut : Refused (opensFor k) → customer ≡ customerShut
+  customer-shut r =
+      ap (λ (c : Customer). offered dayCustomer c days) (fixed-state .customer-open k r)
+      ∙ offered-stays dayCustomer customerShut (λ day. left-as-before .customer-day customerShut day (λ z. omega (arith, number-is (fixed-state .customer-day day)))) days
+
+  module _ (z : opensFor k .number ≡ 0) where
+    opens : opensFor k ≡ only 0
+    opens = bare-zero z (carried .customer-open k .listed)
+
+    customer-holds : Holds (customerMachine terms) (takenReadings customerDay dayCustomer (openFor k) days) (length (takenDays customerDay dayCustomer (openFor k) days)) customer
+    customer-holds =
+        holds-taken (customerMachine terms) (openFor k) (sym (open-taken (k .sheet) (k .holidays) (k .prices) (k .option) (sym opens)) ∙ opens-holding terms) days
+
+    judge-row : {n : ℕ} {f : Figures} → JudgeRow f (terms .level) (terms .prices) (terms .option) n → (n ≡ 2 → ⊥) × (n ≡ 6 → ⊥)
+    judge-row (two a) = absurd (a (legal-opening k opens .legal-level))
+    judge-row (six a b) = absurd (b (legal-opening k opens .legal-prices))
+    judge-row (eight h a) = ((λ e. omega arith), (λ e. omega arith))
+    judge-row (nine h a s) = ((λ e. omega arith), (λ e. omega arith))
+    judge-row (ten h s m) = ((λ e. omega arith), (λ e. omega arith))
+    judge-row (eleven h s m r) = ((λ e. omega arith), (λ e. omega arith))
+    judge-row (zero h s m r) = ((λ e. omega arith), (λ e. omega arith))
+
+    customer-row : (xs : List ℕ) (d : ℕ) {n : ℕ} → CustomerCloseRow (customerHolding terms xs d) n → (n ≡ 2 → ⊥) × (n ≡ 6 → ⊥)
+    customer-row xs d (early f) = ((λ e. omega arith), (λ e. omega arith))
+    customer-row xs d (judged f r) = judge-row r
+
+  customer-sum : customer .figures .sum ≤ sumMost (customer .seen)
+  unfolding figuresOf
+  customer-sum = go (ℕ-discrete (opensFor k .number) 0)
+    where
+      go : Dec (opensFor k .number ≡ 0) → customer .figures .sum ≤ sumMost (customer .seen)
+      go (no r) = rw (customer-shut r) (omega arith)
+      go (yes z) = let h = customer-holds z in rw (h .is) (legal-sum (basisRun k) _ _ (h .read))
+
+  customer-thirteen : (day : List ℕ) → customerDay customer day .number ≡ 13 → Refused (opensFor k) ⊎ (length (takenDays customerDay dayCustomer (openFor k) days) ≡ basisDays k)
+  customer-thirteen day e = go (ℕ-discrete (opensFor k .number) 0)
+    where
+      go : Dec (opensFor k .number ≡ 0) → Refused (opensFor k) ⊎ (length (takenDays customerDay dayCustomer (openFor k) days) ≡ basisDays k)
+      go (no r) = inl r
+      go (yes z) = inr (thirteen-full (customerMachine terms) (customer-holds z) day e ∙ year-run (terms .year))
+
+  customer-never : (customerCloses customer .number ≡ 2 → ⊥) × (customerCloses customer .number ≡ 6 → ⊥)
+  customer-never = go (ℕ-discrete (opensFor k .number) 0)
+    where
+      go : Dec (opensFor k .number ≡ 0) → (customerCloses customer .number ≡ 2 → ⊥) × (customerCloses customer .number ≡ 6 → ⊥)
+      go (no r) =
+          let f = number-is (ap customerCloses (customer-shut r) ∙ fixed-state .customer-close) in
+          ((λ e. omega (arith, f)), (λ e. omega (arith, f)))
+      go (yes z) =
+          let h = customer-holds z in
+          rw (h .is) (customer-row z _ _ (customer-close-exactly (customerHolding terms _ _) _ .0 refl))
+
+pub handed-back : HandedBack ours
+handed-back =
+    record {
+      grid-thirteen = grid-thirteen;
+      grid-never = grid-never;
+      customer-sum = customer-sum;
+      customer-thirteen = customer-thirteen;
+      customer-never = customer-never;
+    }

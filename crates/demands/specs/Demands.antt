@@ -1,0 +1,55 @@
+-- The three demands, of any module: what it is held to, one record for each part.
+use mathlib.Core.Path.{_≡_}
+use mathlib.Core.Bool.{Bool}
+use mathlib.Core.List.{List}
+use Prim.Native.Nat.{ℕ}
+use lib.ListN.{length}
+use Rattle.sheet.specs.declared.Sheet.{Sheet}
+use Rattle.grid.specs.declared.Grid.{Grid}
+use Rattle.tariff.specs.declared.Prices.{Prices}
+use Rattle.tariff.specs.declared.Figures.{Figures}
+use Rattle.customer.specs.declared.Customer.{Customer}
+use Rattle.customer.specs.Demand.{Basis}
+use Rattle.demands.specs.Module.{Module}
+use Rattle.demands.specs.Refusals.{LeftAsBefore, FixedState, HandedBack, Carried}
+use Rattle.demands.specs.Calendar.{Calendar}
+use Rattle.demands.specs.Answers.{ExactlyWhen, NeverLegal, ToTheQuarterHour, Eligibility, DaysAsWhole}
+use Rattle.demands.specs.Sheets.{Sheets}
+use Rattle.demands.specs.Fair.{Fairness}
+
+pub record Demands (m : Module) : Type 0 where
+  -- demand 1
+  pub left-as-before : LeftAsBefore m
+  pub fixed-state : FixedState m
+  pub handed-back : HandedBack m
+  pub carried : Carried m
+  -- demand 2
+  pub exactly-when : ExactlyWhen m
+  pub never-legal : NeverLegal m
+  pub calendar : Calendar m
+  pub to-the-quarter-hour : ToTheQuarterHour m
+  pub eligibility : Eligibility m
+  pub days-as-whole : DaysAsWhole m
+  pub sheets : Sheets m
+  -- demand 3
+  pub fairness : Fairness m
+
+-- What the demands leave open is no answer: two modules that meet them answer every input alike, number and figures, forged states included.
+pub record AnswersAlike (m n : Module) : Type 0 where
+  pub calendar : (y : ℕ) (hs : List ℕ) (d : ℕ) → m .calendar y hs d ≡ n .calendar y hs d
+  pub read : (b : List ℕ) → m .read b ≡ n .read b
+  pub write : (s : Sheet) (room : ℕ) → m .write s room ≡ n .write s room
+  pub windows : (y level : ℕ) (xs buffer : List ℕ) → m .windows y level xs (length buffer) ≡ n .windows y level xs (length buffer)
+  pub grid-open : (y level : ℕ) → m .gridOpen y level ≡ n .gridOpen y level
+  pub grid-day : (g : Grid) (day : List ℕ) → m .gridDay g day ≡ n .gridDay g day
+  pub grid-close : (g : Grid) (buffer : List ℕ) → m .gridClose g (length buffer) ≡ n .gridClose g (length buffer)
+  pub eligible : (f : Figures) (level : ℕ) (p : Prices) → m .eligible f level p ≡ n .eligible f level p
+  pub charge : (f : Figures) (p : Prices) (option : Bool) → m .charge f p option ≡ n .charge f p option
+  pub judge : (f : Figures) (level : ℕ) (p : Prices) (option : Bool) → m .judge f level p option ≡ n .judge f level p option
+  pub decide : (k : Basis) (xs : List ℕ) → m .decide k xs ≡ n .decide k xs
+  pub customer-open : (k : Basis) → m .customerOpen k ≡ n .customerOpen k
+  pub customer-day : (c : Customer) (day : List ℕ) → m .customerDay c day ≡ n .customerDay c day
+  pub customer-close : (c : Customer) → m .customerClose c ≡ n .customerClose c
+
+abbrev pub NothingElse : Type 0
+NothingElse = (m n : Module) → Demands m → Demands n → AnswersAlike m n

@@ -1,0 +1,98 @@
+-- A module as its callers see it: what each call answers, and what it leaves in a state or in a lent buffer. The demands are said of any such module, so that
+-- what is wrong can be said of any, too. `ours` is the one that is proved here: each of our calls promises the definition that stands beside its name
+-- (docs/PROMISES.md).
+use mathlib.Core.Path.{_≡_}
+use mathlib.Core.Bool.{Bool}
+use mathlib.Core.List.{List}
+use Prim.Native.Nat.{ℕ}
+use lib.ListN.{length}
+use Rattle.answers.specs.Said.{Said}
+use Rattle.calendar.specs.Answer.{dayAnswer as calendarAnswer}
+use Rattle.readings.specs.Days.{offered}
+use Rattle.sheet.specs.declared.Sheet.{Sheet}
+use Rattle.sheet.specs.Answers.{readAnswer, readSheet, writeAnswer, written as sheetWritten}
+use Rattle.grid.specs.declared.Grid.{Grid}
+use Rattle.grid.specs.Answers.{windowsAnswer, windowsBuffer, openAnswer as gridOpens, openGrid, dayAnswer as gridDayAnswer, dayGrid, closeAnswer as gridCloses, closeBuffer}
+use Rattle.tariff.specs.declared.Prices.{Prices}
+use Rattle.tariff.specs.declared.Figures.{Figures}
+use Rattle.tariff.specs.Decision.{eligibleAnswer, chargeAnswer, judgeAnswer}
+use Rattle.customer.specs.declared.Customer.{Customer}
+use Rattle.customer.specs.Answers.{dayAnswer as customerDayAnswer, dayCustomer, closeAnswer as customerCloses}
+use Rattle.customer.specs.Demand.{Basis}
+use Rattle.demands.specs.Year.{opensFor, openFor, decideFor}
+
+pub record Module : Type 0 where
+  -- a calendar day: year, holiday list, day
+  pub calendar : ℕ → List ℕ → ℕ → Said
+  -- a sheet that is read from bytes: the answer, and the sheet beside it
+  pub read : List ℕ → Said
+  pub sheetRead : List ℕ → Sheet
+  -- a sheet that is written into a lent buffer: the answer by the buffer's length, and the buffer then
+  pub write : Sheet → ℕ → Said
+  pub written : Sheet → List ℕ → List ℕ
+  -- the windows of a whole grid series: year, level, readings, and a lent buffer for the sheet
+  pub windows : ℕ → ℕ → List ℕ → ℕ → Said
+  pub windowsLaid : ℕ → ℕ → List ℕ → List ℕ → List ℕ
+  -- the same by days: opening with its state, a day with the next state, closing with the buffer then
+  pub gridOpen : ℕ → ℕ → Said
+  pub gridOpened : ℕ → ℕ → Grid
+  pub gridDay : Grid → List ℕ → Said
+  pub gridNext : Grid → List ℕ → Grid
+  pub gridClose : Grid → ℕ → Said
+  pub gridLaid : Grid → List ℕ → List ℕ
+  -- the rules over figures: level, prices and option as each of them asks for
+  pub eligible : Figures → ℕ → Prices → Said
+  pub charge : Figures → Prices → Bool → Said
+  pub judge : Figures → ℕ → Prices → Bool → Said
+  -- a customer's whole year; and by days
+  pub decide : Basis → List ℕ → Said
+  pub customerOpen : Basis → Said
+  pub customerOpened : Basis → Customer
+  pub customerDay : Customer → List ℕ → Said
+  pub customerNext : Customer → List ℕ → Customer
+  pub customerClose : Customer → Said
+
+abbrev pub ours : Module
+ours =
+    record {
+      calendar = calendarAnswer;
+      read = readAnswer;
+      sheetRead = readSheet;
+      write = writeAnswer;
+      written = sheetWritten;
+      windows = windowsAnswer;
+      windowsLaid = windowsBuffer;
+      gridOpen = gridOpens;
+      gridOpened = openGrid;
+      gridDay = gridDayAnswer;
+      gridNext = dayGrid;
+      gridClose = gridCloses;
+      gridLaid = closeBuffer;
+      eligible = eligibleAnswer;
+      charge = chargeAnswer;
+      judge = judgeAnswer;
+      decide = decideFor;
+      customerOpen = opensFor;
+      customerOpened = openFor;
+      customerDay = customerDayAnswer;
+      customerNext = dayCustomer;
+      customerClose = customerCloses;
+    }
+
+-- the state after days that are offered to an opening, refused ones among them
+abbrev pub gridAfter : Module → ℕ → ℕ → List (List ℕ) → Grid
+gridAfter m y level days = offered (m .gridNext) (m .gridOpened y level) days
+
+abbrev pub customerAfter : Module → Basis → List (List ℕ) → Customer
+customerAfter m k days = offered (m .customerNext) (m .customerOpened k) days
+
+-- what a grid series ends in, by closing a state or by the call for whole series: the answer, and the lent buffer then
+abbrev pub gridEnd : Module → List ℕ → Grid → Said × List ℕ
+gridEnd m buffer g = (m .gridClose g (length buffer), m .gridLaid g buffer)
+
+abbrev pub gridWhole : Module → ℕ → ℕ → List ℕ → List ℕ → Said × List ℕ
+gridWhole m y level buffer xs = (m .windows y level xs (length buffer), m .windowsLaid y level xs buffer)
+
+-- a refusal is an answer with another number than 0
+abbrev pub Refused : Said → Type 0
+Refused a = a .number ≡ 0 → ⊥

@@ -1,0 +1,56 @@
+-- Demand 2: "A sheet that we write reads back as the same windows; two sheets with one meaning have the same bytes." And where a sheet's meaning stands in
+-- its bytes, written out: the mark, version, year, level and each bit.
+use mathlib.Core.Path.{_≡_}
+use mathlib.Core.Bool.{true}
+use mathlib.Core.Logic.{_↔_}
+use mathlib.Core.List.{List}
+use Prim.Native.Nat.{ℕ, _+_, _-_, _*_, _/_, _%_, _^_, _<_}
+use lib.ListN.{length, getD, take, drop}
+use Rattle.over.specs.Limits.{Within}
+use Rattle.answers.specs.Said.{only}
+use Rattle.sheet.specs.declared.Sheet.{Sheet}
+use Rattle.sheet.specs.Windows.{places, isSet}
+use Rattle.sheet.specs.Bytes.{AreBytes}
+use Rattle.demands.specs.Module.{Module}
+
+-- the bytes b are those of sheet s: "HLZ", version 1, year and level, high bytes first; then bit 7 - q % 8 (7 is the top bit) of byte 8 + 12 (n - 1) + q / 8
+-- is set exactly when quarter q of season n is a window
+pub record LaidOut (b : List ℕ) (s : Sheet) : Type 0 where
+  pub size : length b ≡ 56
+  pub h : getD b 0 0 ≡ 72
+  pub l : getD b 1 0 ≡ 76
+  pub z : getD b 2 0 ≡ 90
+  pub version : 256 * getD b 3 0 + getD b 4 0 ≡ 1
+  pub year : 256 * getD b 5 0 + getD b 6 0 ≡ s .year
+  pub level : getD b 7 0 ≡ s .level
+  pub windows :
+      (n q : ℕ)
+      → Within 1 4 n
+      → q < 96
+      → (getD b (8 + 12 * (n - 1) + q / 8) 0 / 2 ^ (7 - q % 8) % 2 ≡ 1) ↔ (isSet (s .windows) n q ≡ true)
+
+-- A sheet's array of windows has 384 places, and a lent slice is of bytes: `AreBytes` says that each entry is below 256.
+pub record Sheets (m : Module) : Type 0 where
+  -- an accepted sheet stands in the first 56 bytes; "all further bytes stay"
+  pub written-so :
+      (s : Sheet) (buffer : List ℕ)
+      → length (s .windows) ≡ places
+      → m .write s (length buffer) .number ≡ 0
+      → LaidOut (take 56 (m .written s buffer)) s
+  pub rest-stays : (s : Sheet) (buffer : List ℕ) → m .write s (length buffer) .number ≡ 0 → drop 56 (m .written s buffer) ≡ drop 56 buffer
+  -- what is read is what stands there
+  pub read-so : (b : List ℕ) → m .read b .number ≡ 0 → LaidOut b (m .sheetRead b)
+  -- so what is written reads back as the same windows, and one meaning has one list of bytes
+  pub reads-back :
+      (s : Sheet) (buffer : List ℕ)
+      → length (s .windows) ≡ places
+      → m .write s (length buffer) .number ≡ 0
+      → (m .read (take 56 (m .written s buffer)) ≡ only 0) × (m .sheetRead (take 56 (m .written s buffer)) ≡ s)
+  pub same-bytes :
+      (b c : List ℕ)
+      → AreBytes b
+      → AreBytes c
+      → m .read b .number ≡ 0
+      → m .read c .number ≡ 0
+      → m .sheetRead b ≡ m .sheetRead c
+      → b ≡ c
