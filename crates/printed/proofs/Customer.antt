@@ -39,13 +39,14 @@ use Rattle.fields.specs.declared.Stage.the-variants.{Going, Refused, Complete}
 use Rattle.customer_file.specs.declared.CustomerFile.{CustomerFile}
 use Rattle.fields.specs.Stages.{going, stageOf, saidOfStage}
 use Rattle.customer_head.specs.Header.{sheetPart, optionOf, holidaysOf, pricesOf, customerLayout, openedIn}
-use Rattle.customer_file.specs.Customer.{customerAnswer, statementPrinted}
+use Rattle.customer_file.specs.Customer.{customerAnswer}
 use Rattle.customer_file.specs.CustomerMachine.{openedWith, customerHead, customerStart, customerEnded, customerReader, customerWants, customerFed, customerText}
 use Rattle.customer_head.proofs.CustomerLayout.{count-few, count-is}
 use Rattle.fields.proofs.Machine.{wants-field, wants-day, wants-end, fed-none, fed-field, fed-day, fed-end, field-cut, field-refused, field-taken, day-cut, day-refused, day-taken, end-left, end-done}
 use Rattle.customer_file.proofs.CustomerCases.{day-cases}
 use Rattle.printed.proofs.CustomerHeader.{looks-back, opened-same}
 use Rattle.printed.proofs.CustomerOpening.{year-is, opens}
+use Rattle.printed.specs.Printed.{StatementPrinted}
 
 abbrev Halted : CustomerFile → Said → Type 0
 Halted s x = Stopped customerWants customerFed customerText statementLine s x
@@ -216,7 +217,7 @@ module _ (bytes : List ℕ) where
   answer-is = ap (λ (y : ℕ). fileAnswer l (yearRun y) customerMost done bytes) (year-is bytes)
 
 -- 423 turns are enough for every file: at most 56 fields, 366 days, and one for what comes after them
-pub statement-printed : (bytes : List ℕ) (turns : ℕ) → 423 ≤ turns → customerText (driven customerWants customerFed turns customerStart bytes) ≡ statementPrinted bytes
+pub statement-printed : StatementPrinted
 statement-printed bytes turns t =
     ap (λ (s : CustomerFile). customerText (driven customerWants customerFed turns s bytes)) (starts bytes)
     ∙ file-driven (file bytes) turns (omega (arith, count-is bytes, count-few bytes, days-most (run bytes)))

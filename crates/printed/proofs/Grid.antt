@@ -40,13 +40,14 @@ use Rattle.fields.proofs.Fed.{heldIn, LooksBack, FeedsField, feeds-field, heldA
 use Rattle.lines.specs.Figures.{refusedLine}
 use Rattle.fields.specs.declared.Stage.the-variants.{Going, Refused, Complete}
 use Rattle.grid_file.specs.declared.GridFile.{GridFile}
-use Rattle.grid_file.specs.Grid.{gridMark, gridLayout, gridYear, gridLevel, blankSheet, withSheet, wholeGrid, gridAnswer, windowLines, windowsPrinted}
+use Rattle.grid_file.specs.Grid.{gridMark, gridLayout, gridYear, gridLevel, blankSheet, withSheet, wholeGrid, gridAnswer, windowLines}
 use Rattle.fields.specs.Stages.{stageOf}
-use Rattle.grid_file.specs.GridMachine.{gridHead, gridStart, gridEnded, gridReader, gridWants, gridFed, closedGrid, gridText}
+use Rattle.grid_file.specs.GridMachine.{gridHead, gridEnded, gridReader, gridWants, gridFed, closedGrid, gridText}
 use Rattle.packed.proofs.Bytes.{two-same}
 use Rattle.fields.proofs.Common.{mark-own, version-own, year-own, level-own, year-no, level-no, unrefused}
 use Rattle.grid_file.proofs.GridLayout.{grid-count, grid-width, grid-start, grid-size, refuses-mark, refuses-version, refuses-year, refuses-level}
 use Rattle.fields.proofs.Machine.{wants-field, wants-day, wants-end, fed-none, fed-field, fed-day, fed-end, field-cut, field-refused, field-taken, day-cut, day-refused, day-taken, end-left, end-done}
+use Rattle.printed.specs.Printed.{WindowsPrinted}
 
 -- no field's number looks at a byte behind it
 looks-back : (bytes : List ℕ) → LooksBack gridLayout bytes
@@ -255,7 +256,7 @@ module _ (bytes : List ℕ) where
       }
 
 -- for every byte list, with turns enough for the header, the days and the end: 4 fields, at most 366 days, and 1
-pub windows-printed : (bytes : List ℕ) (turns : ℕ) → 371 ≤ turns → gridText (driven gridWants gridFed turns gridStart bytes) ≡ windowsPrinted bytes
+pub windows-printed : WindowsPrinted
 unfolding gridAnswer
 windows-printed bytes turns h =
     let l = gridLayout bytes in

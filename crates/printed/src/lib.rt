@@ -1,3 +1,3 @@
-// What the two programs print: driven over any bytes, the machine of a file prints what the file's bytes are answered (`windows-printed` in proofs/Grid,
-// `statement-printed` in proofs/Customer). And nothing is decided twice: a field that is refused has the number that the opening would give
+// What the two programs print: driven over any bytes, the machine of a file prints what the file's bytes are answered (specs/Printed; `windows-printed` in
+// proofs/Grid, `statement-printed` in proofs/Customer). And nothing is decided twice: a field that is refused has the number that the opening would give
 // (`grid-once` and `customer-once` in proofs/Refused). No code.

@@ -1,0 +1,20 @@
+-- Document 01, Two programs: what each prints, for every list of bytes on standard input. A program hands its machine, turn by turn, as many bytes as the
+-- machine wants (`driven`); with turns enough for the header's fields, for the days and for the end, the machine's text is what the file's bytes are
+-- answered. The window program's header has 4 fields; the statement program's at most 56 with 40 holidays; a year or a period has at most 366 days.
+use mathlib.Core.Path.{_≡_}
+use mathlib.Core.List.{List}
+use Prim.Native.Nat.{ℕ, _+_, _≤_}
+use Rattle.fields.specs.File.{driven}
+use Rattle.grid_file.specs.Grid.{windowsPrinted}
+use Rattle.grid_file.specs.GridMachine.{gridStart, gridWants, gridFed, gridText}
+use Rattle.customer_file.specs.Customer.{statementPrinted}
+use Rattle.customer_file.specs.CustomerMachine.{customerStart, customerWants, customerFed, customerText}
+
+abbrev pub WindowsPrinted : Type 0
+WindowsPrinted = (bytes : List ℕ) (turns : ℕ) → 4 + 366 + 1 ≤ turns → gridText (driven gridWants gridFed turns gridStart bytes) ≡ windowsPrinted bytes
+
+abbrev pub StatementPrinted : Type 0
+StatementPrinted =
+    (bytes : List ℕ) (turns : ℕ)
+    → 56 + 366 + 1 ≤ turns
+    → customerText (driven customerWants customerFed turns customerStart bytes) ≡ statementPrinted bytes
