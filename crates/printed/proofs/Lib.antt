@@ -3,3 +3,7 @@ pub mod CustomerHeader
 pub mod CustomerOpening
 pub mod Customer
 pub mod Refused
+pub mod Series
+pub mod OneReading
+pub mod ExampleSheet
+pub mod Examples

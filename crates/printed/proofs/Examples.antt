@@ -1,0 +1,7 @@
+-- The printed examples of document 01 hold, from the series and from the file's bytes.
+-- Assumes nothing.
+use Rattle.printed.specs.Examples.{Examples}
+use Rattle.printed.proofs.ExampleSheet.{sheet-laid}
+
+pub examples : Examples
+examples = record { sheet = sheet-laid }

@@ -1,0 +1,43 @@
+-- Laws of a run's series that is given by its readings: it is as long as its days, and it has these readings.
+-- Assumes nothing.
+use mathlib.Core.Path.{_≡_, sym, ap, _∙_}
+use mathlib.Core.List.{List, _++_}
+use Prim.Native.Nat.{ℕ, zero, suc, _+_, _<_}
+use native.Mathlib.Nat.{not-suc-le-zero}
+use native.Mathlib.Decide.{decLt}
+use native.Mathlib.Omega.{arith}
+use lib.ListN.{length, length-append}
+use Rattle.over.specs.Over.{table}
+use Rattle.over.proofs.Joined.{joined-none, joined-suc}
+use Rattle.over.proofs.Tables.{length-table, getD-table}
+use Rattle.readings.specs.declared.Run.{Run}
+use Rattle.readings.specs.Runs.{dayLen, dayStart, reading}
+use Rattle.readings.proofs.Runs.{start-none, start-suc}
+use Rattle.readings.proofs.Days.{same-before, same-day}
+use Rattle.printed.specs.Examples.{seriesOf}
+
+module _ (run : Run) (f : ℕ → ℕ → ℕ) where
+  abbrev day : ℕ → List ℕ
+  day d = table (f d) (dayLen run d)
+
+  series-suc : (n : ℕ) → seriesOf run f (suc n) ≡ seriesOf run f n ++ day n
+  unfolding seriesOf
+  series-suc n = joined-suc _++_ _ day n
+
+  pub series-long : (n : ℕ) → length (seriesOf run f n) ≡ dayStart run n
+  unfolding seriesOf
+  series-long zero = ap length (joined-none _++_ _ day) ∙ sym (start-none run)
+  series-long (suc n) =
+      ap length (series-suc n)
+      ∙ length-append (seriesOf run f n) (day n)
+      ∙ omega (arith, series-long n, length-table (f n) (dayLen run n), start-suc run n)
+
+  pub series-reads : (n d p : ℕ) → d < n → p < dayLen run d → reading run (seriesOf run f n) d p ≡ f d p
+  series-reads zero d p l m = absurd (not-suc-le-zero l)
+  series-reads (suc n) d p l m = ap (λ (xs : List ℕ). reading run xs d p) (series-suc n) ∙ go (decLt d n) (series-reads n d p)
+    where
+      go : Dec (d < n) → (d < n → p < dayLen run d → reading run (seriesOf run f n) d p ≡ f d p) → reading run (seriesOf run f n ++ day n) d p ≡ f d p
+      go (yes h) ih = sym (same-before run (seriesOf run f n) (day n) n (series-long n) d p h m) ∙ ih h m
+      go (no h) ih =
+          let e : d ≡ n = omega arith in
+          rw e (sym (same-day run (seriesOf run f n) (day n) n (series-long n) p) ∙ getD-table (f n) (dayLen run n) p 0 (omega (arith, ap (dayLen run) e)))

@@ -1,0 +1,105 @@
+-- Document 01, Two programs: the two printed examples, and Figures on each side, case 12: from the series, and from the bytes of the file that holds
+-- it, to the sheet and to the printed lines. The statement is `Examples`.
+use mathlib.Core.Path.{_≡_}
+use mathlib.Core.Bool.{Bool, cond, _&&_}
+use mathlib.Core.List.{List, [], _∷_, _++_}
+use Prim.Native.Nat.{ℕ, _+_, _≤_}
+use lib.Dec.{eqb}
+use lib.ListN.{length, drop}
+use Rattle.over.specs.Over.{joined, table, digitOf}
+use Rattle.answers.specs.Said.{Said, only}
+use Rattle.dates.specs.Dates.{dayOf}
+use Rattle.periods.specs.Period.{lateDays}
+use Rattle.readings.specs.declared.Run.{Run}
+use Rattle.readings.specs.Runs.{runDays, dayLen, quarterOf}
+use Rattle.sheet.specs.Bytes.{sheetSize}
+use Rattle.grid_curves.specs.Curves.{periodRun}
+use Rattle.grid.specs.Answers.{windowsAnswer, windowsBuffer}
+use Rattle.day_figures.specs.Counts.{yearRun}
+use Rattle.fields.specs.Series.{readingBytes}
+use Rattle.grid_file.specs.Grid.{gridMark}
+use Rattle.customer_head.specs.Header.{customerMark}
+use Rattle.demands.specs.Cases.{exampleSheet}
+
+-- the series of a run's first n days that has the reading f d p at position p of day d, both from 0
+unfoldable pub seriesOf : Run → (ℕ → ℕ → ℕ) → ℕ → List ℕ
+seriesOf run f n = joined _++_ [] (λ d. table (f d) (dayLen run d)) n
+
+-- position p of day d is this quarter of this day of the run, the day from 1
+abbrev pub isAt : Run → ℕ → ℕ → ℕ → ℕ → Bool
+isAt run day quarter d p = eqb (d + 1) day && eqb (quarterOf run d p) quarter
+
+-- The window program's example: every reading of the period is 1,000 kW, but quarter 72 of 15 January 2024 has 2,000. That day's number in the period
+-- counts the days of 2023 from 1 September on, then those of 2024.
+abbrev pub gridRun : Run
+gridRun = periodRun 2025
+
+unfoldable pub otherDay : ℕ
+otherDay = lateDays 2023 + dayOf 2024 1 15
+
+abbrev pub gridReading : ℕ → ℕ → ℕ
+gridReading d p = cond (isAt gridRun otherDay 72 d p) 2000 1000
+
+unfoldable pub gridSeries : List ℕ
+gridSeries = seriesOf gridRun gridReading (runDays gridRun)
+
+-- The statement program's example: every reading of 2025 is 0, but quarter 0 of 4 January, a Saturday, has 1,000,000 W, and quarter 72 of 2 January,
+-- a Thursday, has 500,000.
+abbrev pub customerRun : Run
+customerRun = yearRun 2025
+
+unfoldable pub saturdayDay : ℕ
+saturdayDay = dayOf 2025 1 4
+
+unfoldable pub thursdayDay : ℕ
+thursdayDay = dayOf 2025 1 2
+
+abbrev pub customerReading : ℕ → ℕ → ℕ
+customerReading d p = cond (isAt customerRun saturdayDay 0 d p) 1000000 (cond (isAt customerRun thursdayDay 72 d p) 500000 0)
+
+unfoldable pub customerSeries : List ℕ
+customerSeries = seriesOf customerRun customerReading (runDays customerRun)
+
+-- a number of 32 bits as four bytes, high byte first, and the bytes of readings, one reading after the other
+unfoldable pub fourBytes : ℕ → List ℕ
+fourBytes n = table (digitOf 256 readingBytes n) readingBytes
+
+unfoldable pub seriesBytes : List ℕ → List ℕ
+seriesBytes [] = []
+seriesBytes (x ∷ xs) = fourBytes x ++ seriesBytes xs
+
+-- the two files: mark and version 1; year 2025 and level 5, or the sheet of case 12, option 0, no holidays and the four prices; the readings
+abbrev pub gridHeader : List ℕ
+gridHeader = gridMark ++ (0x00 ∷ 0x01 ∷ 0x07 ∷ 0xe9 ∷ 0x05 ∷ [])
+
+unfoldable pub gridFile : List ℕ
+gridFile = gridHeader ++ seriesBytes gridSeries
+
+abbrev pub priceBytes : List ℕ
+priceBytes = fourBytes 2000 ++ (fourBytes 4000 ++ (fourBytes 10000 ++ fourBytes 800))
+
+abbrev pub customerHeader : List ℕ
+customerHeader = customerMark ++ ((0x00 ∷ 0x01 ∷ []) ++ (exampleSheet ++ ((0x00 ∷ 0x00 ∷ []) ++ priceBytes)))
+
+unfoldable pub customerFile : List ℕ
+customerFile = customerHeader ++ seriesBytes customerSeries
+
+-- `HLZ 2025 5`, `1 18:00-18:15`, `2 none`, `3 none`, `4 none`
+abbrev pub windowsText : List ℕ
+windowsText = 72 ∷ 76 ∷ 90 ∷ 32 ∷ 50 ∷ 48 ∷ 50 ∷ 53 ∷ 32 ∷ 53 ∷ 10 ∷ 49 ∷ 32 ∷ 49 ∷ 56 ∷ 58 ∷ 48 ∷ 48 ∷ 45 ∷ 49 ∷ 56 ∷ 58 ∷ 49 ∷ 53 ∷ 10 ∷ 50 ∷ 32 ∷ 110 ∷ 111 ∷ 110 ∷ 101 ∷ 10 ∷ 51 ∷ 32 ∷ 110 ∷ 111 ∷ 110 ∷ 101 ∷ 10 ∷ 52 ∷ 32 ∷ 110 ∷ 111 ∷ 110 ∷ 101 ∷ 10 ∷ []
+
+-- `0 1001500 2001500 1000000 1500000 500000 2 72`: what the year is answered, and its line
+abbrev pub customerSaid : Said
+customerSaid = record { number = 0; carries = 1001500 ∷ 2001500 ∷ 1000000 ∷ 1500000 ∷ 500000 ∷ 2 ∷ 72 ∷ [] }
+
+abbrev pub statementText : List ℕ
+statementText = 48 ∷ 32 ∷ 49 ∷ 48 ∷ 48 ∷ 49 ∷ 53 ∷ 48 ∷ 48 ∷ 32 ∷ 50 ∷ 48 ∷ 48 ∷ 49 ∷ 53 ∷ 48 ∷ 48 ∷ 32 ∷ 49 ∷ 48 ∷ 48 ∷ 48 ∷ 48 ∷ 48 ∷ 48 ∷ 32 ∷ 49 ∷ 53 ∷ 48 ∷ 48 ∷ 48 ∷ 48 ∷ 48 ∷ 32 ∷ 53 ∷ 48 ∷ 48 ∷ 48 ∷ 48 ∷ 48 ∷ 32 ∷ 50 ∷ 32 ∷ 55 ∷ 50 ∷ 10 ∷ []
+
+-- the grid's series lays the sheet of case 12 into every buffer with room for it, and the bytes behind it stay
+pub record SheetLaid (buffer : List ℕ) : Type 0 where
+  pub accepted : windowsAnswer 2025 5 gridSeries (length buffer) ≡ only 0
+  pub laid : windowsBuffer 2025 5 gridSeries buffer ≡ exampleSheet ++ drop sheetSize buffer
+
+pub record Examples : Type 0 where
+  -- case 12, from the series to the sheet's bytes
+  pub sheet : (buffer : List ℕ) → sheetSize ≤ length buffer → SheetLaid buffer
