@@ -2,6 +2,7 @@
 -- Assumes nothing.
 use Rattle.printed.specs.Examples.{Examples}
 use Rattle.printed.proofs.ExampleSheet.{sheet-laid}
+use Rattle.printed.proofs.ExampleLines.{windows-example}
 
 pub examples : Examples
-examples = record { sheet = sheet-laid }
+examples = record { sheet = sheet-laid; windows = windows-example }

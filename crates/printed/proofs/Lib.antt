@@ -5,5 +5,7 @@ pub mod Customer
 pub mod Refused
 pub mod Series
 pub mod OneReading
+pub mod FileBytes
 pub mod ExampleSheet
+pub mod ExampleLines
 pub mod Examples

@@ -1,12 +1,13 @@
 -- Laws of a run's series that is given by its readings: it is as long as its days, and it has these readings.
 -- Assumes nothing.
 use mathlib.Core.Path.{_≡_, sym, ap, _∙_}
-use mathlib.Core.List.{List, _++_}
-use Prim.Native.Nat.{ℕ, zero, suc, _+_, _<_}
+use mathlib.Core.List.{List, [], _++_}
+use Prim.Native.Nat.{ℕ, zero, suc, _+_, _-_, _<_}
 use native.Mathlib.Nat.{not-suc-le-zero}
 use native.Mathlib.Decide.{decLt}
 use native.Mathlib.Omega.{arith}
-use lib.ListN.{length, length-append}
+use lib.ListN.{length, getD, length-append, List·getD-append, List·getD-eq-default}
+use lib.Seq.{getD-append-add}
 use Rattle.over.specs.Over.{table}
 use Rattle.over.proofs.Joined.{joined-none, joined-suc}
 use Rattle.over.proofs.Tables.{length-table, getD-table}
@@ -41,3 +42,22 @@ module _ (run : Run) (f : ℕ → ℕ → ℕ) where
       go (no h) ih =
           let e : d ≡ n = omega arith in
           rw e (sym (same-day run (seriesOf run f n) (day n) n (series-long n) p) ∙ getD-table (f n) (dayLen run n) p 0 (omega (arith, ap (dayLen run) e)))
+
+  -- a bound of every f is one of every reading
+  pub series-low : (b : ℕ) → 0 < b → ((d p : ℕ) → f d p < b) → (n i : ℕ) → getD (seriesOf run f n) i 0 < b
+  unfolding seriesOf
+  series-low b some low zero i = rw (joined-none _++_ [] day) some
+  series-low b some low (suc n) i = rw (series-suc n) (go (decLt i (length (seriesOf run f n))) (series-low b some low n i))
+    where
+      xs : List ℕ
+      xs = seriesOf run f n
+
+      in-day : (p : ℕ) → Dec (p < dayLen run n) → getD (day n) p 0 < b
+      in-day p (yes m) = rw (getD-table (f n) (dayLen run n) p 0 m) (low n p)
+      in-day p (no m) = rw (List·getD-eq-default (day n) 0 {n = p} (omega (arith, length-table (f n) (dayLen run n)))) some
+
+      go : Dec (i < length xs) → getD xs i 0 < b → getD (xs ++ day n) i 0 < b
+      go (yes l) ih = rw (List·getD-append xs (day n) 0 i l) ih
+      go (no l) ih =
+          let e : length xs + (i - length xs) ≡ i = omega arith in
+          rw (← e, getD-append-add xs (day n) (i - length xs) 0) (in-day (i - length xs) (decLt (i - length xs) (dayLen run n)))

@@ -17,7 +17,9 @@ use Rattle.grid_curves.specs.Curves.{periodRun}
 use Rattle.grid.specs.Answers.{windowsAnswer, windowsBuffer}
 use Rattle.day_figures.specs.Counts.{yearRun}
 use Rattle.fields.specs.Series.{readingBytes}
-use Rattle.grid_file.specs.Grid.{gridMark}
+use Rattle.fields.specs.File.{driven}
+use Rattle.grid_file.specs.Grid.{gridMark, windowsPrinted}
+use Rattle.grid_file.specs.GridMachine.{gridStart, gridWants, gridFed, gridText}
 use Rattle.customer_head.specs.Header.{customerMark}
 use Rattle.demands.specs.Cases.{exampleSheet}
 
@@ -100,6 +102,13 @@ pub record SheetLaid (buffer : List ℕ) : Type 0 where
   pub accepted : windowsAnswer 2025 5 gridSeries (length buffer) ≡ only 0
   pub laid : windowsBuffer 2025 5 gridSeries buffer ≡ exampleSheet ++ drop sheetSize buffer
 
+-- a file has this text: what is printed of its bytes, and what the machine that a program drives over them prints, with turns enough
+pub record Prints (printed : List ℕ) (machine : ℕ → List ℕ) (enough : ℕ) (text : List ℕ) : Type 0 where
+  pub of-bytes : printed ≡ text
+  pub of-machine : (turns : ℕ) → enough ≤ turns → machine turns ≡ text
+
 pub record Examples : Type 0 where
   -- case 12, from the series to the sheet's bytes
   pub sheet : (buffer : List ℕ) → sheetSize ≤ length buffer → SheetLaid buffer
+  -- the window program's example, from the file's bytes to its lines
+  pub windows : Prints (windowsPrinted gridFile) (λ turns. gridText (driven gridWants gridFed turns gridStart gridFile)) 371 windowsText
