@@ -2,7 +2,7 @@
 -- room for it.
 -- Assumes nothing.
 use mathlib.Core.Path.{_≡_, refl, sym, ap, _∙_}
-use mathlib.Core.Bool.{Bool, true, false, cond, _&&_, and-false}
+use mathlib.Core.Bool.{Bool, true, false, cond}
 use mathlib.Core.List.{List, [], _∷_, _++_}
 use Prim.Native.Nat.{ℕ, _+_, _/_, _%_, _≤_, _<_}
 use native.Mathlib.Decide.{ℕ-discrete}
@@ -35,7 +35,7 @@ use Rattle.grid.proofs.Steps.{open-done}
 use Rattle.grid.proofs.Answered.{finish-sheet, whole-finish}
 use Rattle.demands.specs.Cases.{exampleCurves, exampleSheet}
 use Rattle.printed.specs.Examples.{isAt, gridRun, otherDay, gridReading, gridSeries, SheetLaid}
-use Rattle.printed.proofs.Series.{series-long, series-reads}
+use Rattle.printed.proofs.Series.{at-there, at-other, series-long, series-reads}
 use Rattle.printed.proofs.OneReading.{OneOther, other-peak, curve-there, curve-else}
 
 -- the period has 366 days, and 15 January 2024 is the 137th
@@ -59,16 +59,12 @@ pub grid-long : length gridSeries ≡ runReadings gridRun
 unfolding gridSeries
 grid-long = series-long gridRun gridReading (runDays gridRun) ∙ run-all gridRun
 
+-- quarter 72 of that day
 there : isAt gridRun otherDay 72 136 72 ≡ true
-there = rw (day-is, ← quarter-is gridRun 136 72)
+there = at-there gridRun otherDay 72 136 72 (sym day-is) (sym (quarter-is gridRun 136 72))
 
 elsewhere : (d p : ℕ) → (d ≡ 136 → p ≡ 72 → ⊥) → isAt gridRun otherDay 72 d p ≡ false
-elsewhere d p other = rw (day-is, ← quarter-is gridRun d p) (go (ℕ-discrete (d + 1) 137) (ℕ-discrete p 72))
-  where
-    go : Dec (d + 1 ≡ 137) → Dec (p ≡ 72) → (eqb (d + 1) 137 && eqb p 72) ≡ false
-    go (no e) f = rw (ne-eqb (d + 1) 137 e)
-    go (yes e) (no f) = rw (ne-eqb p 72 f) (and-false (eqb (d + 1) 137))
-    go (yes e) (yes f) = absurd (other (omega arith) f)
+elsewhere d p other = at-other gridRun otherDay 72 d p (λ a b. other (omega (arith, day-is)) (quarter-is gridRun d p ∙ b))
 
 one-other : OneOther gridRun gridSeries (runDays gridRun) 1000 2000 136 72
 one-other =

@@ -3,6 +3,7 @@
 use Rattle.printed.specs.Examples.{Examples}
 use Rattle.printed.proofs.ExampleSheet.{sheet-laid}
 use Rattle.printed.proofs.ExampleLines.{windows-example}
+use Rattle.printed.proofs.ExampleDecision.{decided}
 
 pub examples : Examples
-examples = record { sheet = sheet-laid; windows = windows-example }
+examples = record { sheet = sheet-laid; windows = windows-example; decision = decided }

@@ -5,7 +5,9 @@ pub mod Customer
 pub mod Refused
 pub mod Series
 pub mod OneReading
+pub mod TwoReadings
 pub mod FileBytes
 pub mod ExampleSheet
 pub mod ExampleLines
+pub mod ExampleDecision
 pub mod Examples

@@ -1,21 +1,37 @@
--- Laws of a run's series that is given by its readings: it is as long as its days, and it has these readings.
+-- Laws of a run's series that is given by its readings: it is as long as its days, and it has these readings. And of one quarter of one day.
 -- Assumes nothing.
 use mathlib.Core.Path.{_≡_, sym, ap, _∙_}
+use mathlib.Core.Bool.{true, false, and-false}
 use mathlib.Core.List.{List, [], _++_}
 use Prim.Native.Nat.{ℕ, zero, suc, _+_, _-_, _<_}
 use native.Mathlib.Nat.{not-suc-le-zero}
-use native.Mathlib.Decide.{decLt}
+use native.Mathlib.Decide.{decLt, ℕ-discrete}
 use native.Mathlib.Omega.{arith}
+use borrow.Author.Tests.{eq-eqb, ne-eqb}
+use lib.Dec.{eqb}
 use lib.ListN.{length, getD, length-append, List·getD-append, List·getD-eq-default}
 use lib.Seq.{getD-append-add}
 use Rattle.over.specs.Over.{table}
+use Rattle.over.proofs.Bools.{pair}
 use Rattle.over.proofs.Joined.{joined-none, joined-suc}
 use Rattle.over.proofs.Tables.{length-table, getD-table}
 use Rattle.readings.specs.declared.Run.{Run}
-use Rattle.readings.specs.Runs.{dayLen, dayStart, reading}
+use Rattle.readings.specs.Runs.{dayLen, quarterOf, dayStart, reading}
 use Rattle.readings.proofs.Runs.{start-none, start-suc}
 use Rattle.readings.proofs.Days.{same-before, same-day}
-use Rattle.printed.specs.Examples.{seriesOf}
+use Rattle.printed.specs.Examples.{seriesOf, isAt}
+
+-- the one quarter that a place is, and every other
+pub at-there : (run : Run) (day quarter d p : ℕ) → d + 1 ≡ day → quarterOf run d p ≡ quarter → isAt run day quarter d p ≡ true
+at-there run day quarter d p a b = pair (eq-eqb (d + 1) day a) (eq-eqb (quarterOf run d p) quarter b)
+
+pub at-other : (run : Run) (day quarter d p : ℕ) → (d + 1 ≡ day → quarterOf run d p ≡ quarter → ⊥) → isAt run day quarter d p ≡ false
+at-other run day quarter d p other = go (ℕ-discrete (d + 1) day) (ℕ-discrete (quarterOf run d p) quarter)
+  where
+    go : Dec (d + 1 ≡ day) → Dec (quarterOf run d p ≡ quarter) → isAt run day quarter d p ≡ false
+    go (no a) b = rw (ne-eqb (d + 1) day a)
+    go (yes a) (no b) = rw (ne-eqb (quarterOf run d p) quarter b) (and-false (eqb (d + 1) day))
+    go (yes a) (yes b) = absurd (other a b)
 
 module _ (run : Run) (f : ℕ → ℕ → ℕ) where
   abbrev day : ℕ → List ℕ

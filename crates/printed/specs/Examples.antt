@@ -1,7 +1,7 @@
 -- Document 01, Two programs: the two printed examples, and Figures on each side, case 12: from the series, and from the bytes of the file that holds
 -- it, to the sheet and to the printed lines. The statement is `Examples`.
 use mathlib.Core.Path.{_≡_}
-use mathlib.Core.Bool.{Bool, cond, _&&_}
+use mathlib.Core.Bool.{Bool, false, cond, _&&_}
 use mathlib.Core.List.{List, [], _∷_, _++_}
 use Prim.Native.Nat.{ℕ, _+_, _≤_}
 use lib.Dec.{eqb}
@@ -16,12 +16,13 @@ use Rattle.sheet.specs.Bytes.{sheetSize}
 use Rattle.grid_curves.specs.Curves.{periodRun}
 use Rattle.grid.specs.Answers.{windowsAnswer, windowsBuffer}
 use Rattle.day_figures.specs.Counts.{yearRun}
+use Rattle.customer.specs.Answers.{decideAnswer}
 use Rattle.fields.specs.Series.{readingBytes}
 use Rattle.fields.specs.File.{driven}
 use Rattle.grid_file.specs.Grid.{gridMark, windowsPrinted}
 use Rattle.grid_file.specs.GridMachine.{gridStart, gridWants, gridFed, gridText}
 use Rattle.customer_head.specs.Header.{customerMark}
-use Rattle.demands.specs.Cases.{exampleSheet}
+use Rattle.demands.specs.Cases.{prices, exampleSheet}
 
 -- the series of a run's first n days that has the reading f d p at position p of day d, both from 0
 unfoldable pub seriesOf : Run → (ℕ → ℕ → ℕ) → ℕ → List ℕ
@@ -112,3 +113,5 @@ pub record Examples : Type 0 where
   pub sheet : (buffer : List ℕ) → sheetSize ≤ length buffer → SheetLaid buffer
   -- the window program's example, from the file's bytes to its lines
   pub windows : Prints (windowsPrinted gridFile) (λ turns. gridText (driven gridWants gridFed turns gridStart gridFile)) 371 windowsText
+  -- the statement program's example, from the series to what the decision answers
+  pub decision : decideAnswer exampleSheet [] prices false customerSeries ≡ customerSaid
