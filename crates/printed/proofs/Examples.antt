@@ -4,6 +4,7 @@ use Rattle.printed.specs.Examples.{Examples}
 use Rattle.printed.proofs.ExampleSheet.{sheet-laid}
 use Rattle.printed.proofs.ExampleLines.{windows-example}
 use Rattle.printed.proofs.ExampleDecision.{decided}
+use Rattle.printed.proofs.ExampleStatement.{statement-example}
 
 pub examples : Examples
-examples = record { sheet = sheet-laid; windows = windows-example; decision = decided }
+examples = record { sheet = sheet-laid; windows = windows-example; decision = decided; statement = statement-example }

@@ -10,4 +10,5 @@ pub mod FileBytes
 pub mod ExampleSheet
 pub mod ExampleLines
 pub mod ExampleDecision
+pub mod ExampleStatement
 pub mod Examples

@@ -22,6 +22,8 @@ use Rattle.fields.specs.File.{driven}
 use Rattle.grid_file.specs.Grid.{gridMark, windowsPrinted}
 use Rattle.grid_file.specs.GridMachine.{gridStart, gridWants, gridFed, gridText}
 use Rattle.customer_head.specs.Header.{customerMark}
+use Rattle.customer_file.specs.Customer.{statementPrinted}
+use Rattle.customer_file.specs.CustomerMachine.{customerStart, customerWants, customerFed, customerText}
 use Rattle.demands.specs.Cases.{prices, exampleSheet}
 
 -- the series of a run's first n days that has the reading f d p at position p of day d, both from 0
@@ -115,3 +117,5 @@ pub record Examples : Type 0 where
   pub windows : Prints (windowsPrinted gridFile) (λ turns. gridText (driven gridWants gridFed turns gridStart gridFile)) 371 windowsText
   -- the statement program's example, from the series to what the decision answers
   pub decision : decideAnswer exampleSheet [] prices false customerSeries ≡ customerSaid
+  -- and from the file's bytes to its line
+  pub statement : Prints (statementPrinted customerFile) (λ turns. customerText (driven customerWants customerFed turns customerStart customerFile)) 423 statementText
