@@ -1,3 +1,4 @@
 pub mod Taken
 pub mod Peak
 pub mod Agree
+pub mod TwoReadings

@@ -1,3 +1,4 @@
 pub mod Laid
 pub mod Curves
 pub mod Fours
+pub mod OneReading

@@ -35,7 +35,7 @@ use Rattle.customer.proofs.Answered.{open-done, whole-judged, decide-whole}
 use Rattle.demands.specs.Cases.{prices, exampleSheet}
 use Rattle.printed.specs.Examples.{isAt, customerRun, saturdayDay, thursdayDay, customerReading, customerSeries, customerSaid}
 use Rattle.printed.proofs.Series.{at-there, at-other, series-long, series-reads}
-use Rattle.printed.proofs.TwoReadings.{TwoOthers, two-peak, two-figures}
+use Rattle.figures.proofs.TwoReadings.{TwoOthers, two-peak, two-figures}
 
 -- the days of the two readings
 saturday-is : saturdayDay ≡ 4

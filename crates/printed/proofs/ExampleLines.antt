@@ -7,7 +7,7 @@ use Prim.Native.Nat.{ℕ, _+_, _<_}
 use native.Mathlib.Omega.{arith}
 use borrow.Author.Tests.{eqb-true}
 use lib.Dec.{eqb}
-use lib.ListN.{length, length-append}
+use lib.ListN.{length, getD, length-append}
 use Rattle.over.specs.Over.{joined, sumOver, countOver, anyOver, allOver, firstOver, table, inBase}
 use Rattle.over.proofs.Tests.{all-at}
 use Rattle.answers.specs.Ruling.{gridMost, yearOut, levelOut}
@@ -30,11 +30,10 @@ use Rattle.grid_file.specs.Grid.{gridLayout, gridYear, gridLevel, blankSheet, w
 use Rattle.grid_file.specs.GridMachine.{gridStart, gridWants, gridFed, gridText}
 use Rattle.grid_file.proofs.GridLayout.{grid-count, grid-size}
 use Rattle.demands.specs.Cases.{exampleSheet}
-use Rattle.printed.specs.Examples as Spec
-use Rattle.printed.specs.Examples.{isAt, gridRun, otherDay, gridReading, gridSeries, seriesBytes, gridHeader, gridFile, Prints}
+use Rattle.printed.specs.Examples.{isAt, gridRun, otherDay, gridReading, gridSeries, seriesBytes, gridHeader, gridBytes, exampleWindows, Prints}
 use Rattle.printed.proofs.Grid.{windows-printed}
 use Rattle.printed.proofs.Series.{series-low}
-use Rattle.printed.proofs.FileBytes.{fourEnd, bytes-long, readings-back, file-whole}
+use Rattle.printed.proofs.FileBytes.{wordEnd, bytes-long, readings-back, file-whole}
 use Rattle.printed.proofs.ExampleSheet.{grid-long, grid-legal, sheet-laid}
 
 -- the header, whatever follows it
@@ -57,36 +56,46 @@ module _ (rest : List ℕ) where
   taken k l = eqb-true _ _ (all-at (λ i. eqb (gridLayout b .refusal i) 0) 4 refl k l)
 
 -- the series, read back from its bytes
-reading-low : (b : Bool) → cond b 2000 1000 < fourEnd
+abbrev readings : List ℕ
+readings = seriesBytes gridSeries
+
+reading-low : (b : Bool) → cond b 2000 1000 < wordEnd
 reading-low true = omega arith
 reading-low false = omega arith
 
-series-back : seriesIn gridFile (headSize (gridLayout gridFile)) ≡ gridSeries
-unfolding gridFile gridSeries
-series-back =
-    ap (seriesIn gridFile) (size-is (seriesBytes gridSeries))
-    ∙ readings-back gridSeries (λ i. series-low gridRun gridReading fourEnd (omega arith) (λ d p. reading-low (isAt gridRun otherDay 72 d p)) (runDays gridRun) i)
+low : (i : ℕ) → getD gridSeries i 0 < wordEnd
+unfolding gridSeries
+low i = series-low gridRun gridReading wordEnd (omega arith) (λ d p. reading-low (isAt gridRun otherDay 72 d p)) (runDays gridRun) i
+
+series-back : seriesIn gridBytes (headSize (gridLayout gridBytes)) ≡ gridSeries
+unfolding gridBytes
+series-back = ap (seriesIn gridBytes) (size-is readings) ∙ readings-back gridSeries low
 
 -- what the series is answered whole, and the lines of that
 whole-is : wholeGrid 2025 5 gridSeries ≡ record { number = 0; carries = exampleSheet }
 whole-is = let s = sheet-laid blankSheet (omega arith) in rw (s .accepted, s .laid)
 
-lines-are : windowLines (record { number = 0; carries = exampleSheet }) ≡ Spec.windowsText
+lines-are : windowLines (record { number = 0; carries = exampleSheet }) ≡ exampleWindows
 unfolding windowLines readSheet readAnswer unlike twoAt inBase yearOut levelOut tooFull setIn windowsIn windowsText seasonText runText runLine timeOf headLine figuresLine fieldOf decimalOf textOver table countOver sumOver anyOver firstOver isSet joined
 lines-are = refl
 
-answer-is : gridAnswer gridFile ≡ wholeGrid 2025 5 gridSeries
-unfolding gridAnswer gridFile
-answer-is =
-    let l = gridLayout gridFile in
-    let size : length gridFile ≡ fileSize gridRun 8 = length-append gridHeader (seriesBytes gridSeries) ∙ omega (arith, bytes-long gridSeries, grid-long) in
-    let size-in : length gridFile ≡ fileSize (periodRun (gridYear gridFile)) (headSize l) = rw (year-is (seriesBytes gridSeries), size-is (seriesBytes gridSeries)) size in
-    let legal : only 0 ≡ seriesAnswer (periodRun (gridYear gridFile)) gridMost (seriesIn gridFile (headSize l)) = rw (year-is (seriesBytes gridSeries), series-back) grid-legal in
-    sym (file-whole l (periodRun (gridYear gridFile)) gridMost (wholeGrid (gridYear gridFile) (gridLevel gridFile) (seriesIn gridFile (headSize l))) gridFile (taken (seriesBytes gridSeries)) size-in legal)
-    ∙ rw (year-is (seriesBytes gridSeries), series-back) refl
+-- so the file is answered as the series is
+file-long : length gridBytes ≡ fileSize (periodRun (gridYear gridBytes)) (headSize (gridLayout gridBytes))
+unfolding gridBytes
+file-long = rw (year-is readings, size-is readings) (length-append gridHeader readings ∙ omega (arith, bytes-long gridSeries, grid-long))
 
-lines-printed : windowsPrinted gridFile ≡ Spec.windowsText
+legal : only 0 ≡ seriesAnswer (periodRun (gridYear gridBytes)) gridMost (seriesIn gridBytes (headSize (gridLayout gridBytes)))
+unfolding gridBytes
+legal = rw (year-is readings, series-back) grid-legal
+
+answer-is : gridAnswer gridBytes ≡ wholeGrid 2025 5 gridSeries
+unfolding gridAnswer gridBytes
+answer-is =
+    sym (file-whole (gridLayout gridBytes) gridBytes (taken readings) (periodRun (gridYear gridBytes)) gridMost _ file-long legal)
+    ∙ rw (year-is readings, series-back) refl
+
+lines-printed : windowsPrinted gridBytes ≡ exampleWindows
 lines-printed = ap windowLines (answer-is ∙ whole-is) ∙ lines-are
 
-pub windows-example : Prints (windowsPrinted gridFile) (λ turns. gridText (driven gridWants gridFed turns gridStart gridFile)) 371 Spec.windowsText
-windows-example = record { of-bytes = lines-printed; of-machine = λ turns h. windows-printed gridFile turns h ∙ lines-printed }
+pub windows-example : Prints (windowsPrinted gridBytes) (λ turns. gridText (driven gridWants gridFed turns gridStart gridBytes)) 371 exampleWindows
+windows-example = record { of-bytes = lines-printed; of-machine = λ turns h. windows-printed gridBytes turns h ∙ lines-printed }

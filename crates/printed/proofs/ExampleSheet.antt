@@ -22,6 +22,7 @@ use Rattle.readings.specs.Legal.{highestOf}
 use Rattle.readings.specs.Days.{seriesAnswer}
 use Rattle.readings.proofs.Runs.{len-is, quarter-is, run-all, period-run}
 use Rattle.readings.proofs.Days.{series-legal}
+use Rattle.sheet.specs.declared.Sheet.{Sheet}
 use Rattle.sheet.specs.Windows.{places, flatOf}
 use Rattle.sheet.specs.Bytes.{sheetSize, sheetBytes, windowByte, bytesOf}
 use Rattle.sheet.specs.Answers.{writeAnswer}
@@ -34,9 +35,9 @@ use Rattle.grid.specs.Answers.{sheetOf, windowsAnswer, windowsBuffer}
 use Rattle.grid.proofs.Steps.{open-done}
 use Rattle.grid.proofs.Answered.{finish-sheet, whole-finish}
 use Rattle.demands.specs.Cases.{exampleCurves, exampleSheet}
-use Rattle.printed.specs.Examples.{isAt, gridRun, otherDay, gridReading, gridSeries, SheetLaid}
+use Rattle.printed.specs.Examples.{isAt, gridRun, otherDay, gridReading, gridSeries, ExampleLaid}
 use Rattle.printed.proofs.Series.{at-there, at-other, series-long, series-reads}
-use Rattle.printed.proofs.OneReading.{OneOther, other-peak, curve-there, curve-else}
+use Rattle.grid_curves.proofs.OneReading.{OneOther, other-peak, curve-there, curve-else}
 
 -- the period has 366 days, and 15 January 2024 is the 137th
 days-are : periodDays 2025 ≡ 366
@@ -122,10 +123,13 @@ curves-table = refl
 
 curves-are : exampleCurves ≡ flatCurves 2025 gridSeries (periodDays 2025)
 unfolding flatCurves
-curves-are = curves-table ∙ table-cong _ curve places curve-is ∙ ap (λ (n : ℕ). table (λ i. curveAt 2025 gridSeries n (i / dayQuarters + 1) (i % dayQuarters)) places) (period-run 2025)
+curves-are = rw (← period-run 2025) (curves-table ∙ table-cong _ curve places curve-is)
 
 -- and its sheet is that of case 12
-sheet-is : sheetBytes (sheetOf 2025 5 exampleCurves) ≡ exampleSheet
+abbrev sheet : Sheet
+sheet = sheetOf 2025 5 exampleCurves
+
+sheet-is : sheetBytes sheet ≡ exampleSheet
 unfolding joined largestOver sumOver countOver table inBase highestOf flatOf windowByte bytesOf aboveLine comesBefore rank kept keptOf chosenOf curveOf curvesOf sheetOf
 sheet-is = refl
 
@@ -142,15 +146,20 @@ unfolding levelOut
 level-in = refl
 
 module _ (buffer : List ℕ) (room : sheetSize ≤ length buffer) where
-  writes : only 0 ≡ writeAnswer (sheetOf 2025 5 exampleCurves) (length buffer)
-  unfolding sheetOf
-  writes = write-accepted (sheetOf 2025 5 exampleCurves) (length buffer) room years-in level-in (roomy _ .1 (chosen-roomy (highestOf exampleCurves) (curvesOf exampleCurves)))
+  abbrev next : List ℕ
+  next = exampleSheet ++ drop sheetSize buffer
 
-  lays : (only 0 ≡ windowsAnswer 2025 5 gridSeries (length buffer)) × (exampleSheet ++ drop sheetSize buffer ≡ windowsBuffer 2025 5 gridSeries buffer)
+  writes : only 0 ≡ writeAnswer sheet (length buffer)
+  unfolding sheetOf
+  writes =
+      write-accepted sheet (length buffer) room years-in level-in
+      (roomy _ .1 (chosen-roomy (highestOf exampleCurves) (curvesOf exampleCurves)))
+
+  lays : (only 0 ≡ windowsAnswer 2025 5 gridSeries (length buffer)) × (next ≡ windowsBuffer 2025 5 gridSeries buffer)
   lays =
-      let w = write-taken (sheetOf 2025 5 exampleCurves) buffer (exampleSheet ++ drop sheetSize buffer) writes (ap (λ (b : List ℕ). b ++ drop sheetSize buffer) (sym sheet-is)) in
+      let w = write-taken sheet buffer next writes (ap (λ (b : List ℕ). b ++ drop sheetSize buffer) (sym sheet-is)) in
       whole-finish 2025 5 gridSeries buffer room (open-done 2025 5 years-in level-in .0) grid-legal curves-are
       (finish-sheet 2025 5 exampleCurves buffer (λ z. omega (arith, peak-is)) (w .0) (w .1))
 
-  pub sheet-laid : SheetLaid buffer
+  pub sheet-laid : ExampleLaid buffer
   sheet-laid = record { accepted = sym (lays .0); laid = sym (lays .1) }

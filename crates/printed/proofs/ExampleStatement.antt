@@ -7,7 +7,7 @@ use Prim.Native.Nat.{ℕ, _+_, _<_}
 use native.Mathlib.Omega.{arith}
 use borrow.Author.Tests.{eqb-true}
 use lib.Dec.{eqb}
-use lib.ListN.{length, drop, length-append}
+use lib.ListN.{length, getD, drop, length-append}
 use Rattle.over.specs.Over.{joined, sumOver, countOver, anyOver, allOver, firstOver, table, inBase}
 use Rattle.over.proofs.Tests.{all-at}
 use Rattle.answers.specs.Ruling.{customerMost, yearOut, levelOut}
@@ -29,10 +29,10 @@ use Rattle.customer_head.proofs.CustomerLayout as Head
 use Rattle.customer_file.specs.Customer.{customerAnswer, statementPrinted}
 use Rattle.customer_file.specs.CustomerMachine.{customerStart, customerWants, customerFed, customerText}
 use Rattle.demands.specs.Cases.{prices, exampleSheet}
-use Rattle.printed.specs.Examples.{isAt, customerRun, saturdayDay, thursdayDay, customerReading, customerSeries, fourBytes, seriesBytes, customerHeader, customerFile, customerSaid, statementText, Prints}
+use Rattle.printed.specs.Examples.{isAt, customerRun, saturdayDay, thursdayDay, customerReading, customerSeries, fourBytes, seriesBytes, customerHeader, customerBytes, customerSaid, exampleStatement, Prints}
 use Rattle.printed.proofs.Customer.{statement-printed}
 use Rattle.printed.proofs.Series.{series-low}
-use Rattle.printed.proofs.FileBytes.{fourEnd, bytes-long, readings-back, file-whole}
+use Rattle.printed.proofs.FileBytes.{wordEnd, bytes-long, readings-back, file-whole}
 use Rattle.printed.proofs.ExampleDecision.{customer-long, customer-legal, decided}
 
 -- the header, whatever follows it
@@ -74,40 +74,46 @@ module _ (rest : List ℕ) where
   taken k l = eqb-true _ _ (all-at (λ i. eqb (customerLayout b .refusal i) 0) 16 refl k l)
 
 -- the series, read back from its bytes
-reading-low : (a b : Bool) → cond a 1000000 (cond b 500000 0) < fourEnd
+abbrev readings : List ℕ
+readings = seriesBytes customerSeries
+
+reading-low : (a b : Bool) → cond a 1000000 (cond b 500000 0) < wordEnd
 reading-low true b = omega arith
 reading-low false true = omega arith
 reading-low false false = omega arith
 
-series-back : seriesIn customerFile (headSize (customerLayout customerFile)) ≡ customerSeries
-unfolding customerFile customerSeries
-series-back =
-    ap (seriesIn customerFile) (size-is (seriesBytes customerSeries))
-    ∙ ap readingsOf (rest-is (seriesBytes customerSeries))
-    ∙ readings-back customerSeries
-    (λ i. series-low customerRun customerReading fourEnd (omega arith)
+low : (i : ℕ) → getD customerSeries i 0 < wordEnd
+unfolding customerSeries
+low i =
+    series-low customerRun customerReading wordEnd (omega arith)
     (λ d p. reading-low (isAt customerRun saturdayDay 0 d p) (isAt customerRun thursdayDay 72 d p))
-    (runDays customerRun) i)
+    (runDays customerRun) i
 
-answer-is : customerAnswer customerFile ≡ decideAnswer exampleSheet [] prices false customerSeries
-unfolding customerAnswer customerFile
+series-back : seriesIn customerBytes (headSize (customerLayout customerBytes)) ≡ customerSeries
+unfolding customerBytes
+series-back = ap (seriesIn customerBytes) (size-is readings) ∙ ap readingsOf (rest-is readings) ∙ readings-back customerSeries low
+
+-- so the file is answered as the series is
+file-long : length customerBytes ≡ fileSize (yearRun (customerYear customerBytes)) (headSize (customerLayout customerBytes))
+unfolding customerBytes
+file-long = rw (year-is readings, size-is readings) (header-long readings ∙ omega (arith, bytes-long customerSeries, customer-long))
+
+legal : only 0 ≡ seriesAnswer (yearRun (customerYear customerBytes)) customerMost (seriesIn customerBytes (headSize (customerLayout customerBytes)))
+unfolding customerBytes
+legal = rw (year-is readings, series-back) customer-legal
+
+answer-is : customerAnswer customerBytes ≡ decideAnswer exampleSheet [] prices false customerSeries
+unfolding customerAnswer customerBytes
 answer-is =
-    let r = seriesBytes customerSeries in
-    let l = customerLayout customerFile in
-    let xs = seriesIn customerFile (headSize l) in
-    let done = decideAnswer (sheetPart customerFile) (holidaysOf customerFile) (pricesOf customerFile) (optionOf customerFile) xs in
-    let size : length customerFile ≡ fileSize customerRun 79 = header-long r ∙ omega (arith, bytes-long customerSeries, customer-long) in
-    let size-in : length customerFile ≡ fileSize (yearRun (customerYear customerFile)) (headSize l) = rw (year-is r, size-is r) size in
-    let legal : only 0 ≡ seriesAnswer (yearRun (customerYear customerFile)) customerMost xs = rw (year-is r, series-back) customer-legal in
-    sym (file-whole l (yearRun (customerYear customerFile)) customerMost done customerFile (taken r) size-in legal)
-    ∙ rw (holidays-are r, prices-are r, series-back) refl
+    sym (file-whole (customerLayout customerBytes) customerBytes (taken readings) (yearRun (customerYear customerBytes)) customerMost _ file-long legal)
+    ∙ rw (holidays-are readings, prices-are readings, series-back) refl
 
-line-is : statementLine customerSaid ≡ statementText
+line-is : statementLine customerSaid ≡ exampleStatement
 unfolding figuresLine fieldOf decimalOf textOver anyOver firstOver joined
 line-is = refl
 
-line-printed : statementPrinted customerFile ≡ statementText
+line-printed : statementPrinted customerBytes ≡ exampleStatement
 line-printed = ap statementLine (answer-is ∙ decided) ∙ line-is
 
-pub statement-example : Prints (statementPrinted customerFile) (λ turns. customerText (driven customerWants customerFed turns customerStart customerFile)) 423 statementText
-statement-example = record { of-bytes = line-printed; of-machine = λ turns h. statement-printed customerFile turns h ∙ line-printed }
+pub statement-example : Prints (statementPrinted customerBytes) (λ turns. customerText (driven customerWants customerFed turns customerStart customerBytes)) 423 exampleStatement
+statement-example = record { of-bytes = line-printed; of-machine = λ turns h. statement-printed customerBytes turns h ∙ line-printed }

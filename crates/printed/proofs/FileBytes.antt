@@ -2,8 +2,9 @@
 -- days and nothing else, is answered as its whole series is.
 -- Assumes nothing.
 use mathlib.Core.Path.{_≡_, refl, sym, ap, _∙_}
+use mathlib.Core.Bool.{false}
 use mathlib.Core.List.{List, [], _∷_, _++_}
-use Prim.Native.Nat.{ℕ, zero, suc, _+_, _*_, _/_, _<_}
+use Prim.Native.Nat.{ℕ, zero, suc, _+_, _*_, _/_, _≤_, _<_}
 use native.Mathlib.Nat.{not-suc-le-zero}
 use native.Mathlib.Omega.{arith}
 use borrow.Author.Tests.{le-ltb, eq-eqb}
@@ -17,7 +18,7 @@ use Rattle.answers.proofs.Laws.{next-speaks}
 use Rattle.packed.specs.Bytes.{fourAt}
 use Rattle.readings.specs.declared.Run.{Run}
 use Rattle.readings.specs.Days.{seriesAnswer}
-use Rattle.fields.specs.Layout.{Layout, startOf, headSize}
+use Rattle.fields.specs.Layout.{Layout, startOf, headSize, stops}
 use Rattle.fields.specs.Series.{readingBytes, readingsOf, seriesIn, fileSize}
 use Rattle.fields.specs.File.{fileAnswer}
 use Rattle.fields.proofs.Header.{field-rises, head-fine}
@@ -25,8 +26,8 @@ use Rattle.fields.proofs.Days.{days-series}
 use Rattle.printed.specs.Examples.{fourBytes, seriesBytes}
 
 -- what four bytes can hold
-abbrev pub fourEnd : ℕ
-fourEnd = 4294967296
+abbrev pub wordEnd : ℕ
+wordEnd = 4294967296
 
 length-four : (x : ℕ) → length (fourBytes x) ≡ 4
 unfolding fourBytes
@@ -52,7 +53,7 @@ byte-at (x ∷ xs) (suc i) k l m =
     ∙ getD-append-add (fourBytes x) (seriesBytes xs) (readingBytes * i + k) 0
     ∙ byte-at xs i k (omega arith) m
 
-module _ (xs : List ℕ) (low : (i : ℕ) → getD xs i 0 < fourEnd) where
+module _ (xs : List ℕ) (low : (i : ℕ) → getD xs i 0 < wordEnd) where
   four-back : (i : ℕ) → i < length xs → fourAt (seriesBytes xs) (readingBytes * i) ≡ getD xs i 0
   unfolding fourAt
   four-back i l = base-cong 256 _ _ 4 (λ k m. byte-at xs i k l m) ∙ base-back 256 (omega arith) 4 (getD xs i 0) (low i)
@@ -63,13 +64,21 @@ module _ (xs : List ℕ) (low : (i : ℕ) → getD xs i 0 < fourEnd) where
       let n : length (seriesBytes xs) / readingBytes ≡ length xs = omega (arith, bytes-long xs) in
       rw n (sym (is-table (λ i. fourAt (seriesBytes xs) (readingBytes * i)) (length xs) 0 xs refl (λ i l. sym (four-back i l))))
 
--- a file without a fault
-module _ (l : Layout) (run : Run) (limit : ℕ) (done : Said) (bytes : List ℕ) where
+-- a file without a fault: no field of its header is refused, its size is right and its readings are legal
+module _ (l : Layout) (bytes : List ℕ) (taken : (k : ℕ) → k < l .count → l .refusal k ≡ 0) where
+  passes : headSize l ≤ length bytes → (k : ℕ) → k < l .count → stops l bytes k ≡ false
+  passes long k m =
+      simp (
+        le-ltb (length bytes) (startOf l (k + 1)) (omega (arith, field-rises l (l .count) (k + 1) (omega arith))),
+        eq-eqb (l .refusal k) 0 (taken k m),
+      )
+
   pub file-whole :
-      ((k : ℕ) → k < l .count → l .refusal k ≡ 0)
+      (run : Run) (limit : ℕ) (done : Said)
       → length bytes ≡ fileSize run (headSize l)
       → only 0 ≡ seriesAnswer run limit (seriesIn bytes (headSize l))
       → done ≡ fileAnswer l run limit done bytes
-  file-whole taken size legal =
-      let head = head-fine l bytes (record { fails = λ k m. simp (le-ltb (length bytes) (startOf l (k + 1)) (omega (arith, field-rises l (l .count) (k + 1) (omega arith))), eq-eqb (l .refusal k) 0 (taken k m)) }) in
-      next-speaks (only 0) done legal refl ∙ sym (days-series run (headSize l) bytes limit done size) ∙ next-speaks (only 0) _ head refl
+  file-whole run limit done size legal =
+      next-speaks (only 0) done legal refl
+      ∙ sym (days-series run (headSize l) bytes limit done size)
+      ∙ next-speaks (only 0) _ (head-fine l bytes (record { fails = passes (omega arith) })) refl

@@ -4,8 +4,6 @@ pub mod CustomerOpening
 pub mod Customer
 pub mod Refused
 pub mod Series
-pub mod OneReading
-pub mod TwoReadings
 pub mod FileBytes
 pub mod ExampleSheet
 pub mod ExampleLines

@@ -77,8 +77,8 @@ seriesBytes (x ∷ xs) = fourBytes x ++ seriesBytes xs
 abbrev pub gridHeader : List ℕ
 gridHeader = gridMark ++ (0x00 ∷ 0x01 ∷ 0x07 ∷ 0xe9 ∷ 0x05 ∷ [])
 
-unfoldable pub gridFile : List ℕ
-gridFile = gridHeader ++ seriesBytes gridSeries
+unfoldable pub gridBytes : List ℕ
+gridBytes = gridHeader ++ seriesBytes gridSeries
 
 abbrev pub priceBytes : List ℕ
 priceBytes = fourBytes 2000 ++ (fourBytes 4000 ++ (fourBytes 10000 ++ fourBytes 800))
@@ -86,36 +86,53 @@ priceBytes = fourBytes 2000 ++ (fourBytes 4000 ++ (fourBytes 10000 ++ fourBytes 
 abbrev pub customerHeader : List ℕ
 customerHeader = customerMark ++ ((0x00 ∷ 0x01 ∷ []) ++ (exampleSheet ++ ((0x00 ∷ 0x00 ∷ []) ++ priceBytes)))
 
-unfoldable pub customerFile : List ℕ
-customerFile = customerHeader ++ seriesBytes customerSeries
+unfoldable pub customerBytes : List ℕ
+customerBytes = customerHeader ++ seriesBytes customerSeries
 
--- `HLZ 2025 5`, `1 18:00-18:15`, `2 none`, `3 none`, `4 none`
-abbrev pub windowsText : List ℕ
-windowsText = 72 ∷ 76 ∷ 90 ∷ 32 ∷ 50 ∷ 48 ∷ 50 ∷ 53 ∷ 32 ∷ 53 ∷ 10 ∷ 49 ∷ 32 ∷ 49 ∷ 56 ∷ 58 ∷ 48 ∷ 48 ∷ 45 ∷ 49 ∷ 56 ∷ 58 ∷ 49 ∷ 53 ∷ 10 ∷ 50 ∷ 32 ∷ 110 ∷ 111 ∷ 110 ∷ 101 ∷ 10 ∷ 51 ∷ 32 ∷ 110 ∷ 111 ∷ 110 ∷ 101 ∷ 10 ∷ 52 ∷ 32 ∷ 110 ∷ 111 ∷ 110 ∷ 101 ∷ 10 ∷ []
+-- what the window program prints
+abbrev pub exampleWindows : List ℕ
+exampleWindows =
+    -- `HLZ 2025 5`
+    (72 ∷ 76 ∷ 90 ∷ 32 ∷ 50 ∷ 48 ∷ 50 ∷ 53 ∷ 32 ∷ 53 ∷ 10 ∷ [])
+    -- `1 18:00-18:15`
+    ++ ((49 ∷ 32 ∷ 49 ∷ 56 ∷ 58 ∷ 48 ∷ 48 ∷ 45 ∷ 49 ∷ 56 ∷ 58 ∷ 49 ∷ 53 ∷ 10 ∷ [])
+    -- `2 none`
+    ++ ((50 ∷ 32 ∷ 110 ∷ 111 ∷ 110 ∷ 101 ∷ 10 ∷ [])
+    -- `3 none`
+    ++ ((51 ∷ 32 ∷ 110 ∷ 111 ∷ 110 ∷ 101 ∷ 10 ∷ [])
+    -- `4 none`
+    ++ (52 ∷ 32 ∷ 110 ∷ 111 ∷ 110 ∷ 101 ∷ 10 ∷ []))))
 
--- `0 1001500 2001500 1000000 1500000 500000 2 72`: what the year is answered, and its line
+-- what the year is answered, and the statement program's line: `0 1001500 2001500 1000000 1500000 500000 2 72`
 abbrev pub customerSaid : Said
 customerSaid = record { number = 0; carries = 1001500 ∷ 2001500 ∷ 1000000 ∷ 1500000 ∷ 500000 ∷ 2 ∷ 72 ∷ [] }
 
-abbrev pub statementText : List ℕ
-statementText = 48 ∷ 32 ∷ 49 ∷ 48 ∷ 48 ∷ 49 ∷ 53 ∷ 48 ∷ 48 ∷ 32 ∷ 50 ∷ 48 ∷ 48 ∷ 49 ∷ 53 ∷ 48 ∷ 48 ∷ 32 ∷ 49 ∷ 48 ∷ 48 ∷ 48 ∷ 48 ∷ 48 ∷ 48 ∷ 32 ∷ 49 ∷ 53 ∷ 48 ∷ 48 ∷ 48 ∷ 48 ∷ 48 ∷ 32 ∷ 53 ∷ 48 ∷ 48 ∷ 48 ∷ 48 ∷ 48 ∷ 32 ∷ 50 ∷ 32 ∷ 55 ∷ 50 ∷ 10 ∷ []
+abbrev pub exampleStatement : List ℕ
+exampleStatement =
+    -- `0 1001500 2001500`
+    (48 ∷ 32 ∷ 49 ∷ 48 ∷ 48 ∷ 49 ∷ 53 ∷ 48 ∷ 48 ∷ 32 ∷ 50 ∷ 48 ∷ 48 ∷ 49 ∷ 53 ∷ 48 ∷ 48 ∷ [])
+    -- ` 1000000 1500000`
+    ++ ((32 ∷ 49 ∷ 48 ∷ 48 ∷ 48 ∷ 48 ∷ 48 ∷ 48 ∷ 32 ∷ 49 ∷ 53 ∷ 48 ∷ 48 ∷ 48 ∷ 48 ∷ 48 ∷ [])
+    -- ` 500000 2 72`
+    ++ (32 ∷ 53 ∷ 48 ∷ 48 ∷ 48 ∷ 48 ∷ 48 ∷ 32 ∷ 50 ∷ 32 ∷ 55 ∷ 50 ∷ 10 ∷ []))
 
 -- the grid's series lays the sheet of case 12 into every buffer with room for it, and the bytes behind it stay
-pub record SheetLaid (buffer : List ℕ) : Type 0 where
+pub record ExampleLaid (buffer : List ℕ) : Type 0 where
   pub accepted : windowsAnswer 2025 5 gridSeries (length buffer) ≡ only 0
   pub laid : windowsBuffer 2025 5 gridSeries buffer ≡ exampleSheet ++ drop sheetSize buffer
 
--- a file has this text: what is printed of its bytes, and what the machine that a program drives over them prints, with turns enough
+-- a file has this text: what is printed of its bytes, and what the machine that a program drives over them prints, with turns enough. For a grid file
+-- those are 371: 4 fields, at most 366 days, and the end. For a customer file they are 423: at most 56 fields, 366 days, and the end.
 pub record Prints (printed : List ℕ) (machine : ℕ → List ℕ) (enough : ℕ) (text : List ℕ) : Type 0 where
   pub of-bytes : printed ≡ text
   pub of-machine : (turns : ℕ) → enough ≤ turns → machine turns ≡ text
 
 pub record Examples : Type 0 where
   -- case 12, from the series to the sheet's bytes
-  pub sheet : (buffer : List ℕ) → sheetSize ≤ length buffer → SheetLaid buffer
+  pub sheet : (buffer : List ℕ) → sheetSize ≤ length buffer → ExampleLaid buffer
   -- the window program's example, from the file's bytes to its lines
-  pub windows : Prints (windowsPrinted gridFile) (λ turns. gridText (driven gridWants gridFed turns gridStart gridFile)) 371 windowsText
+  pub windows : Prints (windowsPrinted gridBytes) (λ turns. gridText (driven gridWants gridFed turns gridStart gridBytes)) 371 exampleWindows
   -- the statement program's example, from the series to what the decision answers
   pub decision : decideAnswer exampleSheet [] prices false customerSeries ≡ customerSaid
   -- and from the file's bytes to its line
-  pub statement : Prints (statementPrinted customerFile) (λ turns. customerText (driven customerWants customerFed turns customerStart customerFile)) 423 statementText
+  pub statement : Prints (statementPrinted customerBytes) (λ turns. customerText (driven customerWants customerFed turns customerStart customerBytes)) 423 exampleStatement

@@ -29,7 +29,7 @@ pub record OneOther (run : Run) (xs : List ℕ) (n c v on at : ℕ) : Type 0 whe
 
 module _ {run : Run} {xs : List ℕ} {n c v on at : ℕ} (o : OneOther run xs n c v on at) where
   -- every reading is c or v
-  pub other-low : (d p : ℕ) → d < n → p < dayLen run d → c ≤ reading run xs d p
+  other-low : (d p : ℕ) → d < n → p < dayLen run d → c ≤ reading run xs d p
   other-low d p l m = go (ℕ-discrete d on) (ℕ-discrete p at)
     where
       go : Dec (d ≡ on) → Dec (p ≡ at) → c ≤ reading run xs d p
@@ -37,7 +37,7 @@ module _ {run : Run} {xs : List ℕ} {n c v on at : ℕ} (o : OneOther run xs n 
       go (no e) f = omega (arith, o .elsewhere d p l m (λ a b. e a))
       go (yes e) (no f) = omega (arith, o .elsewhere d p l m (λ a b. f b))
 
-  pub other-high : (d p : ℕ) → d < n → p < dayLen run d → reading run xs d p ≤ v
+  other-high : (d p : ℕ) → d < n → p < dayLen run d → reading run xs d p ≤ v
   other-high d p l m = go (ℕ-discrete d on) (ℕ-discrete p at)
     where
       go : Dec (d ≡ on) → Dec (p ≡ at) → reading run xs d p ≤ v
@@ -72,14 +72,16 @@ module _ (y : ℕ) {xs : List ℕ} {n c v on at : ℕ} (o : OneOther (periodRun 
       → (periodSeason y (on + 1) ≡ s → quarterOf (periodRun y) on at ≡ q → ⊥)
       → curveAt y xs n s q ≡ c
   unfolding curveAt topOf
-  curve-else s q d p l m es eq other = le-antisymm above (omega (arith, other-low o d p l m, rw (es, eq) at (in-curve y xs n d p l m)))
+  curve-else s q d p l m es eq other =
+      le-antisymm
+      (largest-le _ n c
+      (λ e h. counted-low (inSeason y e s) (λ a. largest-le _ (dayLen (periodRun y) e) c
+      (λ r k. counted-low (eqb (quarterOf (periodRun y) e r) q) (λ b. top e r h k a b)))))
+      (omega (arith, other-low o d p l m, rw (es, eq) at (in-curve y xs n d p l m)))
     where
+      -- a reading that goes into this curve is not the other one
       top : (e r : ℕ) → e < n → r < dayLen (periodRun y) e → inSeason y e s ≡ true → eqb (quarterOf (periodRun y) e r) q ≡ true → reading (periodRun y) xs e r ≤ c
       top e r h k a b =
-          omega (arith, o .elsewhere e r h k (λ i j. other (ap (λ (t : ℕ). periodSeason y (t + 1)) (sym i) ∙ eqb-true _ _ a) (ap₂ (quarterOf (periodRun y)) (sym i) (sym j) ∙ eqb-true _ _ b)))
-
-      above : curveAt y xs n s q ≤ c
-      above =
-          largest-le _ n c
-          (λ e h. counted-low (inSeason y e s) (λ a. largest-le _ (dayLen (periodRun y) e) c
-          (λ r k. counted-low (eqb (quarterOf (periodRun y) e r) q) (λ b. top e r h k a b))))
+          let season : e ≡ on → periodSeason y (on + 1) ≡ s = λ i. ap (λ (t : ℕ). periodSeason y (t + 1)) (sym i) ∙ eqb-true _ _ a in
+          let quarter : e ≡ on → r ≡ at → quarterOf (periodRun y) on at ≡ q = λ i j. ap₂ (quarterOf (periodRun y)) (sym i) (sym j) ∙ eqb-true _ _ b in
+          omega (arith, o .elsewhere e r h k (λ i j. other (season i) (quarter i j)))

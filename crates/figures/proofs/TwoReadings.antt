@@ -71,16 +71,19 @@ figures-same :
 figures-same f em es ea eh ed eq = rw (← em, ← es, ← ea, ← eh, ← ed, ← eq) refl
 
 module _ {run : Run} {xs : List ℕ} {n on at v late to w : ℕ} (o : TwoOthers run xs n on at v late to w) where
-  -- where a reading can stand
-  data Place (d p : ℕ) : Type 0 where
-    here : d ≡ on → p ≡ at → Place d p
-    there : d ≡ late → p ≡ to → Place d p
-    nowhere : reading run xs d p ≡ 0 → Place d p
+  on-in : on < n
+  on-in = omega (arith, o .order, o .late-in)
 
-  place : (d p : ℕ) → d < n → p < dayLen run d → Place d p
+  -- where a reading stands, or that it is 0
+  data Stands (d p : ℕ) : Type 0 where
+    here : d ≡ on → p ≡ at → Stands d p
+    there : d ≡ late → p ≡ to → Stands d p
+    nowhere : reading run xs d p ≡ 0 → Stands d p
+
+  place : (d p : ℕ) → d < n → p < dayLen run d → Stands d p
   place d p l m = go (ℕ-discrete d on) (ℕ-discrete p at) (ℕ-discrete d late) (ℕ-discrete p to)
     where
-      go : Dec (d ≡ on) → Dec (p ≡ at) → Dec (d ≡ late) → Dec (p ≡ to) → Place d p
+      go : Dec (d ≡ on) → Dec (p ≡ at) → Dec (d ≡ late) → Dec (p ≡ to) → Stands d p
       go (yes a) (yes b) c e = here a b
       go (yes a) (no b) c e = nowhere (o .elsewhere d p l m (λ x y. b y) (λ x y. omega (arith, o .order)))
       go (no a) b (yes c) (yes e) = there c e
@@ -91,7 +94,7 @@ module _ {run : Run} {xs : List ℕ} {n on at v late to w : ℕ} (o : TwoOthers 
   low : (d p : ℕ) → d < n → p < dayLen run d → reading run xs d p ≤ max v w
   low d p l m = go (place d p l m)
     where
-      go : Place d p → reading run xs d p ≤ max v w
+      go : Stands d p → reading run xs d p ≤ max v w
       go (here a b) = omega (arith, ap₂ (reading run xs) a b, o .first)
       go (there a b) = omega (arith, ap₂ (reading run xs) a b, o .second)
       go (nowhere z) = omega arith
@@ -104,23 +107,31 @@ module _ {run : Run} {xs : List ℕ} {n on at v late to w : ℕ} (o : TwoOthers 
         arith,
         o .first,
         o .second,
-        reading-le run xs n on at (omega (arith, o .order, o .late-in)) (o .at-in),
+        reading-le run xs n on at on-in (o .at-in),
         reading-le run xs n late to (o .late-in) (o .to-in),
       ))
 
-  -- S
-  pub two-sum : sumOf run xs n ≡ v + w
+  -- S: the sum of each of the two days, and of any other
+  sum-on : sumOver (reading run xs on) (dayLen run on) ≡ v
+  sum-on =
+      sum-one (reading run xs on) (dayLen run on) at (o .at-in)
+      (λ p m b. o .elsewhere on p on-in m (λ x y. b y) (λ x y. omega (arith, o .order)))
+      ∙ o .first
+
+  sum-late : sumOver (reading run xs late) (dayLen run late) ≡ w
+  sum-late =
+      sum-one (reading run xs late) (dayLen run late) to (o .to-in)
+      (λ p m b. o .elsewhere late p (o .late-in) m (λ x y. omega (arith, o .order)) (λ x y. b y))
+      ∙ o .second
+
+  sum-other : (d : ℕ) → d < n → (d ≡ on → ⊥) → (d ≡ late → ⊥) → sumOver (reading run xs d) (dayLen run d) ≡ 0
+  sum-other d l a b = sum-zeros (reading run xs d) (dayLen run d) (λ p m. o .elsewhere d p l m (λ x y. a x) (λ x y. b x))
+
+  two-sum : sumOf run xs n ≡ v + w
   unfolding sumOf
   two-sum =
-      sum-two (λ d. sumOver (reading run xs d) (dayLen run d)) n on late (o .order) (o .late-in)
-      (λ d l a c. sum-zeros (reading run xs d) (dayLen run d) (λ p m. o .elsewhere d p l m (λ x y. a x) (λ x y. c x)))
-      ∙ omega (
-        arith,
-        o .first,
-        o .second,
-        sum-one (reading run xs on) (dayLen run on) at (o .at-in) (λ p m b. o .elsewhere on p (omega (arith, o .order, o .late-in)) m (λ x y. b y) (λ x y. omega (arith, o .order))),
-        sum-one (reading run xs late) (dayLen run late) to (o .to-in) (λ p m b. o .elsewhere late p (o .late-in) m (λ x y. omega (arith, o .order)) (λ x y. b y)),
-      )
+      sum-two (λ d. sumOver (reading run xs d) (dayLen run d)) n on late (o .order) (o .late-in) sum-other
+      ∙ omega (arith, sum-on, sum-late)
 
   -- H and its place
   module _ (inWindow : ℕ → ℕ → Bool) (some : 0 < v) (inside : inWindow on at ≡ true) (outside : inWindow late to ≡ false) where
@@ -132,7 +143,7 @@ module _ {run : Run} {xs : List ℕ} {n on at v late to w : ℕ} (o : TwoOthers 
 
     two-any : f .any ≡ true
     unfolding figuresOf anyOn
-    two-any = any-at _ n on (omega (arith, o .order, o .late-in)) (any-at (inWindow on) (dayLen run on) at (o .at-in) inside)
+    two-any = any-at _ n on on-in (any-at (inWindow on) (dayLen run on) at (o .at-in) inside)
 
     m-is : f .peak ≡ max v w
     unfolding figuresOf
@@ -145,10 +156,10 @@ module _ {run : Run} {xs : List ℕ} {n on at v late to w : ℕ} (o : TwoOthers 
     is-first : (p : First) → (p .on ≡ on) × (p .at ≡ at)
     is-first p = go (place (p .on) (p .at) (p .on-in) (p .at-in))
       where
-        go : Place (p .on) (p .at) → (p .on ≡ on) × (p .at ≡ at)
+        go : Stands (p .on) (p .at) → (p .on ≡ on) × (p .at ≡ at)
         go (here a b) = (a, b)
         go (there a b) = absurd (clash (p .counts-there) (ap₂ inWindow a b ∙ outside))
-        go (nowhere z) = absurd (omega (arith, z, some, o .first, p .has, p .above on at (omega (arith, o .order, o .late-in)) (o .at-in) inside))
+        go (nowhere z) = absurd (omega (arith, z, some, o .first, p .has, p .above on at on-in (o .at-in) inside))
 
     two-high : (p : First) → f .high ≡ v
     two-high p = sym (p .has) ∙ ap₂ (reading run xs) (is-first p .0) (is-first p .1) ∙ o .first
