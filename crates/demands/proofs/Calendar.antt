@@ -4,7 +4,7 @@ use mathlib.Core.Path.{_≡_, refl, sym, ap, _∙_}
 use mathlib.Core.Bool.{Bool, true, false, not, _&&_, _||_}
 use mathlib.Core.Logic.{_↔_, ⊎-elim}
 use mathlib.Core.List.{List, [], _∷_}
-use Prim.Native.Nat.{ℕ, _+_, _-_, _<_}
+use Prim.Native.Nat.{ℕ, _+_, _-_, _≤_, _<_}
 use native.Mathlib.Omega.{arith}
 use borrow.Author.Tests.{lt-leb, leb-false, eq-eqb, eqb-true}
 use lib.Dec.{leb, eqb}
@@ -35,6 +35,9 @@ module _ (y : ℕ) (hs : List ℕ) where
         λ h. simp (lt-leb d 1 (h .0), lt-leb (yearDays y - 7) d (omega (arith, h .1))),
       )
 
+  workday : (d : ℕ) → weekend y d ≡ false → weekdayOf y d ≤ 4
+  workday d e = omega (arith, leb-false saturday (weekdayOf y d) e)
+
   working : (d : ℕ) → (free y (listed hs) d ≡ false) ↔ Working y hs d
   unfolding free
   working d = (there, back)
@@ -44,7 +47,7 @@ module _ (y : ℕ) (hs : List ℕ) where
           let a = neither (weekend y d) (listed hs d || christmas y d) e in
           let b = neither (listed hs d) (christmas y d) (a .1) in
           let c = away d .0 (b .1) in
-          record { week = omega (arith, leb-false saturday (weekdayOf y d) (a .0)); unlisted = b .0; new-year = c .0; christmas = c .1 }
+          record { week = workday d (a .0); unlisted = b .0; new-year = c .0; christmas = c .1 }
 
       back : Working y hs d → (weekend y d || (listed hs d || christmas y d)) ≡ false
       back w = simp (lt-leb saturday (weekdayOf y d) (omega (arith, w .week)), w .unlisted, away d .1 (w .new-year, w .christmas))
@@ -102,7 +105,7 @@ module _ (y : ℕ) (hs : List ℕ) where
           let x = away d .0 (not-so _ .0 (c .0)) in
           let n = neither _ _ (not-so _ .0 (c .1)) in
           record {
-            working = record { week = omega (arith, leb-false saturday (weekdayOf y d) (not-so _ .0 (a .0))); unlisted = not-so _ .0 (b .0); new-year = x .0; christmas = x .1 };
+            working = record { week = workday d (not-so _ .0 (a .0)); unlisted = not-so _ .0 (b .0); new-year = x .0; christmas = x .1 };
             no-monday = λ h. clash (monday-is d .1 h) (n .0);
             no-friday = λ h. clash (friday-is d .1 h) (n .1);
           }

@@ -16,7 +16,7 @@ use Rattle.tariff.specs.declared.Figures.{Figures}
 use Rattle.readings.specs.declared.Run.{Run}
 use Rattle.readings.specs.Runs.{dayLen, quarterOf, reading}
 use Rattle.readings.specs.Legal.{dayPeak, peakOf}
-use Rattle.readings.proofs.Days.{reading-le}
+use Rattle.readings.proofs.Legal.{reading-le}
 use Rattle.figures.specs.Figures.{sumOf, anyOn, figuresOf, FirstPlace}
 use Rattle.figures.proofs.Peak.{first-place}
 

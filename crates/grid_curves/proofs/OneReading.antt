@@ -15,7 +15,7 @@ use Rattle.periods.specs.Period.{periodSeason}
 use Rattle.readings.specs.declared.Run.{Run}
 use Rattle.readings.specs.Runs.{dayLen, quarterOf, reading}
 use Rattle.readings.specs.Legal.{dayPeak, peakOf}
-use Rattle.readings.proofs.Days.{reading-le}
+use Rattle.readings.proofs.Legal.{reading-le}
 use Rattle.grid_curves.specs.Curves.{periodRun, inSeason, topOf, curveAt}
 use Rattle.grid_curves.proofs.Curves.{curve-le, in-curve}
 
