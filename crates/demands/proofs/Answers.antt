@@ -10,6 +10,7 @@ use borrow.Author.Tests.{eq-eqb, ne-eqb}
 use lib.Dec.{ltb, eqb}
 use lib.ListN.{length, getD, take, drop}
 use Rattle.over.specs.Limits.{Within}
+use Rattle.over.specs.Over.{table}
 use Rattle.over.proofs.Tables.{getD-table, table-cong}
 use Rattle.answers.specs.Ruling.{dayQuarters, gridMost}
 use Rattle.answers.specs.Said.{Said, only, orElse}
@@ -38,7 +39,8 @@ use Rattle.tariff.proofs.Exactly.{eligible-exactly, charge-exactly, judge-exact
 use Rattle.customer.proofs.Exactly.{customer-open-exactly, customer-day-exactly, customer-close-exactly, decide-exactly}
 use Rattle.customer.proofs.Whole.{days-whole as customer-days, same-place as customer-place}
 use Rattle.demands.specs.Module.{ours}
-use Rattle.demands.specs.Answers.{ExactlyWhen, curveIn, ToTheQuarterHour, DaysAsWhole}
+use Rattle.demands.specs.Answers.{ExactlyWhen, ToTheQuarterHour, DaysAsWhole}
+use Rattle.demands.proofs.Windows.{peak-one, curve-one, kept-plain}
 use Rattle.demands.proofs.Sheets.{handed, rest-stays}
 
 pub exactly-when : ExactlyWhen ours
@@ -81,7 +83,10 @@ otherwise : (t : Bool) (n : ℕ) (a : Said) → (n ≡ 0 → ⊥) → cond t (on
 otherwise true n a r z = absurd (r z)
 otherwise false n a r z = refl
 
--- the curve of a season, out of the flat curves
+-- the curve of a season, by the definition and out of the flat curves
+abbrev curveIn : ℕ → List ℕ → ℕ → List ℕ
+curveIn y xs s = table (curveAt y xs (periodDays y) s) dayQuarters
+
 curve-is : (y : ℕ) (xs : List ℕ) (s : ℕ) → Within 1 seasons s → getD (curvesOf (flatCurves y xs (periodDays y))) (s - 1) [] ≡ curveIn y xs s
 unfolding curvesOf curveOf flatCurves
 curve-is y xs s h =
@@ -140,6 +145,9 @@ to-the-quarter-hour y level xs buffer z =
       accepted = ap (λ (x : SheetRead). x .answer) r;
       year-is = ap (λ (x : SheetRead). x .sheet .year) r;
       level-is = ap (λ (x : SheetRead). x .sheet .level) r;
-      windows-are = λ s q h l. ap (λ (x : SheetRead). isSet (x .sheet .windows) s q) r ∙ window-is y level xs buffer z s q h l;
+      windows-are = λ s q h l peak c i j.
+          let shown = ap (λ (x : SheetRead). isSet (x .sheet .windows) s q) r ∙ window-is y level xs buffer z s q h l in
+          rw (shown, ← peak-one y xs peak i)
+          (kept-plain peak c (curveIn y xs s) (λ p m. curve-one y xs s c j p m ∙ sym (getD-table (curveAt y xs (periodDays y) s) dayQuarters p 0 m)) q l);
       rest-stays = ap (drop sheetSize) (buffer-is y level xs buffer z) ∙ rest-stays (laid y level xs buffer z) buffer (accepts y level xs buffer z);
     }

@@ -121,7 +121,7 @@ module _ (y : ℕ) (hs : List ℕ) where
           simp (lt-leb saturday (weekdayOf y d) (omega (arith, o .week)), o .unlisted, away d .1 (o .new-year, o .christmas), m, f)
 
 -- what 0 carries
-bit-one : (b : Bool) → (bit b ∷ [] ≡ 1 ∷ []) ↔ (b ≡ true)
+pub bit-one : (b : Bool) → (bit b ∷ [] ≡ 1 ∷ []) ↔ (b ≡ true)
 bit-one true = ((λ e. refl), (λ e. refl))
 bit-one false = ((λ e. absurd (omega (arith, ap (λ (x : List ℕ). getD x 0 0) e))), (λ e. absurd (clash e refl)))
 

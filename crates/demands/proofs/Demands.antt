@@ -5,11 +5,13 @@ use Rattle.demands.specs.Demands.{Demands}
 use Rattle.demands.proofs.Refusals.{left-as-before, fixed-state}
 use Rattle.demands.proofs.Carried.{carried}
 use Rattle.demands.proofs.Calendar.{calendar}
+use Rattle.demands.proofs.Charges.{to-the-cent}
 use Rattle.demands.proofs.Fair.{fairness}
 use Rattle.demands.proofs.HandedBack.{handed-back}
 use Rattle.demands.proofs.Sheets.{sheets}
 use Rattle.demands.proofs.Answers.{exactly-when, to-the-quarter-hour, days-as-whole}
 use Rattle.demands.proofs.Missing.{never-legal}
+use Rattle.demands.proofs.Parts.{handed-out}
 use Rattle.demands.proofs.Eligibility.{eligibility}
 
 pub met : Demands ours
@@ -21,8 +23,10 @@ met =
       carried = carried;
       exactly-when = exactly-when;
       never-legal = never-legal;
+      handed-out = handed-out;
       calendar = calendar;
       to-the-quarter-hour = to-the-quarter-hour;
+      to-the-cent = to-the-cent;
       eligibility = eligibility;
       days-as-whole = days-as-whole;
       sheets = sheets;

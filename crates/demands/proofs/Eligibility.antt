@@ -1,28 +1,58 @@
 -- Eligibility goes by the in-window quarters: 8 where there is none, else H is their highest reading, at its first place.
 -- Assumes nothing.
-use mathlib.Core.Path.{_≡_, refl, sym, _∙_}
+use mathlib.Core.Path.{_≡_, refl, sym, ap, _∙_}
 use mathlib.Core.Bool.{true, false}
 use mathlib.Core.Logic.{_↔_}
-use mathlib.Core.List.{List}
-use Prim.Native.Nat.{ℕ, _<_}
+use mathlib.Core.List.{List, [], _∷_}
+use Prim.Native.Nat.{ℕ, _+_, _≤_, _<_}
+use native.Mathlib.Nat.{le-trans}
 use native.Mathlib.Omega.{arith}
+use borrow.Author.Tests.{eq-eqb}
+use lib.ListN.{length, getD}
+use Rattle.over.specs.Over.{bit, sumOver}
+use Rattle.over.proofs.Largest.{largest-le}
+use Rattle.over.proofs.Bools.{both, pair}
 use Rattle.over.proofs.Tests.{any-at, any-fails}
-use Rattle.readings.specs.Runs.{dayLen}
+use Rattle.answers.specs.Ruling.{ChargeYear}
+use Rattle.answers.specs.Said.{only}
+use Rattle.dates.specs.Dates.{seasonOf}
+use Rattle.holidays.specs.Holidays.{LegalHolidays}
+use Rattle.calendar.specs.Free.{carries}
+use Rattle.calendar.specs.Answer.{dayAnswer}
+use Rattle.calendar.specs.Answer.DayRow.{zero}
+use Rattle.calendar.proofs.Answers.{exactly}
+use Rattle.readings.specs.Runs.{dayLen, dayStart, quarterOf, reading}
+use Rattle.readings.specs.Legal.{dayPeak, peakOf}
+use Rattle.readings.proofs.Runs.{run-all, year-run}
+use Rattle.readings.proofs.Legal.{reading-le}
+use Rattle.sheet.specs.Windows.{isSet}
 use Rattle.sheet.specs.Bytes.{sheetIn}
+use Rattle.sheet.specs.Answers.{readAnswer, readSheet}
+use Rattle.sheet.specs.Rows.{ReadRow}
+use Rattle.sheet.specs.Rows.ReadRow.{malformed, one, two, full, zero}
+use Rattle.sheet.proofs.Exactly.{read-exactly}
 use Rattle.tariff.specs.Rows.{JudgeRow}
 use Rattle.tariff.specs.Rows.JudgeRow.{two, six, eight, nine, ten, eleven, zero}
 use Rattle.tariff.proofs.Answered.{number-is}
 use Rattle.tariff.proofs.Exactly.{judge-exactly}
 use Rattle.figures.specs.Figures.{anyOn, figuresOf, FirstPlace}
+use Rattle.figures.proofs.Sum.{sum-flat}
 use Rattle.figures.proofs.Peak.{first-place, nowhere-in}
+use Rattle.day_figures.specs.Counts.{setOn}
 use Rattle.customer.specs.declared.Terms.{Terms}
 use Rattle.customer.specs.Counts.{counts}
 use Rattle.customer.specs.Answers.{termsOf}
-use Rattle.customer.specs.Demand.{Basis, basisRun, basisDays, inWindow, LegalYear}
+use Rattle.customer.specs.Rows.{CustomerOpenRow}
+use Rattle.customer.specs.Rows.CustomerOpenRow.{sheet, three, six, zero}
+use Rattle.customer.specs.Demand.{Basis, basisYear, basisRun, basisDays, inWindow, LegalYear}
+use Rattle.customer.proofs.Exactly.{customer-open-exactly}
 use Rattle.customer.proofs.Demand.{counts-window, whole-one}
-use Rattle.demands.specs.Year.{decideFor, figuresIn}
+use Rattle.demands.specs.Year.{opensFor, decideFor, figuresIn}
 use Rattle.demands.specs.Module.{ours}
 use Rattle.demands.specs.Answers.{Eligibility}
+use Rattle.demands.proofs.Carried.{carried}
+use Rattle.demands.proofs.Calendar.{bit-one}
+use Rattle.demands.proofs.Sheets.{handed}
 use Rattle.demands.proofs.Fair.{legal-basis}
 
 module _ (k : Basis) (xs : List ℕ) where
@@ -81,9 +111,70 @@ module _ (k : Basis) (xs : List ℕ) where
         before = λ p b t. f .before p b (counts-window k (f .on) p (f .on-in) ∙ t);
       }
 
+-- on an opened basis the calendar answers 0 for every day of the year, and the sheet that reading shows is the basis's
+module _ (k : Basis) (o : opensFor k ≡ only 0) where
+  abbrev hs : List ℕ
+  hs = k .holidays
+
+  legal-lists : {n : ℕ} → CustomerOpenRow (k .sheet) hs (k .prices) n → n ≡ 0 → ReadRow (k .sheet) 0 × LegalHolidays (basisYear k) hs
+  legal-lists (sheet r z) e = absurd (z e)
+  legal-lists (three r h) e = absurd (omega arith)
+  legal-lists (six r h p) e = absurd (omega arith)
+  legal-lists (zero r h p) e = (r, h)
+
+  lists : ReadRow (k .sheet) 0 × LegalHolidays (basisYear k) hs
+  lists = legal-lists (customer-open-exactly (k .sheet) hs (k .prices) 0 .0 (number-is o)) refl
+
+  legal-year : {n : ℕ} → ReadRow (k .sheet) n → n ≡ 0 → ChargeYear (basisYear k)
+  legal-year (malformed f) e = absurd (omega arith)
+  legal-year (one f y) e = absurd (omega arith)
+  legal-year (two f y l) e = absurd (omega arith)
+  legal-year (full f y l w) e = absurd (omega arith)
+  legal-year (zero f y l w) e = y
+
+  shown : readSheet (k .sheet) ≡ sheetIn (k .sheet)
+  unfolding readSheet
+  shown = handed (readAnswer (k .sheet)) (sheetIn (k .sheet)) _ (read-exactly (k .sheet) 0 .1 (lists .0))
+
+  module _ (d p : ℕ) (l : d < basisDays k) where
+    answered : dayAnswer (basisYear k) hs (d + 1) .number ≡ 0
+    answered = exactly (basisYear k) hs (d + 1) 0 .1 (zero (legal-year (lists .0) refl) (lists .1) (record { from = omega arith; to = omega arith }))
+
+    yes-is : dayAnswer (basisYear k) hs (d + 1) .carries ≡ bit (carries (basisYear k) hs (d + 1)) ∷ []
+    yes-is = carried .calendar (basisYear k) hs (d + 1) .listed ∙ simp (eq-eqb _ _ answered)
+
+    by-answers :
+        (inWindow k d p ≡ true)
+        ↔ ((dayAnswer (basisYear k) hs (d + 1) .carries ≡ 1 ∷ [])
+        × (isSet (readSheet (k .sheet) .windows) (seasonOf (basisYear k) (d + 1)) (quarterOf (basisRun k) d p) ≡ true))
+    unfolding setOn
+    by-answers =
+        rw (yes-is, shown) (
+          (λ e. let b = both (carries (basisYear k) hs (d + 1)) _ e in (bit-one _ .1 (b .0), b .1)),
+          λ h. pair {a = carries (basisYear k) hs (d + 1)} (bit-one _ .0 (h .0)) (h .1),
+        )
+
+-- M and S, by the readings
+module _ (k : Basis) (xs : List ℕ) where
+  peak-when : (b : ℕ) → (figuresIn k xs .peak ≤ b) ↔ ((d p : ℕ) → d < basisDays k → p < dayLen (basisRun k) d → reading (basisRun k) xs d p ≤ b)
+  unfolding figuresOf peakOf dayPeak
+  peak-when b = (
+    λ h d p l m. le-trans (reading-le (basisRun k) xs (basisDays k) d p l m) h,
+    λ low. largest-le (dayPeak (basisRun k) xs) (basisDays k) b (λ d l. largest-le (reading (basisRun k) xs d) (dayLen (basisRun k) d) b (λ p m. low d p l m)),
+  )
+
+  sum-is : LegalYear k xs → figuresIn k xs .sum ≡ sumOver (λ i. getD xs i 0) (length xs)
+  unfolding figuresOf
+  sum-is l =
+      sum-flat (basisRun k) xs (basisDays k)
+      ∙ ap (sumOver (λ i. getD xs i 0)) (ap (dayStart (basisRun k)) (sym (year-run (basisYear k))) ∙ run-all (basisRun k) ∙ sym (l .series .long))
+
 pub eligibility : Eligibility ours
 eligibility =
     record {
+      peak = peak-when;
+      sum = sum-is;
+      in-window = λ k d p o l. by-answers k o d p l;
       eight = λ k xs l. eight-when k xs l;
       high = λ k xs d p y l h t. by-calendar k xs (first-place (basisRun k) (counts (terms k xs)) xs (basisDays k) (some-in k xs d p l h t));
     }

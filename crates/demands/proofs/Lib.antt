@@ -4,8 +4,11 @@ pub mod Calendar
 pub mod Fair
 pub mod HandedBack
 pub mod Sheets
+pub mod Windows
+pub mod Charges
 pub mod Answers
 pub mod Missing
+pub mod Parts
 pub mod Eligibility
 pub mod Demands
 pub mod Alike

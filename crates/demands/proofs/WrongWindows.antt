@@ -2,6 +2,7 @@
 -- fixed sheet.
 -- Assumes nothing.
 use mathlib.Core.Path.{_≡_, refl, sym, ap, _∙_}
+use mathlib.Core.Logic.{_↔_}
 use mathlib.Core.Bool.{Bool, true, false, _&&_, and-false}
 use mathlib.Core.List.{List}
 use Prim.Native.Nat.{ℕ, _*_, _≤_, _<_}
@@ -10,8 +11,7 @@ use native.Mathlib.Omega.{arith}
 use borrow.Author.Tests.{lt-ltb, le-ltb, eq-eqb, ne-eqb}
 use lib.Dec.{eqb}
 use lib.ListN.{length, getD, take, replicate, length-replicate}
-use Rattle.over.specs.Limits.{Within}
-use Rattle.over.specs.Over.{joined, sumOver, countOver, largestOver, counted}
+use Rattle.over.specs.Over.{table, joined, sumOver, countOver, largestOver, counted}
 use Rattle.over.proofs.Bools.{clash, pair}
 use Rattle.over.proofs.Largest.{largest-le}
 use Rattle.over.proofs.Tables.{getD-table}
@@ -23,7 +23,7 @@ use Rattle.readings.specs.Runs.{runDays, dayLen, quarterOf, runReadings, readin
 use Rattle.readings.specs.Illegal.{AllLegalIn}
 use Rattle.readings.proofs.Runs.{len-some, quarter-is, period-run}
 use Rattle.readings.proofs.Illegal.{all-legal-in}
-use Rattle.sheet.specs.Windows.{seasons, isSet}
+use Rattle.sheet.specs.Windows.{isSet}
 use Rattle.sheet.specs.Bytes.{sheetSize}
 use Rattle.windows.specs.Chosen.{aboveLine, comesBefore, rank, kept}
 use Rattle.grid_curves.specs.Curves.{periodRun, inSeason, topOf, curveAt}
@@ -31,10 +31,12 @@ use Rattle.grid.specs.Rows.{periodPeak}
 use Rattle.grid.specs.Rows.WindowsRow.{zero}
 use Rattle.grid_curves.proofs.Curves.{curve-le, in-curve}
 use Rattle.tariff.proofs.Answered.{number-is}
-use Rattle.demands.specs.Answers.{curveIn, SheetLaid}
+use Rattle.demands.specs.Windows.{Kept}
+use Rattle.demands.specs.Answers.{sheetShown, SheetLaid}
 use Rattle.demands.specs.Module.{Module}
 use Rattle.demands.specs.Demands.{Demands}
 use Rattle.demands.specs.Wrong.{OneSheet}
+use Rattle.demands.proofs.Windows.{peak-plain, curve-plain, kept-plain}
 use Rattle.demands.proofs.Series.{everywhere, everywhere-long, everywhere-at, everywhere-peak, atStart, start-later, start-long, start-peak}
 
 -- the reference period of 2025, and a buffer of 56 zeros
@@ -89,7 +91,7 @@ unfolding periodSeason periodDate seasonOf monthOf daysTo leapDay leap countOver
 first-season = refl
 
 abbrev summerCurve : List ℕ → List ℕ
-summerCurve xs = curveIn 2025 xs 3
+summerCurve xs = table (curveAt 2025 xs (periodDays 2025) 3) dayQuarters
 
 value-is : (xs : List ℕ) (q : ℕ) → q < dayQuarters → getD (summerCurve xs) q 0 ≡ curveAt 2025 xs (periodDays 2025) 3 q
 value-is xs q l = getD-table (curveAt 2025 xs (periodDays 2025) 3) dayQuarters q 0 l
@@ -159,11 +161,17 @@ module _ (m : Module) (d : Demands m) (level : ℕ) (l : Level level) where
       let marked = d .sheets .read-so (take sheetSize (m .windowsLaid 2025 level same blankBuffer)) (number-is (same-laid .accepted)) .h in
       omega (arith, marked, ap (λ (b : List ℕ). getD (take sheetSize b) 0 0) stays)
 
-  -- quarter 0 of summer is a window of the one series and not of the other
+  -- quarter 0 of summer, by the definition
+  kept-there : (xs : List ℕ) → (kept (periodPeak 2025 xs) (summerCurve xs) 0 ≡ true) ↔ Kept (periodPeak 2025 xs) (curveAt 2025 xs (periodDays 2025) 3) 0
+  kept-there xs = kept-plain (periodPeak 2025 xs) (curveAt 2025 xs (periodDays 2025) 3) (summerCurve xs) (λ q l. sym (value-is xs q l)) 0 (omega arith)
+
+  window : (xs : List ℕ) → SheetLaid m 2025 level xs blankBuffer → (isSet (sheetShown m 2025 level xs blankBuffer .windows) 3 0 ≡ true) ↔ Kept (periodPeak 2025 xs) (curveAt 2025 xs (periodDays 2025) 3) 0
+  window xs l = l .windows-are 3 0 (record { from = omega arith; to = omega arith }) (omega arith) (periodPeak 2025 xs) (curveAt 2025 xs (periodDays 2025) 3) (peak-plain 2025 xs) (curve-plain 2025 xs 3)
+
+  -- it is a window of the one series and not of the other
   pub one-sheet : OneSheet m → ⊥
   one-sheet o =
-      let summer : Within 1 seasons 3 = record { from = omega arith; to = omega arith } in
       let shown : List Bool → Bool = λ w. isSet w 3 0 in
-      let set : isSet (o .windows) 3 0 ≡ true = ap shown (sym (o .fixed 2025 level same blankBuffer same-accepted)) ∙ same-laid .windows-are 3 0 summer (omega arith) ∙ same-kept in
-      let clear : isSet (o .windows) 3 0 ≡ false = ap shown (sym (o .fixed 2025 level first blankBuffer first-accepted)) ∙ first-laid .windows-are 3 0 summer (omega arith) ∙ first-kept in
-      clash set clear
+      let set : isSet (o .windows) 3 0 ≡ true = ap shown (sym (o .fixed 2025 level same blankBuffer same-accepted)) ∙ window same same-laid .1 (kept-there same .0 same-kept) in
+      let held : isSet (sheetShown m 2025 level first blankBuffer .windows) 3 0 ≡ true = ap shown (o .fixed 2025 level first blankBuffer first-accepted) ∙ set in
+      clash (kept-there first .1 (window first first-laid .0 held)) first-kept

@@ -3,34 +3,35 @@
 use mathlib.Core.Path.{_≡_}
 use mathlib.Core.Bool.{Bool, true, false}
 use mathlib.Core.Logic.{_↔_, _⊎_}
-use mathlib.Core.List.{List}
-use Prim.Native.Nat.{ℕ, _+_, _<_}
+use mathlib.Core.List.{List, [], _∷_}
+use Prim.Native.Nat.{ℕ, _+_, _*_, _≤_, _<_}
 use lib.ListN.{length, getD, take, drop}
 use Rattle.over.specs.Limits.{Within}
-use Rattle.over.specs.Over.{table}
+use Rattle.over.specs.Over.{sumOver}
 use Rattle.answers.specs.Ruling.{dayQuarters, gridMost, customerMost, missing}
 use Rattle.answers.specs.Said.{only, badPlace}
+use Rattle.dates.specs.Dates.{seasonOf}
 use Rattle.periods.specs.Period.{periodDays}
 use Rattle.calendar.specs.Answer.{DayRow}
-use Rattle.readings.specs.Runs.{dayLen, reading}
+use Rattle.readings.specs.Runs.{dayLen, quarterOf, reading}
 use Rattle.readings.specs.Days.{BadThere, AsWhole}
 use Rattle.readings.specs.Rows.{NextRow}
 use Rattle.sheet.specs.declared.Sheet.{Sheet}
 use Rattle.sheet.specs.Windows.{seasons, isSet}
 use Rattle.sheet.specs.Bytes.{sheetSize}
 use Rattle.sheet.specs.Rows.{ReadRow, WriteRow}
-use Rattle.windows.specs.Chosen.{kept}
 use Rattle.grid.specs.declared.Grid.{Grid}
-use Rattle.grid_curves.specs.Curves.{periodRun, curveAt}
-use Rattle.grid.specs.Rows.{OpenRow, CloseRow, WindowsRow, periodPeak}
+use Rattle.grid_curves.specs.Curves.{periodRun}
+use Rattle.grid.specs.Rows.{OpenRow, CloseRow, WindowsRow}
 use Rattle.tariff.specs.declared.Prices.{Prices}
 use Rattle.tariff.specs.declared.Figures.{Figures}
 use Rattle.tariff.specs.Rows.{EligibleRow, ChargeRow, JudgeRow}
 use Rattle.figures.specs.Figures.{FirstPlace}
 use Rattle.customer.specs.declared.Customer.{Customer}
 use Rattle.customer.specs.Rows.{CustomerOpenRow, CustomerDayRow, CustomerCloseRow, DecideRow}
-use Rattle.customer.specs.Demand.{Basis, basisRun, basisDays, inWindow, LegalYear}
+use Rattle.customer.specs.Demand.{Basis, basisYear, basisRun, basisDays, inWindow, LegalYear}
 use Rattle.demands.specs.Year.{figuresIn}
+use Rattle.demands.specs.Windows.{IsPeak, IsCurve, Kept}
 use Rattle.demands.specs.Module.{Module, gridEnd, gridWhole}
 
 -- Numbered answers, "given exactly when": each call gives a number n exactly when its row holds and no number before it in the call's order is given
@@ -84,11 +85,15 @@ pub record NeverLegal (m : Module) : Type 0 where
       → ⊥
   pub customer-day : (c : Customer) (day : List ℕ) (p : ℕ) → p < length day → getD day p 0 ≡ missing → m .customerDay c day .number ≡ 0 → ⊥
 
--- "Windows .. are those of document 01, to the quarter-hour": the curve of a season, and the sheet that a reader of the first 56 bytes has which a series
--- leaves in the buffer. Each quarter of each season is a window exactly when it is kept of its curve.
-abbrev pub curveIn : ℕ → List ℕ → ℕ → List ℕ
-curveIn y xs s = table (curveAt y xs (periodDays y) s) dayQuarters
+-- Numbered answers: "one day's ninety-six readings are handed out as a part of the year the caller lent .. for day 0, or a day the run doesn't wholly hold,
+-- the part is empty". Day d, from 0, begins behind the 96 readings of each day before it.
+pub record HandedOut (m : Module) : Type 0 where
+  pub long : (xs : List ℕ) (d : ℕ) → 96 * (d + 1) ≤ length xs → length (m .part xs (d + 1)) ≡ 96
+  pub each : (xs : List ℕ) (d p : ℕ) → 96 * (d + 1) ≤ length xs → p < 96 → getD (m .part xs (d + 1)) p 0 ≡ getD xs (96 * d + p) 0
+  pub empty : (xs : List ℕ) (day : ℕ) → (day ≡ 0) ⊎ (length xs < 96 * day) → m .part xs day ≡ []
 
+-- "Windows .. are those of document 01, to the quarter-hour": the sheet that a reader of the first 56 bytes has which a series leaves in the buffer. Each
+-- quarter of each season is a window exactly when it is kept of the season's curve, in plain orders (specs/Windows).
 module _ (m : Module) where
   abbrev pub sheetShown : ℕ → ℕ → List ℕ → List ℕ → Sheet
   sheetShown y level xs buffer = m .sheetRead (take sheetSize (m .windowsLaid y level xs buffer))
@@ -101,7 +106,10 @@ module _ (m : Module) where
         (s q : ℕ)
         → Within 1 seasons s
         → q < dayQuarters
-        → isSet (sheetShown y level xs buffer .windows) s q ≡ kept (periodPeak y xs) (curveIn y xs s) q
+        → (peak : ℕ) (curve : ℕ → ℕ)
+        → IsPeak y xs peak
+        → IsCurve y xs s curve
+        → (isSet (sheetShown y level xs buffer .windows) s q ≡ true) ↔ Kept peak curve q
     pub rest-stays : drop sheetSize (m .windowsLaid y level xs buffer) ≡ drop sheetSize buffer
 
   abbrev pub ToTheQuarterHour : Type 0
@@ -110,6 +118,20 @@ module _ (m : Module) where
 -- "eligibility": a complete legal year on an accepted basis is answered 8 exactly when no quarter is what demand 3 calls in-window; where one is, H is the
 -- highest reading of these quarters, and its place the first that has it
 pub record Eligibility (m : Module) : Type 0 where
+  -- what demand 3 calls in-window is what the calendar and the sheet say: position p of day d, from 0, counts exactly when the calendar carries yes for the
+  -- day and the quarter is a window of the day's season
+  pub in-window :
+      (k : Basis) (d p : ℕ)
+      → m .customerOpen k ≡ only 0
+      → d < basisDays k
+      → (inWindow k d p ≡ true)
+      ↔ ((m .calendar (basisYear k) (k .holidays) (d + 1) .carries ≡ 1 ∷ [])
+      × (isSet (m .sheetRead (k .sheet) .windows) (seasonOf (basisYear k) (d + 1)) (quarterOf (basisRun k) d p) ≡ true))
+  -- M is the highest reading and S the sum of all readings
+  pub peak :
+      (k : Basis) (xs : List ℕ) (b : ℕ)
+      → (figuresIn k xs .peak ≤ b) ↔ ((d p : ℕ) → d < basisDays k → p < dayLen (basisRun k) d → reading (basisRun k) xs d p ≤ b)
+  pub sum : (k : Basis) (xs : List ℕ) → LegalYear k xs → figuresIn k xs .sum ≡ sumOver (λ i. getD xs i 0) (length xs)
   pub eight :
       (k : Basis) (xs : List ℕ)
       → LegalYear k xs

@@ -13,7 +13,8 @@ use Rattle.customer.specs.Demand.{Basis}
 use Rattle.demands.specs.Module.{Module}
 use Rattle.demands.specs.Refusals.{LeftAsBefore, FixedState, HandedBack, Carried}
 use Rattle.demands.specs.Calendar.{Calendar}
-use Rattle.demands.specs.Answers.{ExactlyWhen, NeverLegal, ToTheQuarterHour, Eligibility, DaysAsWhole}
+use Rattle.demands.specs.Charges.{ToTheCent}
+use Rattle.demands.specs.Answers.{ExactlyWhen, NeverLegal, HandedOut, ToTheQuarterHour, Eligibility, DaysAsWhole}
 use Rattle.demands.specs.Sheets.{Sheets}
 use Rattle.demands.specs.Fair.{Fairness}
 
@@ -26,8 +27,10 @@ pub record Demands (m : Module) : Type 0 where
   -- demand 2
   pub exactly-when : ExactlyWhen m
   pub never-legal : NeverLegal m
+  pub handed-out : HandedOut m
   pub calendar : Calendar m
   pub to-the-quarter-hour : ToTheQuarterHour m
+  pub to-the-cent : ToTheCent
   pub eligibility : Eligibility m
   pub days-as-whole : DaysAsWhole m
   pub sheets : Sheets m

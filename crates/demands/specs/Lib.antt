@@ -2,6 +2,8 @@ pub mod Year
 pub mod Module
 pub mod Refusals
 pub mod Calendar
+pub mod Windows
+pub mod Charges
 pub mod Answers
 pub mod Sheets
 pub mod Fair

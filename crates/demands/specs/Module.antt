@@ -8,6 +8,7 @@ use Prim.Native.Nat.{ℕ}
 use lib.ListN.{length}
 use Rattle.answers.specs.Said.{Said}
 use Rattle.calendar.specs.Answer.{dayAnswer as calendarAnswer}
+use Rattle.readings.specs.Part.{dayPart}
 use Rattle.readings.specs.Days.{offered}
 use Rattle.sheet.specs.declared.Sheet.{Sheet}
 use Rattle.sheet.specs.Answers.{readAnswer, readSheet, writeAnswer, written as sheetWritten}
@@ -24,6 +25,8 @@ use Rattle.demands.specs.Year.{opensFor, openFor, decideFor}
 pub record Module : Type 0 where
   -- a calendar day: year, holiday list, day
   pub calendar : ℕ → List ℕ → ℕ → Said
+  -- a day that is handed out as a part of a lent series: the series, and the day from 1
+  pub part : List ℕ → ℕ → List ℕ
   -- a sheet that is read from bytes: the answer, and the sheet beside it
   pub read : List ℕ → Said
   pub sheetRead : List ℕ → Sheet
@@ -56,6 +59,7 @@ abbrev pub ours : Module
 ours =
     record {
       calendar = calendarAnswer;
+      part = dayPart;
       read = readAnswer;
       sheetRead = readSheet;
       write = writeAnswer;

@@ -2,3 +2,4 @@ pub mod Taken
 pub mod Peak
 pub mod Agree
 pub mod TwoReadings
+pub mod Sum

@@ -1,0 +1,43 @@
+-- Demand 2, the windows of a season in plain orders: the highest readings of all days of the reference period, weekends too, and which quarters are kept.
+-- Year y, the series xs; seasons s from 1, days d, positions p and quarters q from 0.
+use mathlib.Core.Path.{_≡_}
+use mathlib.Core.Bool.{Bool, _&&_, _||_}
+use mathlib.Core.List.{List}
+use Prim.Native.Nat.{ℕ, _+_, _*_, _≤_, _<_}
+use lib.Dec.{ltb, eqb}
+use Rattle.over.specs.Over.{countOver}
+use Rattle.periods.specs.Period.{periodDays, periodSeason}
+use Rattle.readings.specs.Runs.{dayLen, quarterOf, reading}
+use Rattle.grid_curves.specs.Curves.{periodRun}
+
+module _ (y : ℕ) (xs : List ℕ) where
+  -- no reading of the period is above b; none in quarter q of the days of season s is
+  abbrev pub NoneAbove : ℕ → Type 0
+  NoneAbove b = (d p : ℕ) → d < periodDays y → p < dayLen (periodRun y) d → reading (periodRun y) xs d p ≤ b
+
+  abbrev pub NoneAboveIn : ℕ → ℕ → ℕ → Type 0
+  NoneAboveIn s q b =
+      (d p : ℕ)
+      → d < periodDays y
+      → p < dayLen (periodRun y) d
+      → periodSeason y (d + 1) ≡ s
+      → quarterOf (periodRun y) d p ≡ q
+      → reading (periodRun y) xs d p ≤ b
+
+  -- the peak, and the curve of season s: the least numbers of that kind, so the highest readings
+  pub record IsPeak (peak : ℕ) : Type 0 where
+    pub bound : NoneAbove peak
+    pub least : (b : ℕ) → NoneAbove b → peak ≤ b
+
+  pub record IsCurve (s : ℕ) (curve : ℕ → ℕ) : Type 0 where
+    pub bound : (q : ℕ) → q < 96 → NoneAboveIn s q (curve q)
+    pub least : (q : ℕ) → q < 96 → (b : ℕ) → NoneAboveIn s q b → curve q ≤ b
+
+-- quarter q is kept: 20 times its value exceeds 19 times the peak, and of the quarters of which that is true fewer than 40 are higher, or equal and earlier
+module _ (peak : ℕ) (curve : ℕ → ℕ) where
+  abbrev pub ahead : ℕ → ℕ → Bool
+  ahead q p = ltb (19 * peak) (20 * curve p) && (ltb (curve q) (curve p) || (eqb (curve p) (curve q) && ltb p q))
+
+  pub record Kept (q : ℕ) : Type 0 where
+    pub above : 19 * peak < 20 * curve q
+    pub few : countOver (ahead q) 96 < 40
