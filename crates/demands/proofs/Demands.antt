@@ -5,6 +5,7 @@ use Rattle.demands.specs.Demands.{Demands}
 use Rattle.demands.proofs.Refusals.{left-as-before, fixed-state}
 use Rattle.demands.proofs.Carried.{carried}
 use Rattle.demands.proofs.Calendar.{calendar}
+use Rattle.demands.proofs.Numbers.{numbers, dates}
 use Rattle.demands.proofs.Charges.{to-the-cent}
 use Rattle.demands.proofs.Fair.{fairness}
 use Rattle.demands.proofs.HandedBack.{handed-back}
@@ -21,6 +22,8 @@ met =
       fixed-state = fixed-state;
       handed-back = handed-back;
       carried = carried;
+      numbers = numbers;
+      dates = dates;
       exactly-when = exactly-when;
       never-legal = never-legal;
       handed-out = handed-out;

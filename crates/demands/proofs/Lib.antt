@@ -6,6 +6,7 @@ pub mod HandedBack
 pub mod Sheets
 pub mod Windows
 pub mod Charges
+pub mod Numbers
 pub mod Answers
 pub mod Missing
 pub mod Parts

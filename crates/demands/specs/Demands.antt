@@ -13,6 +13,7 @@ use Rattle.customer.specs.Demand.{Basis}
 use Rattle.demands.specs.Module.{Module}
 use Rattle.demands.specs.Refusals.{LeftAsBefore, FixedState, HandedBack, Carried}
 use Rattle.demands.specs.Calendar.{Calendar}
+use Rattle.demands.specs.Numbers.{Numbers, Dates}
 use Rattle.demands.specs.Charges.{ToTheCent}
 use Rattle.demands.specs.Answers.{ExactlyWhen, NeverLegal, HandedOut, ToTheQuarterHour, Eligibility, DaysAsWhole}
 use Rattle.demands.specs.Sheets.{Sheets}
@@ -25,6 +26,8 @@ pub record Demands (m : Module) : Type 0 where
   pub handed-back : HandedBack m
   pub carried : Carried m
   -- demand 2
+  pub numbers : Numbers
+  pub dates : Dates
   pub exactly-when : ExactlyWhen m
   pub never-legal : NeverLegal m
   pub handed-out : HandedOut m

@@ -4,6 +4,7 @@ pub mod Refusals
 pub mod Calendar
 pub mod Windows
 pub mod Charges
+pub mod Numbers
 pub mod Answers
 pub mod Sheets
 pub mod Fair

@@ -116,3 +116,17 @@ module _ (y k : ℕ) where
       go : Dec (122 < k) → k + periodLeft y k ≤ periodDays y
       go (no h) = omega (arith, early-room (omega arith), period-days y (y - 1) (yearDays (y - 1)) refl refl)
       go (yes h) = late-room h l
+
+-- each day's year and number, for who does not name a date
+pub from-september : (y k : ℕ) → k ≤ 122 → (periodDate y k .year ≡ y - 2) × (periodDate y k .day ≡ dayOf (y - 2) 9 k)
+from-september y k h =
+    let e = early-date y k (y - 2) (daysTo (y - 2) 8) refl refl h in
+    (ap (λ (d : Date). d .year) (sym e), ap (λ (d : Date). d .day) (sym e))
+
+pub from-january : (y k : ℕ) → 122 < k → (periodDate y k .year ≡ y - 1) × (periodDate y k .day ≡ k - 122)
+from-january y k h =
+    let e = period-late y k (y - 1) refl h in
+    (ap (λ (d : Date). d .year) (sym e), ap (λ (d : Date). d .day) (sym e))
+
+pub to-august : (y : ℕ) → periodDate y (periodDays y) .day ≡ dayOf (y - 1) 8 31
+to-august y = ap (λ (d : Date). d .day) (period-last y)
