@@ -4,7 +4,7 @@ use mathlib.Core.Path.{_≡_, sym}
 use borrow.Author.Tests.{ne-eqb}
 use lib.ListN.{length}
 use Rattle.answers.specs.Said.{Said, after}
-use Rattle.sheet.specs.Answers.{writeAnswer, written}
+use Rattle.sheet.specs.Answers.{readAnswer, readSheet, writeAnswer, written}
 use Rattle.grid.specs.Answers.{windowsAnswer, windowsBuffer, openAnswer as gridOpens, shut as gridShut, dayAnswer as gridDay, dayGrid, closeAnswer as gridCloses, closeBuffer}
 use Rattle.grid.proofs.Steps.{close-short}
 use Rattle.grid.proofs.Only.{shut-day as grid-shut-day, shut-close as grid-shut-close}
@@ -29,9 +29,10 @@ left-as-before =
     }
 
 pub fixed-state : FixedState ours
-unfolding openCustomer
+unfolding readSheet openCustomer
 fixed-state =
     record {
+      read = λ b r. stays (readAnswer b) _ _ r;
       grid-open = λ y level r. stays (gridOpens y level) _ _ r;
       grid-day = grid-shut-day;
       grid-close = grid-shut-close;

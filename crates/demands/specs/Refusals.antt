@@ -18,6 +18,7 @@ use Rattle.readings.specs.Illegal.{FirstIllegal, FirstIllegalIn}
 use Rattle.readings.specs.Days.{takenDays}
 use Rattle.sheet.specs.declared.Sheet.{Sheet}
 use Rattle.sheet.specs.Bytes.{sheetSize}
+use Rattle.sheet.specs.Answers.{blank}
 use Rattle.grid.specs.declared.Grid.{Grid}
 use Rattle.grid_curves.specs.Curves.{periodRun}
 use Rattle.grid.specs.Answers.{shut as gridShut}
@@ -44,6 +45,8 @@ pub record LeftAsBefore (m : Module) : Type 0 where
 
 -- "A refused opening hands back one fixed state, on which every day and every closing is 13 (14 still first for a short buffer)."
 pub record FixedState (m : Module) : Type 0 where
+  -- beside a refused sheet stands one fixed sheet
+  pub read : (b : List ℕ) → Refused (m .read b) → m .sheetRead b ≡ blank
   pub grid-open : (y level : ℕ) → Refused (m .gridOpen y level) → m .gridOpened y level ≡ gridShut
   pub grid-day : (day : List ℕ) → m .gridDay gridShut day ≡ only 13
   pub grid-close : (buffer : List ℕ) → sheetSize ≤ length buffer → m .gridClose gridShut (length buffer) ≡ only 13
