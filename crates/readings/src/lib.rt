@@ -1,5 +1,5 @@
 // Readings of document 01: a lent series by days, and the part that is one day.
-// Main theorem: a series says the same whole and day by day (`Machine`, `all-taken`, `same-bad`, proofs/Machines).
+// Main theorem: a series says the same whole and day by day (`Machine`, `as-whole`, `same-bad`, proofs/Machines).
 ghost use mathlib.Core.Path.{_≡_};
 ghost use Rattle.readings.specs.Runs.{runDays, dayLen, quarterOf, runReadings};
 ghost use Rattle.readings.specs.Part.{dayPart};
