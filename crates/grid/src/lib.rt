@@ -170,19 +170,18 @@ impl Grid {
         }
     }
 
-    // One day more. Refuses 13, 4, 5 in this order, and then hands back the state as it was. The state is copied only once the day is
-    // found legal.
+    // One day more, laid over the curves of the state that is handed back. Refuses 13, 4, 5 in this order, and then hands back the state as
+    // it was.
     pub fn day(self, day: &[u32]) -> Stepped
         ensures { λ r. ⌜ (saidOfGrid (r .answer) ≡ dayAnswer self (now (day .entry))) × (r .grid ≡ dayGrid self (now (day .entry))) ⌝ }
     {
         let year = self.year;
         let seen = self.seen;
-        let answer = day_answer(year, seen, day);
-        let GridAnswer::Done = answer else {
-            return Stepped { answer, grid: self };
-        };
         let mut grid = self;
-        grid_curves::lay_day(&mut grid.curves, year, seen, day);
+        let answer = take_day(&mut grid.curves, year, seen, day);
+        let GridAnswer::Done = answer else {
+            return Stepped { answer, grid };
+        };
         grid.seen = seen + 1;
         Stepped { answer, grid }
     }
