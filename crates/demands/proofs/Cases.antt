@@ -1,6 +1,6 @@
 -- The starred cases 1 to 12 of document 01: every case of the list holds, computed by the checker; case 10, for every peak, by the law of equal values.
 -- Assumes nothing.
-use mathlib.Core.Path.{refl}
+use mathlib.Core.Path.{_≡_, refl}
 use Rattle.over.specs.Over.{joined, largestOver, sumOver, countOver, anyOver, table, inBase}
 use Rattle.answers.specs.Ruling.{shareOf, levelOut}
 use Rattle.dates.specs.Dates.{leap, leapDay, daysTo, weekdayOf}
@@ -8,15 +8,20 @@ use Rattle.holidays.specs.Holidays.{listed}
 use Rattle.calendar.specs.Free.{christmas, free, candidate, bridge}
 use Rattle.readings.specs.Legal.{highestOf}
 use Rattle.sheet.specs.Windows.{flatOf}
-use Rattle.sheet.specs.Bytes.{windowByte, bytesOf}
+use Rattle.sheet.specs.Bytes.{windowByte, bytesOf, sheetBytes}
 use Rattle.windows.specs.Chosen.{aboveLine, comesBefore, rank, kept, keptOf, chosenOf, curveOf, curvesOf}
 use Rattle.windows.proofs.Equal.{first-forty}
 use Rattle.grid.specs.Answers.{sheetOf}
 use Rattle.tariff.specs.Prices.{rowOut, pricesOut}
 use Rattle.tariff.specs.Charges.{chargeFor, general, reduced, floorOf, charge}
 use Rattle.tariff.specs.Decision.{eligibleRules, chargeRules, judgeRules, judgeAnswer}
-use Rattle.demands.specs.Cases.{AllHold}
+use Rattle.demands.specs.Cases.{exampleCurves, exampleSheet, AllHold}
+
+-- case 12
+pub example-bytes : sheetBytes (sheetOf 2025 5 exampleCurves) ≡ exampleSheet
+unfolding joined largestOver sumOver countOver table inBase highestOf flatOf windowByte bytesOf aboveLine comesBefore rank kept keptOf chosenOf curveOf curvesOf sheetOf
+example-bytes = refl
 
 pub all-hold : AllHold
 unfolding joined largestOver sumOver countOver anyOver table inBase shareOf levelOut leap leapDay daysTo weekdayOf listed christmas free candidate bridge highestOf flatOf windowByte bytesOf aboveLine comesBefore rank kept keptOf chosenOf curveOf curvesOf sheetOf rowOut pricesOut chargeFor general reduced floorOf charge eligibleRules chargeRules judgeRules judgeAnswer
-all-hold u = (refl, (refl, (refl, (refl, (refl, (refl, (refl, (refl, (refl, (refl, (refl, (refl, (refl, (refl, (refl, (refl, (first-forty (u .peak) (u .positive), (refl, (refl, (refl, (refl, tt)))))))))))))))))))))
+all-hold u = (refl, (refl, (refl, (refl, (refl, (refl, (refl, (refl, (refl, (refl, (refl, (refl, (refl, (refl, (refl, (refl, (first-forty (u .peak) (u .positive), (refl, (refl, (refl, (example-bytes, tt)))))))))))))))))))))

@@ -17,6 +17,7 @@ pub mod Same
 pub mod Series
 pub mod Ends
 pub mod WrongWindows
+pub mod Example
 pub mod WrongYears
 pub mod WrongDays
 pub mod Refusing

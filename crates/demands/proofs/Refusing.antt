@@ -50,7 +50,8 @@ use Rattle.demands.proofs.Carried.{said-is}
 use Rattle.demands.proofs.Answers.{exactly-when}
 use Rattle.demands.proofs.Series.{everywhere-long}
 use Rattle.demands.proofs.WrongWindows.{blankBuffer, some-2025, same, same-peak, same-accepted, same-laid, not-blank}
-use Rattle.demands.proofs.WrongYears.{example, example-read, basis, xs, legal, row, opened, accepted, pays, some-days}
+use Rattle.demands.proofs.Example.{example, example-read}
+use Rattle.demands.proofs.WrongYears.{basis, xs, legal, row, opened, accepted, pays, some-days}
 use Rattle.demands.proofs.WrongDays.{wrong-grid-days, wrong-customer-days}
 
 -- 2 January 2025 without holidays is answered

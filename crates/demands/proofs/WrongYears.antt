@@ -4,26 +4,17 @@
 use mathlib.Core.Path.{_≡_, refl, sym, _∙_}
 use mathlib.Core.Bool.{Bool, true, false}
 use mathlib.Core.List.{List, []}
-use Prim.Native.Nat.{ℕ, _+_, _*_, _≤_, _<_}
+use Prim.Native.Nat.{ℕ, _*_, _≤_, _<_}
 use native.Mathlib.Decide.{decLt}
 use native.Mathlib.Omega.{arith}
-use lib.ListN.{getD}
-use Rattle.over.specs.Over.{joined, sumOver, countOver, anyOver, table, inBase}
 use Rattle.over.proofs.Bools.{clash, both, pair}
 use Rattle.over.proofs.Tests.{any-at}
-use Rattle.over.proofs.Tables.{getD-table}
-use Rattle.answers.specs.Ruling.{capacityMost, customerMost, yearOut, levelOut, shareOf}
+use Rattle.answers.specs.Ruling.{capacityMost, customerMost}
 use Rattle.answers.specs.Said.{only}
-use Rattle.dates.specs.Dates.{leap, leapDay, daysTo, monthOf, seasonOf, weekdayOf, mostDays}
-use Rattle.holidays.specs.Holidays.{listed, badHolidays}
-use Rattle.calendar.specs.Free.{christmas, free, candidate, bridge, kindBy, carries, windowDays}
-use Rattle.readings.specs.Runs.{runDays, dayLen, quarterOf}
+use Rattle.readings.specs.Runs.{runDays, dayLen}
 use Rattle.readings.proofs.Runs.{len-is, year-run}
 use Rattle.readings.proofs.Illegal.{all-legal-in}
-use Rattle.sheet.specs.Windows.{isSet, setIn, tooFull}
-use Rattle.packed.specs.Bytes.{twoAt, unlike}
-use Rattle.sheet.specs.Bytes.{windowsIn, sheetIn}
-use Rattle.sheet.specs.Answers.{readAnswer}
+use Rattle.sheet.specs.Bytes.{sheetIn}
 use Rattle.tariff.specs.declared.Prices.{Prices}
 use Rattle.tariff.specs.Charges.{rowOf, chargeFor, general, reduced, floorOf, charge}
 use Rattle.tariff.specs.Answers.{payable}
@@ -32,7 +23,6 @@ use Rattle.tariff.specs.Rows.JudgeRow.{zero}
 use Rattle.tariff.proofs.Answered.{number-is}
 use Rattle.tariff.proofs.Exactly.{judge-exactly}
 use Rattle.tariff.proofs.Limits.{prices-legal}
-use Rattle.day_figures.specs.Counts.{setOn}
 use Rattle.customer.specs.declared.Terms.{Terms}
 use Rattle.customer.specs.Counts.{counts}
 use Rattle.customer.specs.Answers.{termsOf, openAnswer}
@@ -40,47 +30,19 @@ use Rattle.customer.specs.Demand.{Basis, basisRun, basisDays, LegalYear}
 use Rattle.customer.proofs.Answered.{open-done}
 use Rattle.figures.specs.Figures.{anyOn, figuresOf, FirstPlace}
 use Rattle.figures.proofs.Peak.{first-place}
-use Rattle.demands.specs.Cases.{priced, exampleSheet}
+use Rattle.demands.specs.Cases.{priced}
 use Rattle.demands.specs.Year.{decideFor, figuresIn}
 use Rattle.demands.specs.Module.{Module}
 use Rattle.demands.specs.Refusals.{bare}
 use Rattle.demands.specs.Fair.Given.{whole}
 use Rattle.demands.specs.Demands.{Demands}
 use Rattle.demands.specs.Wrong.{OneCharge, MadeUpSum}
+use Rattle.demands.proofs.Example.{example, example-read, example-year, example-share, no-holidays, carrying, new-year, day-two, set-there}
 use Rattle.demands.proofs.Carried.{said-is}
 use Rattle.demands.proofs.Fair.{legal-basis, given-one}
 use Rattle.demands.proofs.Answers.{exactly-when}
 use Rattle.demands.proofs.Same.{sum-said}
 use Rattle.demands.proofs.Series.{atStart, start-later, start-long, start-peak}
-
--- the printed example's sheet
-pub example : List ℕ
-example = exampleSheet
-
-pub example-read : readAnswer example ≡ only 0
-unfolding example readAnswer unlike twoAt yearOut levelOut tooFull setIn windowsIn table inBase anyOver countOver sumOver joined
-example-read = refl
-
-example-year : sheetIn example .year ≡ 2025
-unfolding example twoAt inBase joined
-example-year = refl
-
-example-share : shareOf (sheetIn example .level) ≡ 20
-unfolding example shareOf
-example-share = refl
-
--- with no holidays 1 January 2025 carries no windows and 2 January does; at quarter 72 it has one
-new-year : carries 2025 [] 1 ≡ false
-unfolding leap leapDay daysTo weekdayOf listed christmas free candidate bridge kindBy anyOver sumOver joined
-new-year = refl
-
-day-two : carries 2025 [] 2 ≡ true
-unfolding leap leapDay daysTo weekdayOf listed christmas free candidate bridge kindBy anyOver sumOver joined
-day-two = refl
-
-set-there : setOn 2025 (windowsIn example) 1 72 ≡ true
-unfolding example setOn isSet seasonOf monthOf daysTo leapDay leap quarterOf windowsIn table countOver sumOver joined
-set-there = refl
 
 -- a price for capacity alone, the same in both rows
 abbrev pub capacityOnly : ℕ → Prices
@@ -88,10 +50,6 @@ capacityOnly price = record { low = priced price 0; high = priced price 0 }
 
 abbrev pub basis : ℕ → Basis
 basis price = record { sheet = example; holidays = []; prices = capacityOnly price; option = false }
-
-no-holidays : badHolidays (sheetIn example .year) [] ≡ false
-unfolding badHolidays anyOver joined
-no-holidays = refl
 
 module _ (price : ℕ) (least : 100 ≤ price) (most : price ≤ capacityMost) where
   abbrev k : Basis
@@ -122,11 +80,6 @@ module _ (price : ℕ) (least : 100 ≤ price) (most : price ≤ capacityMost) w
               legal = all-legal-in (basisRun k) customerMost xs .0 (omega (arith, start-peak (basisRun k) 1000000 some-days));
             };
       }
-
-  -- a day that carries windows, by the table
-  carrying : (d : ℕ) → d < mostDays → getD (windowDays (sheetIn example .year) []) d false ≡ carries 2025 [] (d + 1)
-  unfolding windowDays
-  carrying d l = rw example-year (getD-table (λ j. carries 2025 [] (j + 1)) mostDays d false l)
 
   not-first : (p : ℕ) → counts terms 0 p ≡ true → ⊥
   not-first p t = clash (both _ _ t .0) (carrying 0 (omega arith) ∙ new-year)

@@ -2,37 +2,34 @@
 -- Assumes nothing.
 use mathlib.Core.Path.{_≡_, refl, sym, ap, ap₂, _∙_}
 use mathlib.Core.Bool.{Bool, true, false, cond}
-use mathlib.Core.List.{List, []}
-use Prim.Native.Nat.{ℕ, _+_, _<_}
+use mathlib.Core.List.{[]}
+use Prim.Native.Nat.{ℕ, _<_}
 use native.Mathlib.Omega.{arith}
-use lib.ListN.{length, getD}
-use Rattle.over.specs.Over.{joined, sumOver, countOver, anyOver, table, inBase}
+use lib.ListN.{length}
+use Rattle.over.specs.Over.{joined, sumOver, anyOver}
 use Rattle.over.proofs.Bools.{pair}
-use Rattle.over.proofs.Tables.{getD-table}
-use Rattle.answers.specs.Ruling.{customerMost, yearOut, levelOut, shareOf}
+use Rattle.answers.specs.Ruling.{customerMost, levelOut, shareOf}
 use Rattle.answers.specs.Said.{only}
-use Rattle.dates.specs.Dates.{leap, leapDay, yearDays, mostDays, daysTo, monthOf, seasonOf, weekdayOf}
-use Rattle.holidays.specs.Holidays.{listed, badHolidays}
-use Rattle.calendar.specs.Free.{christmas, free, candidate, bridge, kindBy, carries, windowDays}
-use Rattle.readings.specs.Runs.{runDays, dayLen, quarterOf, runReadings, reading}
+use Rattle.dates.specs.Dates.{leap, leapDay, yearDays, daysTo, weekdayOf}
+use Rattle.holidays.specs.Holidays.{listed}
+use Rattle.calendar.specs.Free.{christmas, free, candidate, bridge, kindBy, carries}
+use Rattle.readings.specs.Runs.{runDays, dayLen, runReadings, reading}
 use Rattle.readings.specs.Days.{seriesAnswer}
 use Rattle.readings.proofs.Runs.{len-is, quarter-is, run-all, year-run}
 use Rattle.readings.proofs.Days.{series-legal}
-use Rattle.packed.specs.Bytes.{twoAt, unlike}
-use Rattle.sheet.specs.Windows.{isSet, setIn, tooFull}
-use Rattle.sheet.specs.Bytes.{windowsIn, sheetIn}
-use Rattle.sheet.specs.Answers.{readAnswer}
+use Rattle.sheet.specs.Bytes.{sheetIn}
 use Rattle.tariff.specs.declared.Figures.{Figures}
 use Rattle.tariff.specs.Prices.{rowOut, pricesOut}
 use Rattle.tariff.specs.Charges.{chargeFor, general, reduced, floorOf, charge}
 use Rattle.tariff.specs.Decision.{eligibleRules, chargeRules, judgeRules, judgeAnswer}
 use Rattle.figures.specs.Figures.{figuresOf}
-use Rattle.day_figures.specs.Counts.{yearRun, setOn}
+use Rattle.day_figures.specs.Counts.{yearRun}
 use Rattle.customer.specs.declared.Terms.{Terms}
 use Rattle.customer.specs.Counts.{counts}
 use Rattle.customer.specs.Answers.{termsOf, openAnswer, judged, figuresUnder, decideAnswer}
 use Rattle.customer.proofs.Answered.{open-done, whole-judged, decide-whole}
 use Rattle.demands.specs.Cases.{prices, exampleSheet}
+use Rattle.demands.proofs.Example.{example, example-read, example-year, no-holidays, carrying, day-two, set-there}
 use Rattle.printed.specs.Examples.{isAt, customerRun, saturdayDay, thursdayDay, customerReading, customerSeries, customerSaid}
 use Rattle.printed.proofs.Series.{at-there, at-other, series-long, series-reads}
 use Rattle.figures.proofs.TwoReadings.{TwoOthers, two-peak, two-figures}
@@ -91,50 +88,23 @@ pub customer-legal : only 0 ≡ seriesAnswer customerRun customerMost customerSe
 customer-legal = series-legal customerRun customerMost customerSeries customer-long (omega (arith, two-peak two-others))
 
 -- the sheet of case 12, with no holidays and the prices of the cases
-sheet : List ℕ
-sheet = exampleSheet
-
-sheet-read : only 0 ≡ readAnswer sheet
-unfolding sheet readAnswer unlike twoAt yearOut levelOut tooFull setIn windowsIn table inBase anyOver countOver sumOver joined
-sheet-read = refl
-
-year-is : sheetIn sheet .year ≡ 2025
-unfolding sheet twoAt inBase joined
-year-is = refl
-
-no-holidays : badHolidays (sheetIn sheet .year) [] ≡ false
-unfolding badHolidays anyOver joined
-no-holidays = refl
-
 prices-in : pricesOut prices ≡ false
 unfolding pricesOut rowOut
 prices-in = refl
 
-opens : only 0 ≡ openAnswer sheet [] prices
-opens = open-done sheet [] prices sheet-read no-holidays prices-in
+opens : only 0 ≡ openAnswer example [] prices
+opens = open-done example [] prices (sym example-read) no-holidays prices-in
 
 abbrev terms : Terms
-terms = termsOf (sheetIn sheet) [] prices false
+terms = termsOf (sheetIn example) [] prices false
 
 -- 2 January carries windows, and quarter 72 is one; 4 January carries none
-carrying : (d : ℕ) → d < mostDays → getD (windowDays (sheetIn sheet .year) []) d false ≡ carries 2025 [] (d + 1)
-unfolding windowDays
-carrying d l = rw year-is (getD-table (λ j. carries 2025 [] (j + 1)) mostDays d false l)
-
-thursday-carries : carries 2025 [] 2 ≡ true
-unfolding leap leapDay daysTo weekdayOf listed christmas free candidate bridge kindBy anyOver sumOver joined
-thursday-carries = refl
-
 saturday-free : carries 2025 [] 4 ≡ false
 unfolding leap leapDay daysTo weekdayOf listed christmas free candidate bridge kindBy anyOver sumOver joined
 saturday-free = refl
 
-thursday-set : setOn 2025 (windowsIn sheet) 1 72 ≡ true
-unfolding sheet setOn isSet seasonOf monthOf daysTo leapDay leap quarterOf windowsIn table countOver sumOver joined
-thursday-set = refl
-
 inside : counts terms 1 72 ≡ true
-inside = pair (carrying 1 (omega arith) ∙ thursday-carries) (rw year-is thursday-set)
+inside = pair (carrying 1 (omega arith) ∙ day-two) (rw example-year set-there)
 
 outside : counts terms 3 0 ≡ false
 outside = rw (carrying 3 (omega arith) ∙ saturday-free) refl
@@ -145,22 +115,22 @@ figures = record { peak = 1000000; sum = 1500000; any = true; high = 500000; day
 
 figures-are : figuresUnder terms customerSeries (yearDays (terms .year)) ≡ figures
 figures-are =
-    ap (λ (y : ℕ). figuresOf (yearRun y) (counts terms) customerSeries (yearDays y)) year-is
+    ap (λ (y : ℕ). figuresOf (yearRun y) (counts terms) customerSeries (yearDays y)) example-year
     ∙ ap (figuresOf customerRun (counts terms) customerSeries) (sym (year-run 2025))
     ∙ two-figures two-others (counts terms) (omega arith) inside outside
     ∙ ap (λ (q : ℕ). record { peak = 1000000; sum = 1500000; any = true; high = 500000; day = 2; quarter = q }) (sym (quarter-is customerRun 1 72))
 
 judged-is : judged terms figures ≡ customerSaid
-unfolding sheet shareOf levelOut rowOut pricesOut chargeFor general reduced floorOf charge eligibleRules chargeRules judgeRules judgeAnswer
+unfolding example shareOf levelOut rowOut pricesOut chargeFor general reduced floorOf charge eligibleRules chargeRules judgeRules judgeAnswer
 judged-is = refl
 
 legal : only 0 ≡ seriesAnswer (yearRun (terms .year)) customerMost customerSeries
-legal = rw year-is customer-legal
+legal = rw example-year customer-legal
 
 pub decided : decideAnswer exampleSheet [] prices false customerSeries ≡ customerSaid
-unfolding sheet
+unfolding example
 decided =
-    sym (decide-whole sheet [] prices false customerSeries opens)
+    sym (decide-whole example [] prices false customerSeries opens)
     ∙ sym (whole-judged terms customerSeries legal)
     ∙ ap (judged terms) figures-are
     ∙ judged-is

@@ -10,7 +10,7 @@ use native.Mathlib.Omega.{arith}
 use borrow.Author.Tests.{ne-eqb, eqb-true, ltb-true}
 use lib.Dec.{eqb, ltb}
 use lib.ListN.{length, getD, drop}
-use Rattle.over.specs.Over.{joined, sumOver, countOver, allOver, largestOver, table, inBase}
+use Rattle.over.specs.Over.{joined, sumOver, countOver, allOver, largestOver, table}
 use Rattle.over.proofs.Tests.{all-at}
 use Rattle.over.proofs.Tables.{table-cong}
 use Rattle.answers.specs.Ruling.{dayQuarters, gridMost, yearOut, levelOut}
@@ -23,33 +23,31 @@ use Rattle.readings.specs.Days.{seriesAnswer}
 use Rattle.readings.proofs.Runs.{len-is, quarter-is, run-all, period-run}
 use Rattle.readings.proofs.Days.{series-legal}
 use Rattle.sheet.specs.declared.Sheet.{Sheet}
-use Rattle.sheet.specs.Windows.{places, flatOf}
-use Rattle.sheet.specs.Bytes.{sheetSize, sheetBytes, windowByte, bytesOf}
+use Rattle.sheet.specs.Windows.{places}
+use Rattle.sheet.specs.Bytes.{sheetSize}
 use Rattle.sheet.specs.Answers.{writeAnswer}
 use Rattle.sheet.proofs.Windows.{roomy}
 use Rattle.sheet.proofs.Answered.{write-accepted, write-taken}
-use Rattle.windows.specs.Chosen.{aboveLine, comesBefore, rank, kept, keptOf, chosenOf, curveOf, curvesOf}
+use Rattle.windows.specs.Chosen.{curvesOf}
 use Rattle.windows.proofs.Forty.{chosen-roomy}
 use Rattle.grid_curves.specs.Curves.{curveAt, flatCurves}
 use Rattle.grid.specs.Answers.{sheetOf, windowsAnswer, windowsBuffer}
 use Rattle.grid.proofs.Steps.{open-done}
 use Rattle.grid.proofs.Answered.{finish-sheet, whole-finish}
 use Rattle.demands.specs.Cases.{exampleCurves, exampleSheet}
+use Rattle.demands.proofs.Cases.{example-bytes}
+use Rattle.demands.proofs.WrongWindows.{days-2025}
 use Rattle.printed.specs.Examples.{isAt, gridRun, otherDay, gridReading, gridSeries, ExampleLaid}
 use Rattle.printed.proofs.Series.{at-there, at-other, series-long, series-reads}
 use Rattle.grid_curves.proofs.OneReading.{OneOther, other-peak, curve-there, curve-else}
 
 -- the period has 366 days, and 15 January 2024 is the 137th
-days-are : periodDays 2025 ≡ 366
-unfolding periodDays daysTo leapDay leap sumOver joined
-days-are = refl
-
 day-is : otherDay ≡ 137
 unfolding otherDay daysTo leapDay leap sumOver joined
 day-is = refl
 
 days : runDays gridRun ≡ 366
-days = period-run 2025 ∙ days-are
+days = period-run 2025 ∙ days-2025
 
 -- the series is 1,000 everywhere but there
 reads : (d p : ℕ) → d < runDays gridRun → p < dayLen gridRun d → reading gridRun gridSeries d p ≡ gridReading d p
@@ -129,10 +127,6 @@ curves-are = rw (← period-run 2025) (curves-table ∙ table-cong _ curve place
 abbrev sheet : Sheet
 sheet = sheetOf 2025 5 exampleCurves
 
-sheet-is : sheetBytes sheet ≡ exampleSheet
-unfolding joined largestOver sumOver countOver table inBase highestOf flatOf windowByte bytesOf aboveLine comesBefore rank kept keptOf chosenOf curveOf curvesOf sheetOf
-sheet-is = refl
-
 peak-is : highestOf exampleCurves ≡ 2000
 unfolding joined largestOver highestOf
 peak-is = refl
@@ -157,7 +151,7 @@ module _ (buffer : List ℕ) (room : sheetSize ≤ length buffer) where
 
   lays : (only 0 ≡ windowsAnswer 2025 5 gridSeries (length buffer)) × (next ≡ windowsBuffer 2025 5 gridSeries buffer)
   lays =
-      let w = write-taken sheet buffer next writes (ap (λ (b : List ℕ). b ++ drop sheetSize buffer) (sym sheet-is)) in
+      let w = write-taken sheet buffer next writes (ap (λ (b : List ℕ). b ++ drop sheetSize buffer) (sym example-bytes)) in
       whole-finish 2025 5 gridSeries buffer room (open-done 2025 5 years-in level-in .0) grid-legal curves-are
       (finish-sheet 2025 5 exampleCurves buffer (λ z. omega (arith, peak-is)) (w .0) (w .1))
 

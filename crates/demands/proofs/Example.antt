@@ -1,0 +1,59 @@
+-- The printed example's sheet: that it is read, its year and its share; and with no holidays which of the first days of 2025 carry windows.
+-- Assumes nothing.
+use mathlib.Core.Path.{_≡_, refl}
+use mathlib.Core.Bool.{true, false}
+use mathlib.Core.List.{List, []}
+use Prim.Native.Nat.{ℕ, _+_, _<_}
+use lib.ListN.{getD}
+use Rattle.over.specs.Over.{joined, sumOver, countOver, anyOver, table, inBase}
+use Rattle.over.proofs.Tables.{getD-table}
+use Rattle.answers.specs.Ruling.{yearOut, levelOut, shareOf}
+use Rattle.answers.specs.Said.{only}
+use Rattle.dates.specs.Dates.{leap, leapDay, daysTo, monthOf, seasonOf, weekdayOf, mostDays}
+use Rattle.holidays.specs.Holidays.{listed, badHolidays}
+use Rattle.calendar.specs.Free.{christmas, free, candidate, bridge, kindBy, carries, windowDays}
+use Rattle.readings.specs.Runs.{quarterOf}
+use Rattle.sheet.specs.Windows.{isSet, setIn, tooFull}
+use Rattle.packed.specs.Bytes.{twoAt, unlike}
+use Rattle.sheet.specs.Bytes.{windowsIn, sheetIn}
+use Rattle.sheet.specs.Answers.{readAnswer}
+use Rattle.day_figures.specs.Counts.{setOn}
+use Rattle.demands.specs.Cases.{exampleSheet}
+
+-- the printed example's sheet
+unfoldable pub example : List ℕ
+example = exampleSheet
+
+pub example-read : readAnswer example ≡ only 0
+unfolding example readAnswer unlike twoAt yearOut levelOut tooFull setIn windowsIn table inBase anyOver countOver sumOver joined
+example-read = refl
+
+pub example-year : sheetIn example .year ≡ 2025
+unfolding example twoAt inBase joined
+example-year = refl
+
+pub example-share : shareOf (sheetIn example .level) ≡ 20
+unfolding example shareOf
+example-share = refl
+
+-- with no holidays 1 January 2025 carries no windows and 2 January does; at quarter 72 it has one
+pub new-year : carries 2025 [] 1 ≡ false
+unfolding leap leapDay daysTo weekdayOf listed christmas free candidate bridge kindBy anyOver sumOver joined
+new-year = refl
+
+pub day-two : carries 2025 [] 2 ≡ true
+unfolding leap leapDay daysTo weekdayOf listed christmas free candidate bridge kindBy anyOver sumOver joined
+day-two = refl
+
+pub set-there : setOn 2025 (windowsIn example) 1 72 ≡ true
+unfolding example setOn isSet seasonOf monthOf daysTo leapDay leap quarterOf windowsIn table countOver sumOver joined
+set-there = refl
+
+pub no-holidays : badHolidays (sheetIn example .year) [] ≡ false
+unfolding badHolidays anyOver joined
+no-holidays = refl
+
+-- a day that carries windows, by the table
+pub carrying : (d : ℕ) → d < mostDays → getD (windowDays (sheetIn example .year) []) d false ≡ carries 2025 [] (d + 1)
+unfolding windowDays
+carrying d l = rw example-year (getD-table (λ j. carries 2025 [] (j + 1)) mostDays d false l)
