@@ -1,11 +1,11 @@
--- What a day is answered, what the machine that reads a customer file is after a day, and an answer's line.
+-- What a day is answered, and what the machine that reads a customer file is after a day.
 -- Assumes nothing.
-use mathlib.Core.Path.{_≡_, refl, ap, _∙_}
+use mathlib.Core.Path.{_≡_, refl}
 use mathlib.Core.Bool.{Bool, true, false, cond, not}
 use mathlib.Core.List.{List, [], _∷_}
-use Prim.Native.Nat.{ℕ, _+_, _≤_}
+use Prim.Native.Nat.{ℕ, _+_}
 use lib.Dec.{leb, ltb, eqb}
-use lib.ListN.{length, take}
+use lib.ListN.{length}
 use Rattle.answers.specs.Ruling.{customerMost}
 use Rattle.answers.specs.Said.{Said, only, badPlace}
 use Rattle.answers.specs.declared.Place.{Place}
@@ -18,18 +18,13 @@ use Rattle.tariff.specs.Answers.{saidOf}
 use Rattle.day_figures.specs.Counts.{yearRun}
 use Rattle.customer.specs.declared.Customer.{Customer}
 use Rattle.customer.specs.Answers.{overfull, dayAnswer, dayCustomer}
-use Rattle.flat.specs.declared.Flat.{Flat}
-use Rattle.flat.specs.Flat.{flatOf}
-use Rattle.lines.specs.Figures.{figuresIn}
 use Rattle.fields.specs.declared.Stage.the-variants as Stage
 use Rattle.fields.specs.declared.Stage.{Stage}
-use Rattle.fields.specs.declared.Stage.the-variants.{Going}
 use Rattle.fields.specs.Stages.{stageOf, dayStage}
 use Rattle.fields.specs.Machine.{dayGiven}
 use Rattle.customer_file.specs.declared.CustomerFile.{CustomerFile}
 use Rattle.customer_file.specs.CustomerMachine.{customerReader}
 use Rattle.fields.proofs.Machine.{given-staged}
-use Rattle.flat.proofs.Line.{line-is}
 
 -- what a day is answered: 13, 4, 5 with its place, or 0, which carries nothing
 module _ (P : Said → Type 0) (thirteen : P (only 13)) (four : P (only 4)) (five : (place : Place) → P (badPlace place)) (taken : P (only 0)) where
@@ -87,8 +82,3 @@ module _ (s : CustomerFile) (day : List ℕ) where
 
   pub day-given : with (dayCustomer (s .customer) day) (dayStage said) ≡ dayGiven customerReader s day
   day-given = given-staged customerReader s day (with (dayCustomer (s .customer) day)) (λ z. refl) (λ z i. with (kept z i) (stageOf said))
-
--- an answer as its line lists it: the number, and the figures that it counts
-pub line-of : {r : Flat} (s : Said) {xs : List ℕ} → r ≡ flatOf s → r .count ≤ 7 → xs ≡ r .number ∷ r .figures → take (r .count + 1) xs ≡ figuresIn s
-line-of {r} s e few f =
-    ap (take (r .count + 1)) f ∙ (λ i. take (e i .count + 1) (e i .number ∷ e i .figures)) ∙ line-is s (rw e at few)

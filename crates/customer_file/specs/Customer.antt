@@ -1,5 +1,5 @@
--- Document 01, Two programs: "The statement program reads "CUS", version 1, a sheet, option byte .., then readings. It prints the number and its carried
--- figures in the table's order." What it prints, by the file's bytes b.
+-- Document 01, Two programs: a customer file is its header ("CUS", version 1, a sheet, option, holidays, prices), then
+-- the readings of the charge year. What such a file is answered, by its bytes b.
 use mathlib.Core.List.{List}
 use Prim.Native.Nat.{ℕ}
 use Rattle.answers.specs.Ruling.{customerMost}
@@ -9,7 +9,6 @@ use Rattle.customer.specs.Answers.{decideAnswer}
 use Rattle.fields.specs.Layout.{headSize}
 use Rattle.fields.specs.Series.{seriesIn}
 use Rattle.fields.specs.File.{fileAnswer}
-use Rattle.lines.specs.Figures.{statementLine}
 use Rattle.customer_head.specs.Header.{sheetPart, customerYear, optionOf, holidaysOf, pricesOf, customerLayout}
 
 -- what a customer file is answered: its header, then its days, then what the decision over its whole series is
@@ -18,7 +17,3 @@ customerAnswer b =
     fileAnswer (customerLayout b) (yearRun (customerYear b)) customerMost
     (decideAnswer (sheetPart b) (holidaysOf b) (pricesOf b) (optionOf b) (seriesIn b (headSize (customerLayout b))))
     b
-
--- all that the statement program prints
-abbrev pub statementPrinted : List ℕ → List ℕ
-statementPrinted b = statementLine (customerAnswer b)

@@ -1,4 +1,5 @@
--- The machine that the statement program drives, as a reader of a file (fields, Machine): what it holds, what it prints, and the names of its steps.
+-- The machine that the statement program drives, as a reader of a file (fields, Machine): what it holds, the names of
+-- its steps, and what it answers.
 use mathlib.Core.Bool.{cond}
 use mathlib.Core.List.{List}
 use Prim.Native.Nat.{ℕ, _+_}
@@ -14,7 +15,6 @@ use Rattle.fields.specs.declared.Stage.the-variants.{Going}
 use Rattle.fields.specs.Stages.{saidOfStage}
 use Rattle.fields.specs.Machine.{Reader, wants, fed}
 use Rattle.customer_head.specs.Header.{customerLayout, openedIn}
-use Rattle.lines.specs.Figures.{statementLine}
 use Rattle.customer_file.specs.declared.CustomerFile.{CustomerFile}
 
 -- the year is opened once the header's last field is taken
@@ -54,6 +54,6 @@ customerWants s = wants customerReader s
 abbrev pub customerFed : CustomerFile → List ℕ → CustomerFile
 customerFed s b = fed customerReader s b
 
--- what it prints
-abbrev pub customerText : CustomerFile → List ℕ
-customerText s = statementLine (saidOfStage (s .stage) (closeAnswer (s .customer)))
+-- what it answers: where it stands, and once all days are in, what closing the year says
+abbrev pub answerOf : CustomerFile → Said
+answerOf s = saidOfStage (s .stage) (closeAnswer (s .customer))

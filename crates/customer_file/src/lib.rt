@@ -1,6 +1,7 @@
-// The customer file: its header (room `customer_head`), then the readings of the charge year. Document 01, Two programs. A machine that the
-// statement program drives: `want` says how many bytes come next, and `feed` takes them, fewer where the file has ended. Each field and
-// each day is tested as soon as it is fed. What the program prints then stands in the room above.
+// The customer file: its header (room `customer_head`), then the readings of the charge year. Document 01, Two
+// programs. A machine that the statement program drives: `want` says how many bytes come next, and `feed` takes them,
+// fewer where the file has ended. Each field and each day is tested as soon as it is fed. What the program prints then
+// stands in the room above.
 // Main theorem: driven over any bytes, the machine prints what the file's bytes are answered (room `printed`).
 ghost use mathlib.Core.Path.{_≡_};
 ghost use Prim.Native.Nat.{_≤_, _<_};
@@ -15,7 +16,8 @@ use fields::Stage;
 use readings::Run;
 use tariff::Decision;
 
-// A customer file that is read: the fields taken so far, the header's bytes, the days taken so far, and where it stands.
+// A customer file that is read: the fields taken so far, the header's bytes, the days taken so far, and where it
+// stands.
 pub struct CustomerFile {
     pub field: usize,
     pub head: [u8; customer_head::HEAD_MOST],

@@ -1,18 +1,18 @@
-// What the statement program prints once the machine of the customer file has ended: the number and its figures. Document 01, Two programs.
+// What the statement program prints once the machine of the customer file has ended: the number and its figures.
+// Document 01, Two programs.
 ghost use mathlib.Core.Path.{_≡_};
 ghost use Prim.Native.Nat.{_≤_};
-ghost use Rattle.customer.specs.Answers.{closeAnswer};
 ghost use Rattle.flat.specs.Flat.{flatOf};
 ghost use Rattle.lines.specs.Text.{lengthIn, putIn};
-ghost use Rattle.fields.specs.Stages.{saidOfStage};
-ghost use Rattle.customer_file.specs.CustomerMachine.{customerText};
+ghost use Rattle.customer_file.specs.CustomerMachine.{answerOf};
+ghost use Rattle.customer_text.specs.Text.{customerText};
 use customer_file::CustomerFile;
 use fields::Stage;
 use flat::Flat;
 
 // What the file is answered; 13 while the machine goes on.
 fn answer(file: CustomerFile) -> Flat
-    ensures { λ r. ⌜ (r ≡ flatOf (saidOfStage (file .stage) (closeAnswer (file .customer)))) × (r .count ≤ 7) ⌝ }
+    ensures { λ r. ⌜ (r ≡ flatOf (answerOf file)) × (r .count ≤ 7) ⌝ }
 {
     let stage = file.stage;
     match stage {

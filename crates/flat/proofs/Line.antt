@@ -1,12 +1,14 @@
--- What is listed is what the answer says: as many of the list's figures as it counts are the figures that the answer carries.
+-- What is listed is what the answer says: as many of the list's figures as it counts are the figures that the answer
+-- carries.
 -- Assumes nothing.
-use mathlib.Core.Path.{_≡_, refl, ap}
+use mathlib.Core.Path.{_≡_, refl, ap, _∙_}
 use mathlib.Core.List.{List, [], _∷_}
-use Prim.Native.Nat.{ℕ, _+_}
+use Prim.Native.Nat.{ℕ, _+_, _≤_}
 use native.Mathlib.Numerals.{add-one}
 use native.Mathlib.Omega.{arith}
 use lib.ListN.{length, take}
 use Rattle.answers.specs.Said.{Said}
+use Rattle.flat.specs.declared.Flat.{Flat}
 use Rattle.flat.specs.Flat.{Few, seven, flatOf}
 
 -- at most seven figures are the first of seven
@@ -31,3 +33,13 @@ figures-are s few = first-are (s .carries) few
 
 pub line-is : (s : Said) → Few (s .carries) → take (flatOf s .count + 1) (flatOf s .number ∷ flatOf s .figures) ≡ s .number ∷ s .carries
 line-is s few = rw (add-one (length (s .carries))) (ap (λ (xs : List ℕ). s .number ∷ xs) (figures-are s few))
+
+-- the same of an answer that the code has listed, and of the line that it made of it
+pub line-of :
+    {r : Flat} (s : Said) {xs : List ℕ}
+    → r ≡ flatOf s
+    → r .count ≤ 7
+    → xs ≡ r .number ∷ r .figures
+    → take (r .count + 1) xs ≡ s .number ∷ s .carries
+line-of {r} s e few f =
+    ap (take (r .count + 1)) f ∙ (λ i. take (e i .count + 1) (e i .number ∷ e i .figures)) ∙ line-is s (rw e at few)

@@ -1,6 +1,6 @@
--- Document 01, Numbered answers and Two programs: "the number and its carried figures in the table's order". An answer as plain
--- numbers, for a line of text and for a caller in Rust or C, where no enum crosses: its number, how many figures it carries, and the
--- figures in the table's order, 0 past the last.
+-- Document 01, Numbered answers and Two programs: "the number and its carried figures in the table's order". An answer
+-- as plain numbers, for a line of text and for a caller in Rust or C, where no enum crosses: its number, how many
+-- figures it carries, and the figures in the table's order, 0 past the last.
 use mathlib.Core.List.{List, [], _∷_}
 use Prim.Native.Nat.{ℕ, _≤_}
 use lib.ListN.{length, getD}

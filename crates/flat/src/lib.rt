@@ -1,5 +1,6 @@
-// An answer as a plain list of numbers, for a line of text and for a caller in Rust or C, where no enum crosses: document 01, Numbered
-// answers ("carries") and Two programs ("the number and its carried figures in the table's order, a place as day then quarter").
+// An answer as a plain list of numbers, for a line of text and for a caller in Rust or C, where no enum crosses:
+// document 01, Numbered answers ("carries") and Two programs ("the number and its carried figures in the table's order,
+// a place as day then quarter").
 // Main theorem: the first figures of the list are the answer's (`line-is`, proofs/Line).
 ghost use mathlib.Core.Path.{_≡_};
 ghost use mathlib.Core.List.{_∷_};

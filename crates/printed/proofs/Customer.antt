@@ -40,7 +40,8 @@ use Rattle.customer_file.specs.declared.CustomerFile.{CustomerFile}
 use Rattle.fields.specs.Stages.{going, stageOf, saidOfStage}
 use Rattle.customer_head.specs.Header.{sheetPart, optionOf, holidaysOf, pricesOf, customerLayout, openedIn}
 use Rattle.customer_file.specs.Customer.{customerAnswer}
-use Rattle.customer_file.specs.CustomerMachine.{openedWith, customerHead, customerStart, customerEnded, customerReader, customerWants, customerFed, customerText}
+use Rattle.customer_file.specs.CustomerMachine.{openedWith, customerHead, customerStart, customerEnded, customerReader, customerWants, customerFed, answerOf}
+use Rattle.customer_text.specs.Text.{customerText}
 use Rattle.customer_head.proofs.CustomerLayout.{count-few, count-is}
 use Rattle.fields.proofs.Machine.{wants-field, wants-day, wants-end, fed-none, fed-field, fed-day, fed-end, field-cut, field-refused, field-taken, day-cut, day-refused, day-taken, end-left, end-done}
 use Rattle.customer_file.proofs.CustomerCases.{day-cases}
@@ -52,7 +53,7 @@ abbrev Halted : CustomerFile → Said → Type 0
 Halted s x = Stopped customerWants customerFed customerText statementLine s x
 
 -- a machine that has ended stays, and prints its answer
-halted : {s : CustomerFile} {x : Said} (t : CustomerFile) → t ≡ s → going (t .stage) ≡ false → saidOfStage (t .stage) (closeAnswer (t .customer)) ≡ x → Halted s x
+halted : {s : CustomerFile} {x : Said} (t : CustomerFile) → t ≡ s → going (t .stage) ≡ false → answerOf t ≡ x → Halted s x
 halted t e g x = rw (← e) (record { says = ap statementLine x; stays = λ b. sym (fed-none customerReader t g b) })
 
 -- a day's refusal says what the machine of days answers

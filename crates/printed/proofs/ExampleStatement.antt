@@ -26,8 +26,9 @@ use Rattle.lines.specs.Text.{textOver}
 use Rattle.lines.specs.Figures.{decimalOf, fieldOf, figuresLine, statementLine}
 use Rattle.customer_head.specs.Header.{sheetPart, customerYear, optionOf, holidaysOf, pricesOf, seasonField, optionField, countField, holidayField, capacityField, energyField, customerLayout}
 use Rattle.customer_head.proofs.CustomerLayout as Head
-use Rattle.customer_file.specs.Customer.{customerAnswer, statementPrinted}
-use Rattle.customer_file.specs.CustomerMachine.{customerStart, customerWants, customerFed, customerText}
+use Rattle.customer_file.specs.Customer.{customerAnswer}
+use Rattle.customer_file.specs.CustomerMachine.{customerStart, customerWants, customerFed}
+use Rattle.customer_text.specs.Text.{statementPrinted, customerText}
 use Rattle.demands.specs.Cases.{prices, exampleSheet}
 use Rattle.printed.specs.Examples.{isAt, customerRun, saturdayDay, thursdayDay, customerReading, customerSeries, fourBytes, seriesBytes, customerHeader, customerBytes, customerSaid, exampleStatement, Prints}
 use Rattle.printed.proofs.Customer.{statement-printed}

@@ -22,8 +22,8 @@ use Rattle.fields.specs.File.{driven}
 use Rattle.grid_file.specs.Grid.{gridMark, windowsPrinted}
 use Rattle.grid_file.specs.GridMachine.{gridStart, gridWants, gridFed, gridText}
 use Rattle.customer_head.specs.Header.{customerMark}
-use Rattle.customer_file.specs.Customer.{statementPrinted}
-use Rattle.customer_file.specs.CustomerMachine.{customerStart, customerWants, customerFed, customerText}
+use Rattle.customer_file.specs.CustomerMachine.{customerStart, customerWants, customerFed}
+use Rattle.customer_text.specs.Text.{statementPrinted, customerText}
 use Rattle.demands.specs.Cases.{prices, exampleSheet}
 
 -- the series of a run's first n days that has the reading f d p at position p of day d, both from 0

@@ -7,8 +7,8 @@ use Prim.Native.Nat.{ℕ, _+_, _≤_}
 use Rattle.fields.specs.File.{driven}
 use Rattle.grid_file.specs.Grid.{windowsPrinted}
 use Rattle.grid_file.specs.GridMachine.{gridStart, gridWants, gridFed, gridText}
-use Rattle.customer_file.specs.Customer.{statementPrinted}
-use Rattle.customer_file.specs.CustomerMachine.{customerStart, customerWants, customerFed, customerText}
+use Rattle.customer_file.specs.CustomerMachine.{customerStart, customerWants, customerFed}
+use Rattle.customer_text.specs.Text.{statementPrinted, customerText}
 
 abbrev pub WindowsPrinted : Type 0
 WindowsPrinted = (bytes : List ℕ) (turns : ℕ) → 4 + 366 + 1 ≤ turns → gridText (driven gridWants gridFed turns gridStart bytes) ≡ windowsPrinted bytes

@@ -7,11 +7,10 @@ use native.Mathlib.Omega.{arith}
 use borrow.Author.Needs.{needs}
 use lib.ListN.{length}
 use lib.Seq.{length-take-le}
-use Rattle.customer.specs.Answers.{closeAnswer}
 use Rattle.lines.specs.Text.{lengthIn, putIn}
 use Rattle.lines.specs.Figures.{figuresLine}
-use Rattle.fields.specs.Stages.{saidOfStage}
-use Rattle.customer_file.proofs.CustomerCases.{line-of}
+use Rattle.customer_file.specs.CustomerMachine.{answerOf}
+use Rattle.flat.proofs.Line.{line-of}
 use Rattle.customer_text.proofs.text.Statement.{statement}
 use Rattle.customer_text.proofs.text.Tie as tie
 
@@ -25,7 +24,7 @@ returns : tie.Need-returns
 returns c =
     let a = c .before .before .before .before .before .before .before .before .args in
     let e = c .before .before .before .before .before .before .answer .ensures in
-    let line = line-of (saidOfStage (a .file .stage) (closeAnswer (a .file .customer))) (e .0) (e .1) (c .before .before .before .before .before .line-of .ensures) in
+    let line = line-of (answerOf (a .file)) (e .0) (e .1) (c .before .before .before .before .before .line-of .ensures) in
     let text = c .before .before .figures-text .ensures in (
       text .0 ∙ ap (λ (xs : List ℕ). lengthIn (figuresLine xs) (a .out .now)) line,
       text .1 ∙ ap (λ (xs : List ℕ). putIn (figuresLine xs) (a .out .now)) line,

@@ -1,9 +1,8 @@
 -- `flat::line_of` meets its contract: the seven places that it reads are all of the figures.
 -- Assumes nothing.
-use mathlib.Core.Path.{_≡_, ap}
+use mathlib.Core.Path.{ap}
 use mathlib.Core.List.{List, _∷_}
 use Prim.Native.Nat.{ℕ}
-use lib.ListN.{length}
 use borrow.Author.Needs.{needs}
 use Rattle.flat.proofs.Line.{seven-are}
 use Rattle.flat.proofs.line_of.Statement.{statement}

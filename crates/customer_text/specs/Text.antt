@@ -1,0 +1,16 @@
+-- Document 01, Two programs: the statement program prints one line, the number and its carried figures in the table's
+-- order. That line of a file's bytes, and of the machine that reads them.
+use mathlib.Core.List.{List}
+use Prim.Native.Nat.{ℕ}
+use Rattle.lines.specs.Figures.{statementLine}
+use Rattle.customer_file.specs.declared.CustomerFile.{CustomerFile}
+use Rattle.customer_file.specs.Customer.{customerAnswer}
+use Rattle.customer_file.specs.CustomerMachine.{answerOf}
+
+-- all that the statement program prints of a file with these bytes
+abbrev pub statementPrinted : List ℕ → List ℕ
+statementPrinted b = statementLine (customerAnswer b)
+
+-- what the machine prints
+abbrev pub customerText : CustomerFile → List ℕ
+customerText s = statementLine (answerOf s)
