@@ -1,5 +1,5 @@
--- Laws of a customer file's header, in its three rows: the twelve first fields, the holidays, the prices. How many fields there are, how wide each
--- is and where it starts, and the number that refuses it.
+-- Laws of a customer file's header, in its three rows: the twelve first fields, the holidays, the prices. How many
+-- fields there are, how wide each is and where it starts, and the number that refuses it.
 -- Assumes nothing.
 use mathlib.Core.Path.{_≡_, refl, sym, ap, _∙_}
 use mathlib.Core.List.{List, [], _∷_, _++_}
@@ -11,12 +11,12 @@ use lib.Dec.{leb, eqb}
 use lib.ListN.{length, getD, take, drop, length-take, length-drop, length-append, List·getD-append, List·getD-map, List·getD-eq-default}
 use lib.Seq.{getD-append-add, length-take-le, getD-take, getD-drop, ext-getD}
 use Rattle.over.specs.Over.{joined, sumOver, allOver, counted, table}
-use Rattle.holidays.specs.Holidays.{before, badEntry}
+use Rattle.holidays.specs.Holidays.{before}
 use Rattle.packed.specs.Bytes.{twoAt}
 use Rattle.sheet.specs.Bytes.{sheetSize}
 use Rattle.fields.specs.Layout.{Field, noField, fieldAt, widthAt, layoutOf, startOf, headSize}
 use Rattle.fields.specs.Common.{markField, versionField, yearField, levelField}
-use Rattle.customer_head.specs.Header.{sheetPlace, optionPlace, sheetPart, customerYear, holidaysPlace, holidayCount, holidaysOf, pricesPlace, seasonField, optionField, countField, holidayField, capacityField, energyField, firstFields, priceFields, customerFields, customerLayout}
+use Rattle.customer_head.specs.Header.{sheetPlace, optionPlace, sheetPart, holidaysPlace, holidayCount, holidaysOf, pricesPlace, seasonField, optionField, countField, holidayOut, holidayField, capacityField, energyField, firstFields, priceFields, customerFields, customerLayout}
 use Rattle.over.proofs.Sums.{sum-none, sum-suc, sum-add, sum-cong}
 use Rattle.over.proofs.Tests.{all-at}
 use Rattle.over.proofs.Tables.{length-table, getD-table}
@@ -156,7 +156,7 @@ module _ (b : List ℕ) where
   season-refused (suc (suc (suc zero))) l = refusal-first 9 (omega arith)
   season-refused (suc (suc (suc (suc j)))) l = absurd (omega arith)
 
-  pub holiday-refused : (j : ℕ) → j < n → counted (badEntry (customerYear b) (holidaysOf b) j) 3 ≡ customerLayout b .refusal (12 + j)
+  pub holiday-refused : (j : ℕ) → j < n → counted (holidayOut b j) 3 ≡ customerLayout b .refusal (12 + j)
   unfolding customerLayout layoutOf holidayField
   holiday-refused j l = sym (ap (λ (f : Field). f .refusal (sumOver (widthAt fields) (12 + j))) (holiday-at j l))
 
@@ -218,7 +218,7 @@ module _ (b : List ℕ) where
       unfolding customerLayout layoutOf
       width-holiday = sym (holiday-widths (holiday k) (omega arith)) ∙ ap (widthAt fields) here
 
-      pub refusal-holiday : counted (badEntry (customerYear b) (holidaysOf b) (holiday k)) 3 ≡ customerLayout b .refusal k
+      pub refusal-holiday : counted (holidayOut b (holiday k)) 3 ≡ customerLayout b .refusal k
       refusal-holiday = holiday-refused (holiday k) (omega arith) ∙ ap (customerLayout b .refusal) here
 
   module _ (k : ℕ) (m : 12 + n ≤ k) where
@@ -264,16 +264,32 @@ module _ (b : List ℕ) where
   pub fits : (k : ℕ) → Fits k
   fits k = go (decLt k 12) (decLt k (12 + n)) (decLt k (16 + n))
     where
-      known : {s w : ℕ} → s ≡ startOf (customerLayout b) k → w ≡ customerLayout b .width k → w ≤ 12 → s + w ≤ 159 → (0 < w → k < 16 + n) → (w ≡ 0 → 16 + n ≤ k) → Fits k
+      known :
+          {s w : ℕ}
+          → s ≡ startOf (customerLayout b) k
+          → w ≡ customerLayout b .width k
+          → w ≤ 12
+          → s + w ≤ 159
+          → (0 < w → k < 16 + n)
+          → (w ≡ 0 → 16 + n ≤ k)
+          → Fits k
       known s w few room field none =
           let c = count-is in
           record { few = omega arith; room = omega arith; field = λ l. omega (arith, field (omega arith)); none = λ z. omega (arith, none (omega arith)) }
 
       go : Dec (k < 12) → Dec (k < 12 + n) → Dec (k < 16 + n) → Fits k
-      go (yes l) h p = known (start-first k l) (width-first k l) (width-low k l) (omega (arith, start-low k l)) (λ z. omega arith) (λ z. omega (arith, width-some k l))
-      go (no m) (yes l) p = known (start-holiday k (omega arith) (omega arith)) (width-holiday k (omega arith) l) (omega arith) (omega arith) (λ z. omega arith) (λ z. omega arith)
-      go (no m) (no h) (yes l) = known (start-price k (omega arith) (omega arith)) (width-price k (omega arith) l) (omega arith) (omega arith) (λ z. omega arith) (λ z. omega arith)
-      go (no m) (no h) (no l) = known (start-none k (omega arith)) (width-none k (omega arith)) (omega arith) (omega arith) (λ z. omega arith) (λ z. omega arith)
+      go (yes l) h p =
+          known (start-first k l) (width-first k l)
+          (width-low k l) (omega (arith, start-low k l)) (λ z. omega arith) (λ z. omega (arith, width-some k l))
+      go (no m) (yes l) p =
+          known (start-holiday k (omega arith) (omega arith)) (width-holiday k (omega arith) l)
+          (omega arith) (omega arith) (λ z. omega arith) (λ z. omega arith)
+      go (no m) (no h) (yes l) =
+          known (start-price k (omega arith) (omega arith)) (width-price k (omega arith) l)
+          (omega arith) (omega arith) (λ z. omega arith) (λ z. omega arith)
+      go (no m) (no h) (no l) =
+          known (start-none k (omega arith)) (width-none k (omega arith))
+          (omega arith) (omega arith) (λ z. omega arith) (λ z. omega arith)
 
   -- the holidays by their bytes
   pub holiday-is : (j : ℕ) → j < n → twoAt b (holidaysPlace + 2 * j) ≡ getD (holidaysOf b) j 0

@@ -1,28 +1,30 @@
--- The number that refuses a field of a customer file's header, by what the code has found: whether a test fails, and the number that goes with it.
+-- The number that refuses a field of a customer file's header, by what the code has found: whether a test fails, and
+-- the number that goes with it.
 -- Assumes nothing.
 use mathlib.Core.Path.{_≡_, refl, sym, ap, _∙_}
 use mathlib.Core.Bool.{Bool, true, false, cond, not}
 use mathlib.Core.List.{List, [], _∷_}
-use Prim.Native.Nat.{ℕ, zero, suc, _-_, _%_, _≤_, _<_}
+use Prim.Native.Nat.{ℕ, zero, suc, _+_, _-_, _*_, _%_, _≤_, _<_}
 use native.Mathlib.Omega.{arith}
-use borrow.Author.Tests.{eq-eqb, ne-eqb}
-use lib.Dec.{ltb, eqb}
+use borrow.Author.Tests.{eq-eqb, ne-eqb, leb-true}
+use lib.Dec.{leb, ltb, eqb}
 use lib.ListN.{getD, List·getD-eq-default}
-use Rattle.over.specs.Over.{counted}
+use Rattle.over.specs.Over.{joined, allOver, counted}
+use Rattle.over.proofs.Tests.{all-at}
 use Rattle.answers.specs.Ruling.{holidaysMost, yearOut, levelOut, capacityOut, energyOut}
 use Rattle.packed.specs.Bytes.{twoAt, fourAt, unlike, versionOut}
 use Rattle.sheet.specs.Bytes.{mark, seasonFull}
 use Rattle.fields.specs.Layout.{Field, noField, fieldAt}
 use Rattle.fields.specs.Common.{markField, versionField, yearField, levelField}
 use Rattle.customer_head.specs.Header.{customerMark, seasonField, optionField, countField, capacityField, energyField, firstFields, priceFields, customerLayout}
-use Rattle.customer_head.proofs.CustomerLayout.{refusal-first}
+use Rattle.customer_head.proofs.CustomerLayout.{firstStarts, refusal-first, refusal-at, refusal-season}
 
 -- the numbers that refuse them
 abbrev pub firstNumbers : List ℕ
 firstNumbers = 12 ∷ 12 ∷ 12 ∷ 12 ∷ 1 ∷ 2 ∷ 12 ∷ 12 ∷ 12 ∷ 12 ∷ 12 ∷ 3 ∷ []
 
 -- a test and its number
-pub refused-by : (t : Bool) (m : ℕ) {r : ℕ} → 0 < m → counted t m ≡ r → t ≡ not (eqb r 0)
+refused-by : (t : Bool) (m : ℕ) {r : ℕ} → 0 < m → counted t m ≡ r → t ≡ not (eqb r 0)
 refused-by true m {r} l e =
     let f : m ≡ r = e in
     sym (ap not (ne-eqb r 0 (λ z. absurd (omega arith))))
@@ -33,9 +35,17 @@ numbered true zero = refl
 numbered true (suc m) = rw (ne-eqb (suc m) 0 (λ z. absurd (omega arith)))
 numbered false m = refl
 
+number-some : (k : ℕ) → k < 12 → 1 ≤ getD firstNumbers k 0
+unfolding allOver joined
+number-some k l = leb-true _ _ (all-at (λ i. leb 1 (getD firstNumbers i 0)) 12 refl k l)
+
 -- the first fields
 module _ (b : List ℕ) where
-  first-numbers : (k : ℕ) → k < 12 → (i : ℕ) → counted (not (eqb (fieldAt (firstFields b) k .refusal i) 0)) (getD firstNumbers k 0) ≡ fieldAt (firstFields b) k .refusal i
+  first-numbers :
+      (k : ℕ)
+      → k < 12
+      → (i : ℕ)
+      → counted (not (eqb (fieldAt (firstFields b) k .refusal i) 0)) (getD firstNumbers k 0) ≡ fieldAt (firstFields b) k .refusal i
   unfolding markField versionField yearField levelField seasonField optionField countField
   first-numbers zero l i = numbered (unlike customerMark b i) 12
   first-numbers (suc zero) l i = numbered (versionOut b i) 12
@@ -53,6 +63,15 @@ module _ (b : List ℕ) where
 
   pub first-number : (k : ℕ) → k < 12 → counted (not (eqb (customerLayout b .refusal k) 0)) (getD firstNumbers k 0) ≡ customerLayout b .refusal k
   first-number k l = rw (← (refusal-first b k l)) (first-numbers k l _)
+
+  -- the test of field i fails exactly where that field is refused
+  pub fails-at :
+      (k : ℕ) {t : Bool} (i : ℕ)
+      → i < 12
+      → k ≡ i
+      → counted t (getD firstNumbers i 0) ≡ fieldAt (firstFields b) i .refusal (getD firstStarts i 0)
+      → t ≡ not (eqb (customerLayout b .refusal k) 0)
+  fails-at k i l e f = refused-by _ (getD firstNumbers i 0) (number-some i l) (f ∙ refusal-at b i e l)
 
 -- the number of a field, by what the code has found
 pub option-no : (b : List ℕ) (i : ℕ) {x : ℕ} → x ≡ getD b i 0 → counted (ltb 1 x) 12 ≡ optionField b .refusal i
@@ -87,3 +106,12 @@ module _ (b : List ℕ) (i : ℕ) {t : Bool} where
     pub energy-no : (j % 2 ≡ 0 → ⊥) → t ≡ energyOut (fourAt b i) → counted t 6 ≡ fieldAt (priceFields b) j .refusal i
     unfolding energyField
     energy-no m e = ap (λ (s : Bool). counted s 6) e ∙ ap (λ (f : Field). f .refusal i) (rw (ne-eqb (j % 2) 0 m) at (price-field b j l))
+
+-- the test of a season
+pub season-fails :
+    (b : List ℕ) (k : ℕ) {t : Bool}
+    → 6 ≤ k
+    → k < 10
+    → t ≡ seasonFull b (13 + 12 * (k - 6))
+    → t ≡ not (eqb (customerLayout b .refusal k) 0)
+season-fails b k l m e = refused-by _ 12 (omega arith) (season-no b (13 + 12 * (k - 6)) e ∙ refusal-season b k l m)

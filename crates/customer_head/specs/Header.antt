@@ -1,5 +1,6 @@
--- Document 01, Two programs: "The statement program reads "CUS", version 1, a sheet, option byte (0 or 1, else 12), holiday count byte, 16-bit
--- holidays, the low row's capacity price and energy price, then the high row's (32 bits each), then readings." The header, by the file's bytes b.
+-- Document 01, Two programs: "The statement program reads "CUS", version 1, a sheet, option byte (0 or 1, else 12),
+-- holiday count byte, 16-bit holidays, the low row's capacity price and energy price, then the high row's (32 bits
+-- each), then readings." The header, by the file's bytes b.
 use mathlib.Core.Bool.{Bool}
 use mathlib.Core.List.{List, [], _∷_, _++_}
 use Prim.Native.Nat.{ℕ, _+_, _*_, min}
@@ -77,8 +78,11 @@ optionField b = record { width = 1; refusal = λ i. counted (ltb 1 (getD b i 0))
 unfoldable pub countField : List ℕ → Field
 countField b = record { width = 1; refusal = λ i. counted (ltb holidaysMost (getD b i 0)) 3 }
 
+abbrev pub holidayOut : List ℕ → ℕ → Bool
+holidayOut b j = badEntry (customerYear b) (holidaysOf b) j
+
 unfoldable pub holidayField : List ℕ → ℕ → Field
-holidayField b j = record { width = 2; refusal = λ i. counted (badEntry (customerYear b) (holidaysOf b) j) 3 }
+holidayField b j = record { width = 2; refusal = λ i. counted (holidayOut b j) 3 }
 
 -- a capacity price, and an energy price, above its limit is 6
 unfoldable pub capacityField : List ℕ → Field

@@ -1,20 +1,21 @@
-// The header of a customer file: where its fields stand, the number that refuses each, and the year that it opens, by the bytes read so far. Document
-// 01, Two programs: "CUS", version 1, a sheet, option, holidays, prices. Fields count from 0. Behind the last byte there is 0, so that every call
-// answers for any bytes.
+// The header of a customer file: where its fields stand, the number that refuses each, and the year that it opens, by
+// the bytes read so far. Document 01, Two programs: "CUS", version 1, a sheet, option, holidays, prices. Fields count
+// from 0. Behind the last byte there is 0, so that every call answers for any bytes.
 ghost use mathlib.Core.Path.{_≡_};
 ghost use mathlib.Core.Bool.{not};
 ghost use Prim.Native.Nat.{_≤_, _<_, min};
 ghost use lib.Dec.{eqb};
 ghost use lib.ListN.{take};
 ghost use Rattle.over.specs.Over.{counted};
-ghost use Rattle.holidays.specs.Holidays.{before, badEntry};
+ghost use Rattle.holidays.specs.Holidays.{before};
 ghost use Rattle.fields.specs.Layout.{fieldAt};
-ghost use Rattle.customer_head.specs.Header.{customerYear, holidayCount, holidaysOf, pricesOf, priceFields, customerLayout, spanOf, openedIn};
+ghost use Rattle.customer_head.specs.Header.{holidayCount, holidaysOf, pricesOf, holidayOut, priceFields, customerLayout, spanOf, openedIn};
 use customer::Customer;
 use tariff::Prices;
 use tariff::Row;
 
-// Fields before the holidays, and prices behind them; how wide the former are, where they start, and the numbers that refuse them.
+// Fields before the holidays, and prices behind them; how wide the former are, where they start, and the numbers that
+// refuse them.
 const FIRST_FIELDS: usize = 12;
 
 const PRICE_FIELDS: usize = 4;
@@ -151,7 +152,7 @@ fn holiday_before(head: &[u8], j: usize) -> u16
 
 fn holiday_no(head: &[u8], j: usize) -> u8
     requires { ⌜ j < holidayCount (now head) ⌝ }
-    ensures { λ r. ⌜ r ≡ counted (badEntry (customerYear (now (head .entry))) (holidaysOf (now (head .entry))) j) 3 ⌝ }
+    ensures { λ r. ⌜ r ≡ counted (holidayOut (now (head .entry)) j) 3 ⌝ }
 {
     let day = packed::two_at(head, HOLIDAYS_AT + HOLIDAY_BYTES * j);
     let last = holiday_before(head, j);

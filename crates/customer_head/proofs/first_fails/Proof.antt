@@ -7,37 +7,37 @@ use Rattle.answers.specs.Ruling.{levelOut}
 use Rattle.sheet.specs.Bytes.{mark}
 use Rattle.customer_head.specs.Header.{customerMark}
 use Rattle.fields.proofs.Common.{mark-no, version-no, year-no, level-no}
-use Rattle.customer_head.proofs.CustomerLayout.{refusal-at, refusal-season}
-use Rattle.customer_head.proofs.Refusals.{refused-by, season-no, option-no, count-no}
+use Rattle.customer_head.proofs.Refusals.{fails-at, season-fails, option-no, count-no}
 use Rattle.customer_head.proofs.first_fails.Statement.{statement}
 use Rattle.customer_head.proofs.first_fails.Tie as tie
 
 returns : tie.Need-returns
-returns c = let h = c .before .before .before .before .args .head .now in refused-by _ 12 (omega arith) (mark-no h 0 customerMark (c .unlike .ensures) ∙ refusal-at h 0 (omega arith) (omega arith))
+returns c = fails-at _ _ 0 (omega arith) (omega arith) (mark-no _ 0 customerMark (c .unlike .ensures))
 
 returns-2 : tie.Need-returns-2
-returns-2 c = let h = c .before .before .before .before .args .head .now in refused-by _ 12 (omega arith) (version-no h 3 (c .two-at .ensures) ∙ refusal-at h 1 (omega arith) (omega arith))
+returns-2 c = fails-at _ _ 1 (omega arith) (omega arith) (version-no _ 3 (c .two-at .ensures))
 
 returns-3 : tie.Need-returns-3
-returns-3 c = let h = c .before .before .before .before .before .before .args .head .now in refused-by _ 12 (omega arith) (mark-no h 5 mark (c .unlike2 .ensures) ∙ refusal-at h 2 (omega arith) (omega arith))
+returns-3 c = fails-at _ _ 2 (omega arith) (omega arith) (mark-no _ 5 mark (c .unlike2 .ensures))
 
 returns-4 : tie.Need-returns-4
-returns-4 c = let h = c .before .before .before .before .before .before .args .head .now in refused-by _ 12 (omega arith) (version-no h 8 (c .two-at2 .ensures) ∙ refusal-at h 3 (omega arith) (omega arith))
+returns-4 c = fails-at _ _ 3 (omega arith) (omega arith) (version-no _ 8 (c .two-at2 .ensures))
 
 returns-5 : tie.Need-returns-5
-returns-5 c = let h = c .before .before .before .before .before .before .before .before .args .head .now in refused-by _ 1 (omega arith) (year-no h 10 (c .before .two-at3 .ensures) (c .year-out .ensures) ∙ refusal-at h 4 (omega arith) (omega arith))
+returns-5 c = fails-at _ _ 4 (omega arith) (omega arith) (year-no _ 10 (c .before .two-at3 .ensures) (c .year-out .ensures))
 
 returns-6 : tie.Need-returns-6
-returns-6 c = let h = c .before .before .before .before .before .before .before .before .before .args .head .now in refused-by _ 2 (omega arith) (level-no h 12 (c .level-out .ensures ∙ ap levelOut (c .before .byte-at .ensures)) ∙ refusal-at h 5 (omega arith) (omega arith))
+returns-6 c =
+    fails-at _ _ 5 (omega arith) (omega arith) (level-no _ 12 (c .level-out .ensures ∙ ap levelOut (c .before .byte-at .ensures)))
 
 returns-7 : tie.Need-returns-7
-returns-7 c = let a = c .before .before .before .before .before .before .before .before .before .args in refused-by _ 12 (omega arith) (season-no (a .head .now) _ (c .season-full .ensures) ∙ refusal-season (a .head .now) (a .k) (omega arith) (omega arith))
+returns-7 c = season-fails _ _ (omega arith) (omega arith) (c .season-full .ensures)
 
 returns-8 : tie.Need-returns-8
-returns-8 c = let h = c .before .before .before .before .before .before .before .before .before .before .args .head .now in refused-by _ 12 (omega arith) (option-no h 61 (c .byte-at2 .ensures) ∙ refusal-at h 10 (omega arith) (omega arith))
+returns-8 c = fails-at _ _ 10 (omega arith) (omega arith) (option-no _ 61 (c .byte-at2 .ensures))
 
 returns-9 : tie.Need-returns-9
-returns-9 c = let h = c .before .before .before .before .before .before .before .before .before .before .args .head .now in refused-by _ 3 (omega arith) (count-no h 62 (c .byte-at3 .ensures) ∙ refusal-at h 11 (omega arith) (omega arith))
+returns-9 c = fails-at _ _ 11 (omega arith) (omega arith) (count-no _ 62 (c .byte-at3 .ensures))
 
 pub first-fails-spec : {M : Type 1} → statement M
 first-fails-spec =

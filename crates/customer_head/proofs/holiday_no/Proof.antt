@@ -11,7 +11,12 @@ use Rattle.customer_head.proofs.holiday_no.Statement.{statement}
 use Rattle.customer_head.proofs.holiday_no.Tie as tie
 
 returns : tie.Need-returns
-returns c = let a = c .before .before .before .before .before .before .args in let day = c .before .before .before .before .two-at .ensures ∙ holiday-is (a .head .now) (a .j) (omega arith) in let last = c .before .before .before .holiday-before .ensures in let year = c .before .before .two-at2 .ensures in c .number-if .ensures ∙ ap (λ (t : Bool). counted t 3) (c .before .unfit .ensures) ∙ (λ i. counted (unfit (year i) (last i) (day i)) 3)
+returns c =
+    let entry = c .before .before .before .before in
+    let day = entry .two-at .ensures ∙ holiday-is _ _ (omega arith) in
+    let last = c .before .before .before .holiday-before .ensures in
+    let year = c .before .before .two-at2 .ensures in
+    c .number-if .ensures ∙ ap (λ (t : Bool). counted t 3) (c .before .unfit .ensures) ∙ (λ i. counted (unfit (year i) (last i) (day i)) 3)
 
 pub holiday-no-spec : {M : Type 1} → statement M
 holiday-no-spec =

@@ -8,28 +8,35 @@ use lib.Dec.{eqb}
 use lib.ListN.{length, take, drop}
 use lib.Seq.{length-take-le}
 use Rattle.customer.specs.Answers.{openCustomer}
-use Rattle.customer_head.specs.Header.{openedIn}
+use Rattle.customer_head.specs.Header.{holidaysOf, openedIn}
 use Rattle.customer_head.proofs.CustomerLayout.{sheet-held}
 use Rattle.customer_head.proofs.opened.Statement.{statement}
 use Rattle.customer_head.proofs.opened.Tie as tie
 
 slice-aggregate-open : tie.Need-slice-aggregate-open
 slice-aggregate-open c =
-    let list = c .before .before .before .before .before .before .holidays-of .result in
-    let long : length list ≡ 40 = search needs in
-    sym (length-take-le (c .before .before .before .before .before .before .before .count-of .result) list (omega arith))
+    let asked = c .before .before .before .before in
+    let listed = asked .before .before in
+    let long : length (listed .holidays-of .result) ≡ 40 = search needs in
+    sym (length-take-le (listed .before .count-of .result) (listed .holidays-of .result) (omega arith))
+
+-- the holidays, as many as the header counts
+listed-are : (e : tie.After-holidays-of) → take (e .before .count-of .result) (e .holidays-of .result) ≡ holidaysOf (e .before .before .before .args .head .now)
+listed-are e = ap (λ (n : ℕ). take n (e .holidays-of .result)) (e .before .count-of .ensures .0) ∙ e .holidays-of .ensures
 
 returns : tie.Need-returns
 unfolding openedIn
 returns c =
-    let b = c .before .before .before .before .before .before .before .before .before .before .before .args .head .now in
-    let list = ap (λ (n : ℕ). take n (c .before .before .before .before .before .before .before .before .holidays-of .result)) (c .before .before .before .before .before .before .before .before .before .count-of .ensures .0) ∙ c .before .before .before .before .before .before .before .before .holidays-of .ensures in
-    let prices = c .before .before .before .before .before .before .before .prices-of .ensures in
-    let option = c .before .before .before .before .before .before .byte-at .ensures in
-    let from = c .before .before .before .before .before .least .ensures in
-    let to = c .before .before .before .before .least2 .ensures in
+    let cut = c .before .before .before .before in
+    let asked = cut .before .before in
+    let listed = asked .before .before in
+    let b = listed .before .before .before .args .head .now in
+    let from = cut .before .least .ensures in
+    let to = cut .least2 .ensures in
     let sheet = (λ i. take (to i - from i) (drop (from i) b)) ∙ sheet-held b in
-    c .before .«open» .ensures .1 ∙ (λ i. openCustomer (sheet i) (list i) (prices i) (eqb (option i) 1))
+    let prices = asked .before .prices-of .ensures in
+    let option = asked .byte-at .ensures in
+    c .before .«open» .ensures .1 ∙ (λ i. openCustomer (sheet i) (listed-are listed i) (prices i) (eqb (option i) 1))
 
 pub opened-spec : {M : Type 1} → statement M
 opened-spec =

@@ -12,10 +12,14 @@ returns : tie.Need-returns
 returns c = let a = c .before .before .args in no-price (a .head .now) (a .i) (a .j) (omega arith)
 
 returns-2 : tie.Need-returns-2
-returns-2 c = let a = c .before .before .before .before .before .before .args in c .number-if .ensures ∙ capacity-no (a .head .now) (a .i) (a .j) (omega arith) (c .before .before .if2 .taken) (c .before .capacity-out .ensures ∙ ap capacityOut (c .before .before .before .four-at .ensures))
+returns-2 c =
+    let price = c .before .before .before .four-at .ensures in
+    c .number-if .ensures ∙ capacity-no _ _ _ (omega arith) (c .before .before .if2 .taken) (c .before .capacity-out .ensures ∙ ap capacityOut price)
 
 returns-3 : tie.Need-returns-3
-returns-3 c = let a = c .before .before .before .before .before .before .args in c .number-if2 .ensures ∙ energy-no (a .head .now) (a .i) (a .j) (omega arith) (c .before .before .if2 .left) (c .before .energy-out .ensures ∙ ap energyOut (c .before .before .before .four-at .ensures))
+returns-3 c =
+    let price = c .before .before .before .four-at .ensures in
+    c .number-if2 .ensures ∙ energy-no _ _ _ (omega arith) (c .before .before .if2 .left) (c .before .energy-out .ensures ∙ ap energyOut price)
 
 pub price-no-spec : {M : Type 1} → statement M
 price-no-spec =

@@ -11,8 +11,9 @@ use Rattle.customer_head.proofs.prices_of.Tie as tie
 
 returns : tie.Need-returns
 returns c =
-    let b = c .before .before .before .before .before .before .args .head .now in
-    let at = c .before .before .before .before .count-of in
+    let counted = c .before .before .before .before in
+    let b = counted .before .before .args .head .now in
+    let at = counted .count-of in
     let first : 63 + 2 * at .result ≡ pricesPlace b + 4 * 0 = omega (arith, at .ensures .0) in
     let second : 63 + 2 * at .result + 4 ≡ pricesPlace b + 4 * 1 = omega (arith, at .ensures .0) in
     let third : 63 + 2 * at .result + 8 ≡ pricesPlace b + 4 * 2 = omega (arith, at .ensures .0) in

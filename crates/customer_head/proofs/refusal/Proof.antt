@@ -22,12 +22,13 @@ returns c =
     ∙ first-number (a .head .now) (a .k) (omega arith)
 
 returns-2 : tie.Need-returns-2
-returns-2 c = let a = c .before .before .before .before .before .args in c .holiday-no .ensures ∙ refusal-holiday (a .head .now) (a .k) (omega arith) (omega arith)
+returns-2 c = c .holiday-no .ensures ∙ refusal-holiday _ _ (omega arith) (omega arith)
 
 returns-3 : tie.Need-returns-3
 returns-3 c =
-    let a = c .before .before .before .before .before .before .args in
-    let n = c .before .before .before .count-of .ensures .0 in
+    let counted = c .before .before .before in
+    let a = counted .before .before .before .args in
+    let n = counted .count-of .ensures .0 in
     c .price-no .ensures
     ∙ (λ i. fieldAt (priceFields (a .head .now)) (a .k - 12 - n i) .refusal (c .before .span-of .ensures i .start))
     ∙ refusal-rest (a .head .now) (a .k) (omega arith)
