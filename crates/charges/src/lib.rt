@@ -5,6 +5,7 @@ ghost use Rattle.tariff.specs.Prices.{rowOut, pricesOut, LegalRow, LegalPrices}
 ghost use Rattle.tariff.specs.Charges.{fewHours, rowOf, chargeFor, chargeMost, reduced, floorOf, generalIn, flooredIn};
 use tariff::Figures;
 use tariff::Prices;
+use tariff::Rates;
 use tariff::Row;
 
 // Below 2,500 hours of use: the sum of the quarter means is below 10,000 times the peak.
@@ -68,9 +69,10 @@ fn row_of(prices: Prices, low: bool) -> Row
 
 // The charge for the annual peak. The customer's option does not enter: the reduction is measured from this charge. No charge is named
 // where a price is out of its range: any figures and any list have an answer, and then it is 0.
-pub fn general_charge(figures: Figures, prices: Prices) -> u64
-    ensures { λ r. ⌜ (r ≡ generalIn figures prices) × (r ≤ chargeMost) ⌝ }
+pub fn general_charge(figures: Figures, rates: Rates) -> u64
+    ensures { λ r. ⌜ (r ≡ generalIn figures rates) × (r ≤ chargeMost) ⌝ }
 {
+    let prices = rates.prices;
     if prices_out(prices) {
         return 0;
     }
@@ -79,11 +81,12 @@ pub fn general_charge(figures: Figures, prices: Prices) -> u64
 }
 
 // For the in-window peak, in the same row; the option leaves the low row for the high one, and at 2,500 hours changes nothing.
-fn reduced_charge(figures: Figures, prices: Prices, option: bool) -> u64
-    requires { ⌜ LegalPrices prices ⌝ }
-    ensures { λ r. ⌜ (r ≡ reduced figures prices option) × (r ≤ chargeMost) ⌝ }
+fn reduced_charge(figures: Figures, rates: Rates) -> u64
+    requires { ⌜ LegalPrices (rates .prices) ⌝ }
+    ensures { λ r. ⌜ (r ≡ reduced figures rates) × (r ≤ chargeMost) ⌝ }
 {
-    let row = row_of(prices, few_hours(figures) & !option);
+    let prices = rates.prices;
+    let row = row_of(prices, few_hours(figures) & !rates.option);
     charge_for(figures.high, row, figures.sum)
 }
 
@@ -98,12 +101,13 @@ fn with_floor(r: u64, g: u64) -> u64
 }
 
 // The charge of an eligible customer: the larger of reduced charge and floor. 0 where a price is out of its range, as above.
-pub fn floored_charge(figures: Figures, prices: Prices, option: bool) -> u64
-    ensures { λ r. ⌜ (r ≡ flooredIn figures prices option) × (r ≤ chargeMost) ⌝ }
+pub fn floored_charge(figures: Figures, rates: Rates) -> u64
+    ensures { λ r. ⌜ (r ≡ flooredIn figures rates) × (r ≤ chargeMost) ⌝ }
 {
+    let prices = rates.prices;
     if prices_out(prices) {
         return 0;
     }
-    let r = reduced_charge(figures, prices, option);
-    with_floor(r, general_charge(figures, prices))
+    let r = reduced_charge(figures, rates);
+    with_floor(r, general_charge(figures, rates))
 }

@@ -19,6 +19,7 @@ use sheet::SheetAnswer;
 use tariff::Decision;
 use tariff::Figures;
 use tariff::Prices;
+use tariff::Rates;
 use tariff::Row;
 
 // The highest legal reading of a customer, W.
@@ -115,12 +116,13 @@ pub fn decide(
         return Decision::BadReading(legal::first_illegal(run, series, CUSTOMER_MOST));
     }
     let list = opened.customer.terms.prices;
-    decision::judge(
-        figures,
-        opened.customer.terms.level,
-        list,
-        opened.customer.terms.option,
-    )
+    let rates = Rates {
+        year,
+        level: opened.customer.terms.level,
+        option: opened.customer.terms.option,
+        prices: list,
+    };
+    decision::judge(figures, rates)
 }
 
 // What a day is answered where so many days are taken, with this sum: 13, also for a sum that no legal days have, then 4, then 5.
@@ -262,6 +264,12 @@ impl Customer {
         }
         let figures = self.figures;
         let prices = terms.prices;
-        decision::judge(figures, terms.level, prices, terms.option)
+        let rates = Rates {
+            year: terms.year,
+            level: terms.level,
+            option: terms.option,
+            prices,
+        };
+        decision::judge(figures, rates)
     }
 }

@@ -10,7 +10,7 @@ use tariff::Decision;
 use tariff::Figures;
 use tariff::Peaks;
 use tariff::Plain;
-use tariff::Prices;
+use tariff::Rates;
 
 // The share that each level code, from 1, asks for, in percent: a constant table, as document 01 names it.
 const SHARES: [u8; 7] = [5, 10, 10, 20, 20, 30, 30];
@@ -40,11 +40,11 @@ fn share(level: u8) -> u8
     SHARES[i]
 }
 
-fn share_short(figures: Figures, level: u8) -> bool
-    requires { ⌜ Level level ⌝ }
-    ensures { λ r. ⌜ r ≡ shareShort figures level ⌝ }
+fn share_short(figures: Figures, rates: Rates) -> bool
+    requires { ⌜ Level (rates .level) ⌝ }
+    ensures { λ r. ⌜ r ≡ shareShort figures rates ⌝ }
 {
-    WHOLE_SHARE * (moved_out(figures) as u64) < share(level) as u64 * (figures.peak as u64)
+    WHOLE_SHARE * (moved_out(figures) as u64) < share(rates.level) as u64 * (figures.peak as u64)
 }
 
 fn plain_of(figures: Figures, g: u64) -> Plain
@@ -70,20 +70,21 @@ fn peaks_of(figures: Figures, g: u64) -> Peaks
 }
 
 // May the customer have the reduced charge? Refuses 2, 6, 8, 9, 10 in this order, else 0 with yes. Any figures have an answer.
-pub fn eligible(figures: Figures, level: u8, prices: Prices) -> Decision
-    ensures { λ r. ⌜ saidOf r ≡ eligibleAnswer figures level prices ⌝ }
+pub fn eligible(figures: Figures, rates: Rates) -> Decision
+    ensures { λ r. ⌜ saidOf r ≡ eligibleAnswer figures rates ⌝ }
 {
-    if answers::level_out(level) {
+    if answers::level_out(rates.level) {
         return Decision::LevelOut;
     }
+    let prices = rates.prices;
     if charges::prices_out(prices) {
         return Decision::PriceOut;
     }
-    let g = charges::general_charge(figures, prices);
+    let g = charges::general_charge(figures, rates);
     if !figures.any {
         return Decision::NoWindow(plain_of(figures, g));
     }
-    if share_short(figures, level) {
+    if share_short(figures, rates) {
         return Decision::ShareShort(peaks_of(figures, g));
     }
     if moved_out(figures) < LEAST_MOVE {
@@ -93,17 +94,18 @@ pub fn eligible(figures: Figures, level: u8, prices: Prices) -> Decision
 }
 
 // What an eligible customer is charged. Refuses 6, 8, 11 in this order, else 0 with the charge. Any figures have an answer.
-pub fn charge(figures: Figures, prices: Prices, option: bool) -> Decision
-    ensures { λ r. ⌜ saidOf r ≡ chargeAnswer figures prices option ⌝ }
+pub fn charge(figures: Figures, rates: Rates) -> Decision
+    ensures { λ r. ⌜ saidOf r ≡ chargeAnswer figures rates ⌝ }
 {
+    let prices = rates.prices;
     if charges::prices_out(prices) {
         return Decision::PriceOut;
     }
-    let g = charges::general_charge(figures, prices);
+    let g = charges::general_charge(figures, rates);
     if !figures.any {
         return Decision::NoWindow(plain_of(figures, g));
     }
-    let c = charges::floored_charge(figures, prices, option);
+    let c = charges::floored_charge(figures, rates);
     let peaks = peaks_of(figures, g);
     if g < c + LEAST_REDUCTION {
         return Decision::ReductionShort(peaks);
@@ -113,12 +115,12 @@ pub fn charge(figures: Figures, prices: Prices, option: bool) -> Decision
 
 // The decision over a year's figures: the two halves in a row, so that no rule is written twice. Refuses 2, 6, 8, 9, 10, 11 in this
 // order, else 0 with the charge. Any figures have an answer.
-pub fn judge(figures: Figures, level: u8, prices: Prices, option: bool) -> Decision
-    ensures { λ r. ⌜ saidOf r ≡ judgeAnswer figures level prices option ⌝ }
+pub fn judge(figures: Figures, rates: Rates) -> Decision
+    ensures { λ r. ⌜ saidOf r ≡ judgeAnswer figures rates ⌝ }
 {
-    let first = eligible(figures, level, prices);
+    let first = eligible(figures, rates);
     if let Decision::Eligible = first {
-        return charge(figures, prices, option);
+        return charge(figures, rates);
     }
     first
 }

@@ -43,19 +43,20 @@ use Rattle.grid.specs.declared.Grid.{Grid}
 use Rattle.grid_curves.specs.Curves.{periodRun}
 use Rattle.grid.proofs.Exactly.{windows-exactly}
 use Rattle.tariff.specs.declared.Prices.{Prices}
+use Rattle.tariff.specs.declared.Rates.{Rates}
 use Rattle.tariff.specs.declared.Figures.{Figures}
 use Rattle.tariff.specs.Prices.{pricesOut}
 use Rattle.tariff.specs.Charges.{general, charge}
 use Rattle.tariff.specs.Decision.{noWindow, shareShort, moveShort, reductionShort, eligibleRules, chargeRules, judgeRules, eligibleAnswer, chargeAnswer, judgeAnswer}
 use Rattle.day_figures.specs.Counts.{yearRun}
-use Rattle.customer.specs.Answers.{termsOf, wholeAnswer, decideAnswer, openAnswer as customerOpens, overfull, dayAnswer as customerDay, closeAnswer as customerCloses}
+use Rattle.customer.specs.Answers.{termsOf, ratesOf, wholeAnswer, decideAnswer, openAnswer as customerOpens, overfull, dayAnswer as customerDay, closeAnswer as customerCloses}
 use Rattle.customer.specs.declared.Customer.{Customer}
 use Rattle.customer.specs.Rows.{CustomerOpenRow, CustomerDayRow, SeriesRow, DecideRow}
 use Rattle.customer.specs.Rows.CustomerOpenRow.{sheet, three, six, zero}
 use Rattle.customer.specs.Rows.CustomerDayRow.{over, next}
 use Rattle.customer.specs.Rows.SeriesRow.{four, five, judged}
 use Rattle.customer.specs.Rows.DecideRow.{refused, series}
-use Rattle.customer.specs.Demand.{Basis, basisRun}
+use Rattle.customer.specs.Demand.{Basis, basisRun, basisRates}
 use Rattle.customer.proofs.Exactly.{open-zero, customer-day-exactly, decide-exactly}
 use Rattle.customer.proofs.Whole.{judge-five}
 use Rattle.demands.specs.Year.{decideFor, figuresIn}
@@ -179,67 +180,67 @@ windows-listed y level xs room =
     (finishes column (before place (bare [])) y level _ room)))
 
 -- the decision over figures, under any column that lists what the year's does, but for 5
-module _ (f : Figures) (p : Prices) (column : ℕ → List ℕ) where
-  module _ (done : List ℕ) (same : (n : ℕ) → eqb n 5 ≡ false → column n ≡ withFigures f (general f p) (bare done) n) where
-    eligible-refuses : (level : ℕ) → Refusing column (eligibleRules f level p)
+module _ (f : Figures) (r : Rates) (column : ℕ → List ℕ) where
+  module _ (done : List ℕ) (same : (n : ℕ) → eqb n 5 ≡ false → column n ≡ withFigures f (general f r) (bare done) n) where
+    eligible-refuses : Refusing column (eligibleRules f r)
     unfolding eligibleRules
-    eligible-refuses level =
-        choice (Refusing column) (noWindow f) (λ r. leaf (sym (same 8 refl)))
-        (choice (Refusing column) (shareShort f level) (λ r. leaf (sym (same 9 refl)))
-        (choice (Refusing column) (moveShort f) (λ r. leaf (sym (same 10 refl)))
-        (λ r. absurd (r refl))))
+    eligible-refuses =
+        choice (Refusing column) (noWindow f) (λ z. leaf (sym (same 8 refl)))
+        (choice (Refusing column) (shareShort f r) (λ z. leaf (sym (same 9 refl)))
+        (choice (Refusing column) (moveShort f) (λ z. leaf (sym (same 10 refl)))
+        (λ z. absurd (z refl))))
 
-    module _ (option : Bool) (is : done ≡ charge f p option ∷ general f p ∷ f .peak ∷ f .sum ∷ f .high ∷ f .day ∷ f .quarter ∷ []) where
-      charge-listed : Carries (chargeRules f p option) column
+    module _ (is : done ≡ charge f r ∷ general f r ∷ f .peak ∷ f .sum ∷ f .high ∷ f .day ∷ f .quarter ∷ []) where
+      charge-listed : Carries (chargeRules f r) column
       unfolding chargeRules
       charge-listed =
           either (noWindow f) (leaf (sym (same 8 refl)))
-          (either (reductionShort f p option) (leaf (sym (same 11 refl)))
+          (either (reductionShort f r) (leaf (sym (same 11 refl)))
           (leaf (sym (same 0 refl ∙ is))))
 
-      judge-listed : (level : ℕ) → Carries (judgeAnswer f level p option) column
+      judge-listed : Carries (judgeAnswer f r) column
       unfolding judgeAnswer judgeRules
-      judge-listed level =
-          either (levelOut level) (leaf (sym (same 2 refl)))
-          (either (pricesOut p) (leaf (sym (same 6 refl)))
-          (behind (eligibleRules f level p) (eligible-refuses level) charge-listed))
+      judge-listed =
+          either (levelOut (r .level)) (leaf (sym (same 2 refl)))
+          (either (pricesOut (r .prices)) (leaf (sym (same 6 refl)))
+          (behind (eligibleRules f r) eligible-refuses charge-listed))
 
-eligible-listed : (f : Figures) (level : ℕ) (p : Prices) → Carries (eligibleAnswer f level p) (withFigures f (general f p) (bare (1 ∷ [])))
+eligible-listed : (f : Figures) (r : Rates) → Carries (eligibleAnswer f r) (withFigures f (general f r) (bare (1 ∷ [])))
 unfolding eligibleAnswer eligibleRules
-eligible-listed f level p =
-    either (levelOut level) (leaf refl)
-    (either (pricesOut p) (leaf refl)
+eligible-listed f r =
+    either (levelOut (r .level)) (leaf refl)
+    (either (pricesOut (r .prices)) (leaf refl)
     (either (noWindow f) (leaf refl)
-    (either (shareShort f level) (leaf refl)
+    (either (shareShort f r) (leaf refl)
     (either (moveShort f) (leaf refl)
     (leaf refl)))))
 
-charged : (f : Figures) (p : Prices) (option : Bool) → Carries (chargeAnswer f p option) (yearColumn f p option)
+charged : (f : Figures) (r : Rates) → Carries (chargeAnswer f r) (yearColumn f r)
 unfolding chargeAnswer
-charged f p option = either (pricesOut p) (leaf refl) (charge-listed f p (yearColumn f p option) _ (λ n e. refl) option refl)
+charged f r = either (pricesOut (r .prices)) (leaf refl) (charge-listed f r (yearColumn f r) _ (λ n e. refl) refl)
 
-judged-listed : (f : Figures) (level : ℕ) (p : Prices) (option : Bool) → Carries (judgeAnswer f level p option) (yearColumn f p option)
-judged-listed f level p option = judge-listed f p (yearColumn f p option) _ (λ n e. refl) option refl level
+judged-listed : (f : Figures) (r : Rates) → Carries (judgeAnswer f r) (yearColumn f r)
+judged-listed f r = judge-listed f r (yearColumn f r) _ (λ n e. refl) refl
 
 decides :
     (k : Basis) (xs : List ℕ)
-    → Carries (decideFor k xs) (withPlace (firstIllegal (basisRun k) customerMost xs) (yearColumn (figuresIn k xs) (k .prices) (k .option)))
+    → Carries (decideFor k xs) (withPlace (firstIllegal (basisRun k) customerMost xs) (yearColumn (figuresIn k xs) (basisRates k)))
 unfolding decideAnswer wholeAnswer
 decides k xs =
     let place = firstIllegal (basisRun k) customerMost xs in
-    let others = yearColumn (figuresIn k xs) (k .prices) (k .option) in
+    let others = yearColumn (figuresIn k xs) (basisRates k) in
     behind (customerOpens (k .sheet) (k .holidays) (k .prices)) (opens (withPlace place others) refl refl refl refl refl (k .sheet) (k .holidays) (k .prices))
     (behind (seriesAnswer (basisRun k) customerMost xs) (series-listed (basisRun k) customerMost xs others refl)
-    (judge-listed (figuresIn k xs) (k .prices) (withPlace place others) _ (before place others) (k .option) refl _))
+    (judge-listed (figuresIn k xs) (basisRates k) (withPlace place others) _ (before place others) refl))
 
 customer-days : (c : Customer) (day : List ℕ) → Carries (customerDay c day) (withPlace (record { day = c .seen + 1; position = firstAbove customerMost day }) (bare []))
 unfolding customerDay
 customer-days c day = either (overfull c) (leaf refl) (next-listed (yearRun (c .terms .year)) customerMost (c .seen) day)
 
-customer-closes : (c : Customer) → Carries (customerCloses c) (yearColumn (c .figures) (c .terms .prices) (c .terms .option))
+customer-closes : (c : Customer) → Carries (customerCloses c) (yearColumn (c .figures) (ratesOf (c .terms)))
 unfolding customerCloses
 customer-closes c =
-    either (not (eqb (c .seen) (yearDays (c .terms .year)))) (leaf refl) (judged-listed (c .figures) (c .terms .level) (c .terms .prices) (c .terms .option))
+    either (not (eqb (c .seen) (yearDays (c .terms .year)))) (leaf refl) (judged-listed (c .figures) (ratesOf (c .terms)))
 
 calendar-listed : (y : ℕ) (hs : List ℕ) (d : ℕ) → Carries (dayAnswer y hs d) (bare (bit (carries y hs d) ∷ []))
 unfolding dayAnswer

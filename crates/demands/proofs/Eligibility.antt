@@ -44,7 +44,7 @@ use Rattle.customer.specs.Counts.{counts}
 use Rattle.customer.specs.Answers.{termsOf}
 use Rattle.customer.specs.Rows.{CustomerOpenRow}
 use Rattle.customer.specs.Rows.CustomerOpenRow.{sheet, three, six, zero}
-use Rattle.customer.specs.Demand.{Basis, basisYear, basisRun, basisDays, inWindow, LegalYear}
+use Rattle.customer.specs.Demand.{Basis, basisYear, basisRun, basisDays, basisRates, inWindow, LegalYear}
 use Rattle.customer.proofs.Exactly.{customer-open-exactly}
 use Rattle.customer.proofs.Demand.{counts-window, whole-one}
 use Rattle.demands.specs.Year.{opensFor, decideFor, figuresIn}
@@ -75,7 +75,7 @@ module _ (k : Basis) (xs : List ℕ) where
   -- the decision over the figures is 8 exactly when none is
   module _ (l : LegalYear k xs) where
     abbrev Row : ℕ → Type 0
-    Row n = JudgeRow (figuresIn k xs) (sheetIn (k .sheet) .level) (k .prices) (k .option) n
+    Row n = JudgeRow (figuresIn k xs) (basisRates k) n
 
     eight-none : {n : ℕ} → Row n → n ≡ 8 → figuresIn k xs .any ≡ false
     eight-none (two a) e = absurd (omega arith)
@@ -83,12 +83,12 @@ module _ (k : Basis) (xs : List ℕ) where
     eight-none (eight h a) e = a
     eight-none (nine h a s) e = absurd (omega arith)
     eight-none (ten h s m) e = absurd (omega arith)
-    eight-none (eleven h s m r) e = absurd (omega arith)
-    eight-none (zero h s m r) e = absurd (omega arith)
+    eight-none (eleven h s m cut) e = absurd (omega arith)
+    eight-none (zero h s m cut) e = absurd (omega arith)
 
     told : (n : ℕ) → (decideFor k xs .number ≡ n) ↔ Row n
     told n =
-        let j = judge-exactly (figuresIn k xs) (sheetIn (k .sheet) .level) (k .prices) (k .option) n in
+        let j = judge-exactly (figuresIn k xs) (basisRates k) n in
         (λ e. j .0 (sym (number-is (whole-one k l)) ∙ e), λ r. number-is (whole-one k l) ∙ j .1 r)
 
     eight-when : (decideFor k xs .number ≡ 8) ↔ ((d p : ℕ) → d < basisDays k → p < dayLen (basisRun k) d → inWindow k d p ≡ false)

@@ -1,7 +1,6 @@
 -- Demand 3, cited from the customer's room; and that an accepted answer carries a charge.
 -- Assumes nothing.
 use mathlib.Core.Path.{_≡_, refl, sym, ap, _∙_}
-use mathlib.Core.Bool.{Bool}
 use mathlib.Core.Logic.{_⊎_, inl, inr}
 use mathlib.Core.List.{List}
 use Prim.Native.Nat.{ℕ}
@@ -13,10 +12,10 @@ use Rattle.readings.proofs.Runs.{year-run}
 use Rattle.sheet.specs.Bytes.{sheetIn}
 use Rattle.tariff.specs.Charges.{general, charge}
 use Rattle.tariff.specs.Answers.{withCharge, payable, chargedOf}
-use Rattle.tariff.specs.declared.Prices.{Prices}
+use Rattle.tariff.specs.declared.Rates.{Rates}
 use Rattle.tariff.specs.declared.Figures.{Figures}
 use Rattle.tariff.specs.Decision.{judgeAnswer}
-use Rattle.tariff.specs.Rows.{Legal, JudgeRow}
+use Rattle.tariff.specs.Rows.{LegalRates, JudgeRow}
 use Rattle.tariff.specs.Rows.JudgeRow.{two, six, eight, nine, ten, eleven, zero}
 use Rattle.tariff.proofs.Answered.{number-is}
 use Rattle.tariff.proofs.Exactly.{judge-exactly}
@@ -25,7 +24,7 @@ use Rattle.customer.specs.Rows.{CustomerOpenRow}
 use Rattle.customer.specs.Rows.CustomerOpenRow.{sheet, three, six, zero}
 use Rattle.customer.specs.declared.Terms.{Terms}
 use Rattle.customer.specs.Answers.{termsOf, judged}
-use Rattle.customer.specs.Demand.{Basis, basisYear, LegalYear}
+use Rattle.customer.specs.Demand.{Basis, basisYear, basisRates, LegalYear}
 use Rattle.sheet.specs.Rows.{ReadRow}
 use Rattle.sheet.specs.Rows.ReadRow.{zero}
 use Rattle.customer.proofs.Exactly.{customer-open-exactly}
@@ -45,30 +44,33 @@ terms k = termsOf (sheetIn (k .sheet)) (k .holidays) (k .prices) (k .option)
 legal-read : {b : List ℕ} → ReadRow b 0 → Level (sheetIn b .level)
 legal-read (zero f y l w) = l
 
-pub legal-opening : (k : Basis) → opensFor k ≡ only 0 → Legal (sheetIn (k .sheet) .level) (k .prices)
+pub legal-opening : (k : Basis) → opensFor k ≡ only 0 → LegalRates (basisRates k)
 legal-opening k o = go (customer-open-exactly (k .sheet) (k .holidays) (k .prices) 0 .0 (ap (λ (s : Said). s .number) o)) refl
   where
-    go : {n : ℕ} → CustomerOpenRow (k .sheet) (k .holidays) (k .prices) n → n ≡ 0 → Legal (sheetIn (k .sheet) .level) (k .prices)
+    go : {n : ℕ} → CustomerOpenRow (k .sheet) (k .holidays) (k .prices) n → n ≡ 0 → LegalRates (basisRates k)
     go (sheet r z) e = absurd (z e)
     go (three r h) e = absurd (omega arith)
     go (six r h p) e = absurd (omega arith)
     go (zero r h p) e = record { legal-level = legal-read r; legal-prices = p }
 
-pub legal-basis : (k : Basis) (xs : List ℕ) → LegalYear k xs → Legal (sheetIn (k .sheet) .level) (k .prices)
+pub legal-basis : (k : Basis) (xs : List ℕ) → LegalYear k xs → LegalRates (basisRates k)
 legal-basis k xs l = legal-opening k (l .opens)
 
 -- under a legal level and legal prices figures are answered 0 or 8 to 11
-pub judged-numbers : (f : Figures) (level : ℕ) (p : Prices) (option : Bool) → Legal level p → (judgeAnswer f level p option .number ≡ 0) ⊎ Within 8 11 (judgeAnswer f level p option .number)
-judged-numbers f level p option l = go (judge-exactly f level p option _ .0 refl)
+pub judged-numbers :
+    (f : Figures) (r : Rates)
+    → LegalRates r
+    → (judgeAnswer f r .number ≡ 0) ⊎ Within 8 11 (judgeAnswer f r .number)
+judged-numbers f r l = go (judge-exactly f r _ .0 refl)
   where
-    go : {n : ℕ} → JudgeRow f level p option n → (n ≡ 0) ⊎ Within 8 11 n
+    go : {n : ℕ} → JudgeRow f r n → (n ≡ 0) ⊎ Within 8 11 n
     go (two a) = absurd (a (l .legal-level))
     go (six a b) = absurd (b (l .legal-prices))
     go (eight h n) = inr (record { from = omega arith; to = omega arith })
     go (nine h n s) = inr (record { from = omega arith; to = omega arith })
     go (ten h s m) = inr (record { from = omega arith; to = omega arith })
-    go (eleven h s m r) = inr (record { from = omega arith; to = omega arith })
-    go (zero h s m r) = inl refl
+    go (eleven h s m cut) = inr (record { from = omega arith; to = omega arith })
+    go (zero h s m cut) = inl refl
 
 -- whole or by days, a legal year has one answer
 pub given-one : (k : Basis) {xs : List ℕ} {a : Said} → LegalYear k xs → Given ours k xs a → a ≡ judged (terms k) (figuresIn k xs)
@@ -82,8 +84,8 @@ fair : (k : Basis) (xs : List ℕ) (a : Said) → LegalYear k xs → Given ours 
 fair k xs a l g z =
     let one = given-one k l g in
     let f = figuresIn k xs in
-    let c = chargedOf f (general f (k .prices)) (charge f (k .prices) (k .option)) in
-    let is : a ≡ withCharge c = one ∙ said-is _ (yearColumn f (k .prices) (k .option)) 0 (carried .judge f _ (k .prices) (k .option)) (sym (number-is one) ∙ z) in
+    let c = chargedOf f (general f (basisRates k)) (charge f (basisRates k)) in
+    let is : a ≡ withCharge c = one ∙ said-is _ (yearColumn f (basisRates k)) 0 (carried .judge f (basisRates k)) (sym (number-is one) ∙ z) in
     let fair = accepted-fair k xs c (sym is ∙ one) in
     record { c = c .charge; g = c .peaks .plain .general; rest = _; carried = ap (λ (s : Said). s .carries) is; fifth = fair .floor; below = fair .reduction }
 
@@ -96,7 +98,7 @@ fairness =
       stays-accepted = λ k xs ys a b t none z.
           number-is (given-one k (t .second) (t .second-given))
           ∙ stays-accepted k (t .alike) none (sym (number-is (given-one k (t .first) (t .first-given))) ∙ z);
-      answered = λ k xs a l g. rw (given-one k l g) (judged-numbers (figuresIn k xs) _ _ _ (legal-basis k xs l));
-      pays = λ k xs a l g. rw (given-one k l g) (pays-is _ _ _ (legal-basis k xs l) (figuresIn k xs));
+      answered = λ k xs a l g. rw (given-one k l g) (judged-numbers (figuresIn k xs) _ (legal-basis k xs l));
+      pays = λ k xs a l g. rw (given-one k l g) (pays-is _ (legal-basis k xs l) (figuresIn k xs));
       accepted-fair = fair;
     }

@@ -29,7 +29,7 @@ use Rattle.tariff.specs.declared.Figures.{Figures}
 use Rattle.figures.specs.Figures.{figuresOf}
 use Rattle.customer.specs.declared.Terms.{Terms}
 use Rattle.customer.specs.declared.Customer.{Customer}
-use Rattle.customer.specs.Answers.{termsOf, shut as customerShut, sumMost, dayAnswer as customerDay, dayCustomer, closeAnswer as customerCloses}
+use Rattle.customer.specs.Answers.{termsOf, ratesOf, shut as customerShut, sumMost, dayAnswer as customerDay, dayCustomer, closeAnswer as customerCloses}
 use Rattle.customer.specs.Rows.{CustomerCloseRow}
 use Rattle.customer.specs.Rows.CustomerCloseRow.{early, judged}
 use Rattle.customer.specs.Demand.{Basis, basisRun, basisDays}
@@ -120,7 +120,7 @@ module _ (k : Basis) (days : List (List ℕ)) where
     customer-holds =
         holds-taken (customerMachine terms) (openFor k) (sym (open-taken (k .sheet) (k .holidays) (k .prices) (k .option) (sym opens)) ∙ opens-holding terms) days
 
-    judge-row : {n : ℕ} {f : Figures} → JudgeRow f (terms .level) (terms .prices) (terms .option) n → (n ≡ 2 → ⊥) × (n ≡ 6 → ⊥)
+    judge-row : {n : ℕ} {f : Figures} → JudgeRow f (ratesOf terms) n → (n ≡ 2 → ⊥) × (n ≡ 6 → ⊥)
     judge-row (two a) = absurd (a (legal-opening k opens .legal-level))
     judge-row (six a b) = absurd (b (legal-opening k opens .legal-prices))
     judge-row (eight h a) = ((λ e. omega arith), (λ e. omega arith))

@@ -1,7 +1,6 @@
 -- No call of a module that meets the demands refuses always, and none that changes something does nothing: for each an input that shows it.
 -- Assumes nothing.
 use mathlib.Core.Path.{_≡_, refl, sym, ap, _∙_}
-use mathlib.Core.Bool.{Bool, false}
 use mathlib.Core.List.{List, []}
 use Prim.Native.Nat.{ℕ, _*_, _≤_}
 use native.Mathlib.Omega.{arith}
@@ -34,10 +33,9 @@ use Rattle.tariff.specs.Rows.EligibleRow.{zero}
 use Rattle.tariff.specs.Rows.ChargeRow.{zero}
 use Rattle.tariff.specs.Rows.JudgeRow.{two, six, eight, nine, ten, eleven, zero}
 use Rattle.tariff.proofs.Answered.{number-is}
-use Rattle.tariff.specs.declared.Prices.{Prices}
 use Rattle.tariff.specs.declared.Figures.{Figures}
 use Rattle.customer.specs.declared.Customer.{Customer}
-use Rattle.customer.specs.Demand.{Basis, basisRun, LegalYear}
+use Rattle.customer.specs.Demand.{Basis, basisRun, basisRates, LegalYear}
 use Rattle.demands.specs.Year.{figuresIn}
 use Rattle.demands.specs.Module.{Module, gridEnd, gridWhole}
 use Rattle.demands.specs.Refusals.{bare}
@@ -109,26 +107,26 @@ figures = figuresIn k year
 lawful : LegalYear k year
 lawful = legal 100 (omega arith) (omega arith)
 
-judged : JudgeRow figures (sheetIn (k .sheet) .level) (k .prices) false 0
+judged : JudgeRow figures (basisRates k) 0
 judged = row 100 (omega arith) (omega arith)
 
-eligible-row : {level n : ℕ} {p : Prices} {option : Bool} → JudgeRow figures level p option n → n ≡ 0 → EligibleRow figures level p 0
+eligible-row : {n : ℕ} → JudgeRow figures (basisRates k) n → n ≡ 0 → EligibleRow figures (basisRates k) 0
 eligible-row (two a) e = absurd (omega arith)
 eligible-row (six a b) e = absurd (omega arith)
 eligible-row (eight h a) e = absurd (omega arith)
 eligible-row (nine h a s) e = absurd (omega arith)
 eligible-row (ten h s m) e = absurd (omega arith)
-eligible-row (eleven h s m r) e = absurd (omega arith)
-eligible-row (zero h s m r) e = zero h s m
+eligible-row (eleven h s m cut) e = absurd (omega arith)
+eligible-row (zero h s m cut) e = zero h s m
 
-charge-row : {level n : ℕ} {p : Prices} {option : Bool} → JudgeRow figures level p option n → n ≡ 0 → ChargeRow figures p option 0
+charge-row : {n : ℕ} → JudgeRow figures (basisRates k) n → n ≡ 0 → ChargeRow figures (basisRates k) 0
 charge-row (two a) e = absurd (omega arith)
 charge-row (six a b) e = absurd (omega arith)
 charge-row (eight h a) e = absurd (omega arith)
 charge-row (nine h a s) e = absurd (omega arith)
 charge-row (ten h s m) e = absurd (omega arith)
-charge-row (eleven h s m r) e = absurd (omega arith)
-charge-row (zero h s m r) e = zero (h .legal-prices) (s .some) r
+charge-row (eleven h s m cut) e = absurd (omega arith)
+charge-row (zero h s m cut) e = zero (h .legal-prices) (s .some) cut
 
 module _ (m : Module) (d : Demands m) where
   grid-opened : (level : ℕ) → gridOpens 2025 level .number ≡ 0 → m .gridOpen 2025 level ≡ only 0
@@ -166,9 +164,9 @@ module _ (m : Module) (d : Demands m) where
   refusing-always (grid-day r) = r _ _ (number-is (grid-whole 5 opened-5 .every-day same same-legal 0 some-2025))
   refusing-always (grid-close r) =
       r (gridAt 5) blankBuffer (ap (λ (c : Said × List ℕ). c .0 .number) (grid-closed 5 opened-5) ∙ same-accepted m d 5 (level-in 5 (omega arith) (omega arith)))
-  refusing-always (eligible r) = r figures _ (k .prices) (d .exactly-when .eligible figures _ (k .prices) 0 .1 (eligible-row judged refl))
-  refusing-always (charge r) = r figures (k .prices) false (d .exactly-when .charge figures (k .prices) false 0 .1 (charge-row judged refl))
-  refusing-always (judge r) = r figures _ (k .prices) false (d .exactly-when .judge figures _ (k .prices) false 0 .1 judged)
+  refusing-always (eligible r) = r figures (basisRates k) (d .exactly-when .eligible figures (basisRates k) 0 .1 (eligible-row judged refl))
+  refusing-always (charge r) = r figures (basisRates k) (d .exactly-when .charge figures (basisRates k) 0 .1 (charge-row judged refl))
+  refusing-always (judge r) = r figures (basisRates k) (d .exactly-when .judge figures (basisRates k) 0 .1 judged)
   refusing-always (decide r) = r k year year-accepted
   refusing-always (customer-open r) = r k (number-is year-opened)
   refusing-always (customer-day r) = r _ _ (number-is (year-whole .every-day year (lawful .series) 0 (some-days 100 (omega arith) (omega arith))))

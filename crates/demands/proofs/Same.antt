@@ -1,7 +1,7 @@
 -- What a legal year is answered by a module that meets the demands: M and S are those of its readings.
 -- Assumes nothing.
 use mathlib.Core.Path.{_≡_, refl, sym, ap, _∙_}
-use mathlib.Core.Bool.{Bool, cond}
+use mathlib.Core.Bool.{cond}
 use mathlib.Core.Logic.{_⊎_, ⊎-elim}
 use mathlib.Core.List.{List}
 use Prim.Native.Nat.{ℕ}
@@ -11,10 +11,10 @@ use lib.Dec.{eqb}
 use lib.ListN.{getD}
 use Rattle.over.specs.Limits.{Within}
 use Rattle.answers.specs.Said.{Said}
-use Rattle.tariff.specs.declared.Prices.{Prices}
+use Rattle.tariff.specs.declared.Rates.{Rates}
 use Rattle.tariff.specs.declared.Figures.{Figures}
 use Rattle.tariff.proofs.Answered.{number-is}
-use Rattle.customer.specs.Demand.{Basis, LegalYear}
+use Rattle.customer.specs.Demand.{Basis, basisRates, LegalYear}
 use Rattle.demands.specs.Year.{decideFor, figuresIn}
 use Rattle.demands.specs.Module.{Module, ours}
 use Rattle.demands.specs.Refusals.{yearColumn}
@@ -40,9 +40,9 @@ by-number P zero eight nine ten eleven n = ⊎-elim (λ e. rw e zero) (λ w. go 
 abbrev pub peakSaid : Said → ℕ
 peakSaid a = getD (a .carries) (cond (eqb (a .number) 0) 2 1) 0
 
-module _ (f : Figures) (p : Prices) (option : Bool) where
+module _ (f : Figures) (r : Rates) where
   abbrev listed : ℕ → Said
-  listed n = record { number = n; carries = yearColumn f p option n }
+  listed n = record { number = n; carries = yearColumn f r n }
 
   pub column-said : (n : ℕ) → (n ≡ 0) ⊎ Within 8 11 n → (sumSaid (listed n) ≡ f .sum) × (peakSaid (listed n) ≡ f .peak)
   column-said = by-number (λ n. (sumSaid (listed n) ≡ f .sum) × (peakSaid (listed n) ≡ f .peak)) (refl, refl) (refl, refl) (refl, refl) (refl, refl) (refl, refl)
@@ -52,14 +52,14 @@ module _ (m : Module) (d : Demands m) (k : Basis) (xs : List ℕ) (l : LegalYear
   ours-number = fairness .answered k xs (decideFor k xs) l whole
 
   -- it is the number with what the column lists
-  pub year-said : m .decide k xs ≡ listed (figuresIn k xs) (k .prices) (k .option) (decideFor k xs .number)
+  pub year-said : m .decide k xs ≡ listed (figuresIn k xs) (basisRates k) (decideFor k xs .number)
   year-said =
       let f = figuresIn k xs in
       let judged = given-one k l whole in
-      nothing-else m ours d met .decide k xs ∙ judged ∙ said-is _ _ _ (carried .judge f _ (k .prices) (k .option)) (sym (number-is judged))
+      nothing-else m ours d met .decide k xs ∙ judged ∙ said-is _ _ _ (carried .judge f (basisRates k)) (sym (number-is judged))
 
   pub sum-said : sumSaid (m .decide k xs) ≡ figuresIn k xs .sum
-  sum-said = ap sumSaid year-said ∙ column-said (figuresIn k xs) (k .prices) (k .option) _ ours-number .0
+  sum-said = ap sumSaid year-said ∙ column-said (figuresIn k xs) (basisRates k) _ ours-number .0
 
   pub peak-said : peakSaid (m .decide k xs) ≡ figuresIn k xs .peak
-  peak-said = ap peakSaid year-said ∙ column-said (figuresIn k xs) (k .prices) (k .option) _ ours-number .1
+  peak-said = ap peakSaid year-said ∙ column-said (figuresIn k xs) (basisRates k) _ ours-number .1

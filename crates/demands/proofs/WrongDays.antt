@@ -26,6 +26,7 @@ use Rattle.grid.specs.Rows.WindowsRow.{seven, zero}
 use Rattle.tariff.proofs.Answered.{number-is}
 use Rattle.figures.specs.Figures.{sumOf, figuresOf}
 use Rattle.customer.specs.declared.Customer.{Customer}
+use Rattle.customer.specs.Answers.{ratesOf}
 use Rattle.customer.specs.Demand.{Basis, basisYear, basisRun, LegalYear}
 use Rattle.demands.specs.Year.{opensFor}
 use Rattle.demands.specs.Module.{Module, customerAfter}
@@ -152,5 +153,6 @@ module _ (m : Module) (d : Demands m) (twice : DayTwice m) where
       let number = number-is closed in
       let c = at (runDays run) in
       let carries = said-is (m .customerClose c) _ _ (d .carried .customer-close c) number in
-      let shown = ap sumSaid carries ∙ column-said (c .figures) (c .terms .prices) (c .terms .option) _ (d .fairness .answered k series (m .decide k series) lawful whole) .0 in
+      let answered = d .fairness .answered k series (m .decide k series) lawful whole in
+      let shown = ap sumSaid carries ∙ column-said (c .figures) (ratesOf (c .terms)) _ answered .0 in
       omega (arith, shown, ap sumSaid closed, sum-said m d k series lawful, ap (sumOf run series) (year-run (basisYear k)), grows (runDays run) (omega arith), some-sum)

@@ -26,7 +26,7 @@ use Rattle.tariff.proofs.Limits.{prices-legal}
 use Rattle.customer.specs.declared.Terms.{Terms}
 use Rattle.customer.specs.Counts.{counts}
 use Rattle.customer.specs.Answers.{termsOf, openAnswer}
-use Rattle.customer.specs.Demand.{Basis, basisRun, basisDays, LegalYear}
+use Rattle.customer.specs.Demand.{Basis, basisRun, basisDays, basisRates, LegalYear}
 use Rattle.customer.proofs.Answered.{open-done}
 use Rattle.figures.specs.Figures.{anyOn, figuresOf, FirstPlace}
 use Rattle.figures.proofs.Peak.{first-place}
@@ -113,20 +113,20 @@ module _ (price : ℕ) (least : 100 ≤ price) (most : price ≤ capacityMost) w
   row-is true = refl
   row-is false = refl
 
-  general-is : general (figuresIn k xs) (capacityOnly price) ≡ 1000 * price
+  general-is : general (figuresIn k xs) (basisRates k) ≡ 1000 * price
   unfolding general chargeFor
   general-is = rw (row-is _, peak-is) (omega arith)
 
-  charge-is : charge (figuresIn k xs) (capacityOnly price) false ≡ 200 * price
+  charge-is : charge (figuresIn k xs) (basisRates k) ≡ 200 * price
   unfolding charge reduced floorOf chargeFor
   charge-is = rw (general-is, row-is _, high-is) (omega arith)
 
-  pub row : JudgeRow (figuresIn k xs) (sheetIn example .level) (capacityOnly price) false 0
+  pub row : JudgeRow (figuresIn k xs) (basisRates k) 0
   row =
       zero (legal-basis k xs legal) (record { some = any-there; share = rw (example-share, peak-is, high-is) (omega arith) }) (omega (arith, peak-is, high-is)) (omega (arith, general-is, charge-is))
 
   ours-accepted : decideFor k xs .number ≡ 0
-  ours-accepted = number-is (given-one k legal whole) ∙ judge-exactly (figuresIn k xs) _ (capacityOnly price) false 0 .1 row
+  ours-accepted = number-is (given-one k legal whole) ∙ judge-exactly (figuresIn k xs) (basisRates k) 0 .1 row
 
   -- what a module that meets the demands answers
   module _ (m : Module) (d : Demands m) where

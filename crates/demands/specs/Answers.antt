@@ -1,7 +1,7 @@
 -- Demand 2: "Windows, eligibility and charge are those of document 01, to the quarter-hour and the cent." For every input; a row (`DayRow`, ..) is the
 -- table's, in plain orders, with the numbers before it excluded, in the specs/Rows of its room.
 use mathlib.Core.Path.{_≡_}
-use mathlib.Core.Bool.{Bool, true, false}
+use mathlib.Core.Bool.{true, false}
 use mathlib.Core.Logic.{_↔_, _⊎_}
 use mathlib.Core.List.{List, [], _∷_}
 use Prim.Native.Nat.{ℕ, _+_, _*_, _≤_, _<_}
@@ -23,7 +23,7 @@ use Rattle.sheet.specs.Rows.{ReadRow, WriteRow}
 use Rattle.grid.specs.declared.Grid.{Grid}
 use Rattle.grid_curves.specs.Curves.{periodRun}
 use Rattle.grid.specs.Rows.{OpenRow, CloseRow, WindowsRow}
-use Rattle.tariff.specs.declared.Prices.{Prices}
+use Rattle.tariff.specs.declared.Rates.{Rates}
 use Rattle.tariff.specs.declared.Figures.{Figures}
 use Rattle.tariff.specs.Rows.{EligibleRow, ChargeRow, JudgeRow}
 use Rattle.figures.specs.Figures.{FirstPlace}
@@ -51,11 +51,9 @@ pub record ExactlyWhen (m : Module) : Type 0 where
   pub grid-day : (g : Grid) (day : List ℕ) (n : ℕ) → (m .gridDay g day .number ≡ n) ↔ NextRow (periodRun (g .year)) gridMost (g .seen) day n
   pub grid-close : (g : Grid) (buffer : List ℕ) (n : ℕ) → (m .gridClose g (length buffer) .number ≡ n) ↔ CloseRow g (length buffer) n
   -- 0, 2, 6, 8, 9, 10; 0, 6, 8, 11; 0, 2, 6, 8, 9, 10, 11
-  pub eligible : (f : Figures) (level : ℕ) (p : Prices) (n : ℕ) → (m .eligible f level p .number ≡ n) ↔ EligibleRow f level p n
-  pub charge : (f : Figures) (p : Prices) (option : Bool) (n : ℕ) → (m .charge f p option .number ≡ n) ↔ ChargeRow f p option n
-  pub judge :
-      (f : Figures) (level : ℕ) (p : Prices) (option : Bool) (n : ℕ)
-      → (m .judge f level p option .number ≡ n) ↔ JudgeRow f level p option n
+  pub eligible : (f : Figures) (r : Rates) (n : ℕ) → (m .eligible f r .number ≡ n) ↔ EligibleRow f r n
+  pub charge : (f : Figures) (r : Rates) (n : ℕ) → (m .charge f r .number ≡ n) ↔ ChargeRow f r n
+  pub judge : (f : Figures) (r : Rates) (n : ℕ) → (m .judge f r .number ≡ n) ↔ JudgeRow f r n
   -- 0 to 6, 8 to 12
   pub decide :
       (k : Basis) (xs : List ℕ) (n : ℕ)

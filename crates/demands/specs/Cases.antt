@@ -15,6 +15,7 @@ use Rattle.windows.specs.Chosen.{aboveLine, keptOf}
 use Rattle.grid.specs.Answers.{sheetOf}
 use Rattle.tariff.specs.declared.Row.{Row}
 use Rattle.tariff.specs.declared.Prices.{Prices}
+use Rattle.tariff.specs.declared.Rates.{Rates}
 use Rattle.tariff.specs.declared.Figures.{Figures}
 use Rattle.tariff.specs.Charges.{fewHours, rowOf, general, reduced}
 use Rattle.tariff.specs.Answers.{withPeaks, withCharge, peaksOf, chargedOf}
@@ -70,13 +71,15 @@ exampleCurves = replicate 72 1000 ++ (2000 ∷ replicate 311 1000)
 abbrev pub exampleSheet : List ℕ
 exampleSheet = (0x48 ∷ 0x4c ∷ 0x5a ∷ 0x00 ∷ 0x01 ∷ 0x07 ∷ 0xe9 ∷ 0x05 ∷ []) ++ (replicate 9 0x00 ++ (0x80 ∷ replicate 38 0x00))
 
--- what the cases leave open, so that they hold whatever it is: where H first occurs; the option, where hours of use are 2,500 and more; H
--- in case 4; the peak in case 10, which is not zero
+-- what the cases leave open, so that they hold whatever it is: where H first occurs; the charge year; the option, where hours of use are
+-- 2,500 and more; H and the level in case 4; the peak in case 10, which is not zero
 pub record Unsaid : Type 0 where
   pub day : ℕ
   pub quarter : ℕ
+  pub chargeYear : ℕ
   pub option : Bool
   pub high : ℕ
+  pub level : ℕ
   pub peak : ℕ
   pub positive : 0 < peak
 
@@ -85,37 +88,41 @@ module _ (u : Unsaid) where
   abbrev pub year : ℕ → ℕ → ℕ → Figures
   year m h s = record { peak = m; sum = s; any = true; high = h; day = u .day; quarter = u .quarter }
 
-  -- a year f is answered 0 with g and c; or a refusal with g
-  abbrev pub charged : Figures → ℕ → Prices → Bool → ℕ → ℕ → Case
-  charged f level p option g c = answer (judgeAnswer f level p option) (withCharge (chargedOf f g c))
+  -- the rates of a level, a price list and an option
+  abbrev pub rates : ℕ → Prices → Bool → Rates
+  rates level p option = record { year = u .chargeYear; level = level; option = option; prices = p }
 
-  abbrev pub refused : Figures → ℕ → Prices → Bool → ℕ → ℕ → Case
-  refused f level p option n g = answer (judgeAnswer f level p option) (withPeaks n (peaksOf f g))
+  -- a year f is answered 0 with g and c; or a refusal with g
+  abbrev pub charged : Figures → Rates → ℕ → ℕ → Case
+  charged f r g c = answer (judgeAnswer f r) (withCharge (chargedOf f g c))
+
+  abbrev pub refused : Figures → Rates → ℕ → ℕ → Case
+  refused f r n g = answer (judgeAnswer f r) (withPeaks n (peaksOf f g))
 
   abbrev pub cases : List Case
   cases =
       -- 1. M 1,000,000, H 800,000, S 12,000,000,000, level 5: g 12,400,000, c 10,400,000.
-      charged (year 1000000 800000 12000000000) 5 prices (u .option) 12400000 10400000
+      charged (year 1000000 800000 12000000000) (rates 5 prices (u .option)) 12400000 10400000
       -- 2. The same, H 800,001: 9.
-      ∷ refused (year 1000000 800001 12000000000) 5 prices (u .option) 9 12400000
+      ∷ refused (year 1000000 800001 12000000000) (rates 5 prices (u .option)) 9 12400000
       -- 3. The same, H 0: r 2,400,000, c 2,480,000.
-      ∷ number (reduced (year 1000000 0 12000000000) prices (u .option)) 2400000
-      ∷ charged (year 1000000 0 12000000000) 5 prices (u .option) 12400000 2480000
+      ∷ number (reduced (year 1000000 0 12000000000) (rates 5 prices (u .option))) 2400000
+      ∷ charged (year 1000000 0 12000000000) (rates 5 prices (u .option)) 12400000 2480000
       -- 4. M 1,000,000, S 10,000,000,000: high row, g 12,000,000. S one less: low row. (Its g is the same to the cent, so the row is stated.)
       ∷ row (rowOf prices (fewHours (year 1000000 (u .high) 10000000000))) highRow
-      ∷ number (general (year 1000000 (u .high) 10000000000) prices) 12000000
+      ∷ number (general (year 1000000 (u .high) 10000000000) (rates (u .level) prices (u .option))) 12000000
       ∷ row (rowOf prices (fewHours (year 1000000 (u .high) 9999999999))) lowRow
       -- 5. M 1,000,000, H 100,000, S 4,000,000,000, level 5: g 6,000,000; c 4,200,000, with the option 1,800,000.
-      ∷ charged (year 1000000 100000 4000000000) 5 prices false 6000000 4200000
-      ∷ charged (year 1000000 100000 4000000000) 5 prices true 6000000 1800000
+      ∷ charged (year 1000000 100000 4000000000) (rates 5 prices false) 6000000 4200000
+      ∷ charged (year 1000000 100000 4000000000) (rates 5 prices true) 6000000 1800000
       -- 6. As 5 with the option, H 800,000: r 8,800,000, so 11 with g 6,000,000.
-      ∷ number (reduced (year 1000000 800000 4000000000) prices true) 8800000
-      ∷ refused (year 1000000 800000 4000000000) 5 prices true 11 6000000
+      ∷ number (reduced (year 1000000 800000 4000000000) (rates 5 prices true)) 8800000
+      ∷ refused (year 1000000 800000 4000000000) (rates 5 prices true) 11 6000000
       -- 7. M 300,000, H 200,000, S 3,600,000,000, level 1, high row 500 and 800: g 870,000, c 820,000. Capacity price 499: 11.
-      ∷ charged (year 300000 200000 3600000000) 1 (withHigh (priced 500 800)) (u .option) 870000 820000
-      ∷ refused (year 300000 200000 3600000000) 1 (withHigh (priced 499 800)) (u .option) 11 869700
+      ∷ charged (year 300000 200000 3600000000) (rates 1 (withHigh (priced 500 800)) (u .option)) 870000 820000
+      ∷ refused (year 300000 200000 3600000000) (rates 1 (withHigh (priced 499 800)) (u .option)) 11 869700
       -- 8. As 7, H 200,001: 10.
-      ∷ refused (year 300000 200001 3600000000) 1 (withHigh (priced 500 800)) (u .option) 10 870000
+      ∷ refused (year 300000 200001 3600000000) (rates 1 (withHigh (priced 500 800)) (u .option)) 10 870000
       -- 9. Grid peak 2,000: curve 1,900 is not above, 1,901 is.
       ∷ test (aboveLine 2000 1900) false
       ∷ test (aboveLine 2000 1901) true

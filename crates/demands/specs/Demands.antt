@@ -1,12 +1,11 @@
 -- The three demands, of any module: what it is held to, one record for each part.
 use mathlib.Core.Path.{_≡_}
-use mathlib.Core.Bool.{Bool}
 use mathlib.Core.List.{List}
 use Prim.Native.Nat.{ℕ}
 use lib.ListN.{length}
 use Rattle.sheet.specs.declared.Sheet.{Sheet}
 use Rattle.grid.specs.declared.Grid.{Grid}
-use Rattle.tariff.specs.declared.Prices.{Prices}
+use Rattle.tariff.specs.declared.Rates.{Rates}
 use Rattle.tariff.specs.declared.Figures.{Figures}
 use Rattle.customer.specs.declared.Customer.{Customer}
 use Rattle.customer.specs.Demand.{Basis}
@@ -49,9 +48,9 @@ pub record AnswersAlike (m n : Module) : Type 0 where
   pub grid-open : (y level : ℕ) → m .gridOpen y level ≡ n .gridOpen y level
   pub grid-day : (g : Grid) (day : List ℕ) → m .gridDay g day ≡ n .gridDay g day
   pub grid-close : (g : Grid) (buffer : List ℕ) → m .gridClose g (length buffer) ≡ n .gridClose g (length buffer)
-  pub eligible : (f : Figures) (level : ℕ) (p : Prices) → m .eligible f level p ≡ n .eligible f level p
-  pub charge : (f : Figures) (p : Prices) (option : Bool) → m .charge f p option ≡ n .charge f p option
-  pub judge : (f : Figures) (level : ℕ) (p : Prices) (option : Bool) → m .judge f level p option ≡ n .judge f level p option
+  pub eligible : (f : Figures) (r : Rates) → m .eligible f r ≡ n .eligible f r
+  pub charge : (f : Figures) (r : Rates) → m .charge f r ≡ n .charge f r
+  pub judge : (f : Figures) (r : Rates) → m .judge f r ≡ n .judge f r
   pub decide : (k : Basis) (xs : List ℕ) → m .decide k xs ≡ n .decide k xs
   pub customer-open : (k : Basis) → m .customerOpen k ≡ n .customerOpen k
   pub customer-day : (c : Customer) (day : List ℕ) → m .customerDay c day ≡ n .customerDay c day

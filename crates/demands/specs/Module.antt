@@ -2,7 +2,6 @@
 -- what is wrong can be said of any, too. `ours` is the one that is proved here: each of our calls promises the definition that stands beside its name
 -- (docs/PROMISES.md).
 use mathlib.Core.Path.{_≡_}
-use mathlib.Core.Bool.{Bool}
 use mathlib.Core.List.{List}
 use Prim.Native.Nat.{ℕ}
 use lib.ListN.{length}
@@ -14,7 +13,7 @@ use Rattle.sheet.specs.declared.Sheet.{Sheet}
 use Rattle.sheet.specs.Answers.{readAnswer, readSheet, writeAnswer, written as sheetWritten}
 use Rattle.grid.specs.declared.Grid.{Grid}
 use Rattle.grid.specs.Answers.{windowsAnswer, windowsBuffer, openAnswer as gridOpens, openGrid, dayAnswer as gridDayAnswer, dayGrid, closeAnswer as gridCloses, closeBuffer}
-use Rattle.tariff.specs.declared.Prices.{Prices}
+use Rattle.tariff.specs.declared.Rates.{Rates}
 use Rattle.tariff.specs.declared.Figures.{Figures}
 use Rattle.tariff.specs.Decision.{eligibleAnswer, chargeAnswer, judgeAnswer}
 use Rattle.customer.specs.declared.Customer.{Customer}
@@ -43,10 +42,10 @@ pub record Module : Type 0 where
   pub gridNext : Grid → List ℕ → Grid
   pub gridClose : Grid → ℕ → Said
   pub gridLaid : Grid → List ℕ → List ℕ
-  -- the rules over figures: level, prices and option as each of them asks for
-  pub eligible : Figures → ℕ → Prices → Said
-  pub charge : Figures → Prices → Bool → Said
-  pub judge : Figures → ℕ → Prices → Bool → Said
+  -- the rules over figures, by the rates that they are judged by
+  pub eligible : Figures → Rates → Said
+  pub charge : Figures → Rates → Said
+  pub judge : Figures → Rates → Said
   -- a customer's whole year; and by days
   pub decide : Basis → List ℕ → Said
   pub customerOpen : Basis → Said

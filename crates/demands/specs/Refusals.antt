@@ -3,7 +3,7 @@
 -- `requires`, and its promise is an equation for every input (docs/PROMISES.md). What is left is a property of the answers, for every input:
 -- what a refusal leaves, what a refused opening hands back, what is never answered, and what each number carries.
 use mathlib.Core.Path.{_≡_}
-use mathlib.Core.Bool.{Bool, cond, _||_}
+use mathlib.Core.Bool.{cond, _||_}
 use mathlib.Core.Logic.{_⊎_}
 use mathlib.Core.List.{List, [], _∷_}
 use Prim.Native.Nat.{ℕ, _+_, _≤_, _<_}
@@ -22,12 +22,12 @@ use Rattle.sheet.specs.Answers.{blank}
 use Rattle.grid.specs.declared.Grid.{Grid}
 use Rattle.grid_curves.specs.Curves.{periodRun}
 use Rattle.grid.specs.Answers.{shut as gridShut}
-use Rattle.tariff.specs.declared.Prices.{Prices}
+use Rattle.tariff.specs.declared.Rates.{Rates}
 use Rattle.tariff.specs.declared.Figures.{Figures}
 use Rattle.tariff.specs.Charges.{general, charge}
 use Rattle.customer.specs.declared.Customer.{Customer}
-use Rattle.customer.specs.Answers.{shut as customerShut, sumMost}
-use Rattle.customer.specs.Demand.{Basis, basisRun, basisDays}
+use Rattle.customer.specs.Answers.{ratesOf, shut as customerShut, sumMost}
+use Rattle.customer.specs.Demand.{Basis, basisRun, basisDays, basisRates}
 use Rattle.demands.specs.Year.{figuresIn}
 use Rattle.demands.specs.Module.{Module, gridAfter, customerAfter, Refused}
 
@@ -89,9 +89,9 @@ withFigures f g others n =
     (others n))
 
 -- the decision over figures. 0: "c, g, M, S, H with its place"
-abbrev pub yearColumn : Figures → Prices → Bool → ℕ → List ℕ
-yearColumn f p option n =
-    withFigures f (general f p) (bare (charge f p option ∷ general f p ∷ f .peak ∷ f .sum ∷ f .high ∷ f .day ∷ f .quarter ∷ [])) n
+abbrev pub yearColumn : Figures → Rates → ℕ → List ℕ
+yearColumn f r n =
+    withFigures f (general f r) (bare (charge f r ∷ general f r ∷ f .peak ∷ f .sum ∷ f .high ∷ f .day ∷ f .quarter ∷ [])) n
 
 -- the answer a carries what a column lists for its number
 pub record Carries (a : Said) (column : ℕ → List ℕ) : Type 0 where
@@ -125,12 +125,12 @@ pub record Carried (m : Module) : Type 0 where
   pub grid-open : (y level : ℕ) → Carries (m .gridOpen y level) (bare [])
   pub grid-day : (g : Grid) (day : List ℕ) → CarriesPlace (m .gridDay g day) (FirstToday gridMost (g .seen) day) (bare [])
   pub grid-close : (g : Grid) (room : ℕ) → Carries (m .gridClose g room) (bare [])
-  pub eligible : (f : Figures) (level : ℕ) (p : Prices) → Carries (m .eligible f level p) (withFigures f (general f p) (bare (1 ∷ [])))
-  pub charge : (f : Figures) (p : Prices) (option : Bool) → Carries (m .charge f p option) (yearColumn f p option)
-  pub judge : (f : Figures) (level : ℕ) (p : Prices) (option : Bool) → Carries (m .judge f level p option) (yearColumn f p option)
+  pub eligible : (f : Figures) (r : Rates) → Carries (m .eligible f r) (withFigures f (general f r) (bare (1 ∷ [])))
+  pub charge : (f : Figures) (r : Rates) → Carries (m .charge f r) (yearColumn f r)
+  pub judge : (f : Figures) (r : Rates) → Carries (m .judge f r) (yearColumn f r)
   pub decide :
       (k : Basis) (xs : List ℕ)
-      → CarriesPlace (m .decide k xs) (FirstIllegalIn (basisRun k) customerMost xs) (yearColumn (figuresIn k xs) (k .prices) (k .option))
+      → CarriesPlace (m .decide k xs) (FirstIllegalIn (basisRun k) customerMost xs) (yearColumn (figuresIn k xs) (basisRates k))
   pub customer-open : (k : Basis) → Carries (m .customerOpen k) (bare [])
   pub customer-day : (c : Customer) (day : List ℕ) → CarriesPlace (m .customerDay c day) (FirstToday customerMost (c .seen) day) (bare [])
-  pub customer-close : (c : Customer) → Carries (m .customerClose c) (yearColumn (c .figures) (c .terms .prices) (c .terms .option))
+  pub customer-close : (c : Customer) → Carries (m .customerClose c) (yearColumn (c .figures) (ratesOf (c .terms)))

@@ -19,7 +19,7 @@ use Rattle.readings.specs.Days.{offered, daysOf}
 use Rattle.sheet.specs.declared.Sheet.{Sheet}
 use Rattle.grid.specs.declared.Grid.{Grid}
 use Rattle.grid_curves.specs.Curves.{periodRun}
-use Rattle.tariff.specs.declared.Prices.{Prices}
+use Rattle.tariff.specs.declared.Rates.{Rates}
 use Rattle.tariff.specs.declared.Figures.{Figures}
 use Rattle.tariff.specs.Answers.{payable}
 use Rattle.figures.specs.Figures.{sumOf}
@@ -38,9 +38,9 @@ pub data RefusesAlways (m : Module) : Type 0 where
   grid-open : ((y level : ℕ) → Refused (m .gridOpen y level)) → RefusesAlways m
   grid-day : ((g : Grid) (day : List ℕ) → Refused (m .gridDay g day)) → RefusesAlways m
   grid-close : ((g : Grid) (buffer : List ℕ) → Refused (m .gridClose g (length buffer))) → RefusesAlways m
-  eligible : ((f : Figures) (level : ℕ) (p : Prices) → Refused (m .eligible f level p)) → RefusesAlways m
-  charge : ((f : Figures) (p : Prices) (option : Bool) → Refused (m .charge f p option)) → RefusesAlways m
-  judge : ((f : Figures) (level : ℕ) (p : Prices) (option : Bool) → Refused (m .judge f level p option)) → RefusesAlways m
+  eligible : ((f : Figures) (r : Rates) → Refused (m .eligible f r)) → RefusesAlways m
+  charge : ((f : Figures) (r : Rates) → Refused (m .charge f r)) → RefusesAlways m
+  judge : ((f : Figures) (r : Rates) → Refused (m .judge f r)) → RefusesAlways m
   decide : ((k : Basis) (xs : List ℕ) → Refused (m .decide k xs)) → RefusesAlways m
   customer-open : ((k : Basis) → Refused (m .customerOpen k)) → RefusesAlways m
   customer-day : ((c : Customer) (day : List ℕ) → Refused (m .customerDay c day)) → RefusesAlways m

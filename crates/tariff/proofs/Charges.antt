@@ -2,13 +2,13 @@
 -- rounded half up, the floor is the least, no charge grows as the capacity figure falls, and the calls give the charges of legal prices.
 -- Assumes nothing.
 use mathlib.Core.Path.{_≡_, sym, ap, ap₂, _∙_}
-use mathlib.Core.Bool.{Bool, true, false}
+use mathlib.Core.Bool.{true, false}
 use Prim.Native.Nat.{ℕ, _+_, _*_, _/_, _%_, _≤_, _<_, max}
 use native.Mathlib.Nat.{mul-le-mul, mul-le-mul-right, add-mul, div-add-mod', mul-assoc, mul-comm}
 use native.Mathlib.Omega.{arith}
 use Rattle.answers.specs.Ruling.{capacityMost, energyMost, floorParts}
 use Rattle.tariff.specs.declared.Row.{Row}
-use Rattle.tariff.specs.declared.Prices.{Prices}
+use Rattle.tariff.specs.declared.Rates.{Rates}
 use Rattle.tariff.specs.declared.Figures.{Figures}
 use Rattle.tariff.specs.Prices.{pricesOut}
 use Rattle.tariff.specs.Charges.{fewHours, centParts, capacityParts, partsFor, chargeFor, general, reduced, floorOf, charge, generalIn, flooredIn}
@@ -59,31 +59,30 @@ charge-mono a b row sum h =
     let m : capacityParts * a * row .capacity ≤ capacityParts * b * row .capacity = mul-le-mul-right (row .capacity) (omega arith) in
     omega arith
 
--- at 2,500 hours and more the option changes nothing
-pub option-idle : (f : Figures) (p : Prices) (option : Bool) → fewHours f ≡ false → charge f p option ≡ charge f p false
-unfolding charge reduced
-option-idle f p option h = simp h
+-- at 2,500 hours and more the option changes nothing: the prices alone fix the charge
+pub option-idle : (f : Figures) (r s : Rates) → r .prices ≡ s .prices → fewHours f ≡ false → charge f r ≡ charge f s
+unfolding charge reduced general
+option-idle f r s p h = simp (p, h)
 
 -- the larger of reduced charge and floor is the charge
-pub charge-of : (f : Figures) (p : Prices) (option : Bool) {r g : ℕ} → r ≡ reduced f p option → g ≡ general f p → max r (floorOf g) ≡ charge f p option
+pub charge-of : (f : Figures) (r : Rates) {own g : ℕ} → own ≡ reduced f r → g ≡ general f r → max own (floorOf g) ≡ charge f r
 unfolding charge
-charge-of f p option a e = ap₂ max a (ap floorOf e)
+charge-of f r a e = ap₂ max a (ap floorOf e)
 
 -- what the calls give: the charges themselves with legal prices, else 0
-module _ (f : Figures) (p : Prices) where
-  pub general-out : pricesOut p ≡ true → 0 ≡ generalIn f p
+module _ (f : Figures) (r : Rates) where
+  pub general-out : pricesOut (r .prices) ≡ true → 0 ≡ generalIn f r
   unfolding generalIn
   general-out q = simp q
 
-  pub general-in : pricesOut p ≡ false → generalIn f p ≡ general f p
+  pub general-in : pricesOut (r .prices) ≡ false → generalIn f r ≡ general f r
   unfolding generalIn
   general-in q = simp q
 
-  module _ (option : Bool) where
-    pub floored-out : pricesOut p ≡ true → 0 ≡ flooredIn f p option
-    unfolding flooredIn
-    floored-out q = simp q
+  pub floored-out : pricesOut (r .prices) ≡ true → 0 ≡ flooredIn f r
+  unfolding flooredIn
+  floored-out q = simp q
 
-    pub floored-in : pricesOut p ≡ false → flooredIn f p option ≡ charge f p option
-    unfolding flooredIn
-    floored-in q = simp q
+  pub floored-in : pricesOut (r .prices) ≡ false → flooredIn f r ≡ charge f r
+  unfolding flooredIn
+  floored-in q = simp q

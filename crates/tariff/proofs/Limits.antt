@@ -3,15 +3,15 @@
 use mathlib.Core.Path.{_≡_}
 use mathlib.Core.Bool.{false}
 use mathlib.Core.Logic.{_↔_}
-use Prim.Native.Nat.{ℕ}
 use borrow.Author.Tests.{le-ltb, ltb-false}
 use Rattle.over.proofs.Bools.{neither}
 use Rattle.answers.specs.Ruling.{levelOut, capacityOut, energyOut}
 use Rattle.answers.proofs.Laws.{level-of}
 use Rattle.tariff.specs.declared.Row.{Row}
 use Rattle.tariff.specs.declared.Prices.{Prices}
+use Rattle.tariff.specs.declared.Rates.{Rates}
 use Rattle.tariff.specs.Prices.{rowOut, pricesOut, LegalRow, LegalPrices}
-use Rattle.tariff.specs.Rows.{Legal}
+use Rattle.tariff.specs.Rows.{LegalRates}
 
 row-legal : (row : Row) → (rowOut row ≡ false) ↔ LegalRow row
 unfolding rowOut
@@ -31,5 +31,5 @@ prices-legal p = (
   λ h. simp (row-legal (p .low) .1 (h .low), row-legal (p .high) .1 (h .high)),
 )
 
-pub legal-in : {level : ℕ} {p : Prices} → Legal level p → (levelOut level ≡ false) × (pricesOut p ≡ false)
-legal-in {level} {p} h = (level-of level .1 (h .legal-level), prices-legal p .1 (h .legal-prices))
+pub legal-in : {r : Rates} → LegalRates r → (levelOut (r .level) ≡ false) × (pricesOut (r .prices) ≡ false)
+legal-in h = (level-of _ .1 (h .legal-level), prices-legal _ .1 (h .legal-prices))

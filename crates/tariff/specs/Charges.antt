@@ -1,4 +1,4 @@
--- Document 01, Customer's year and decision: hours of use, and the charges of a year with the figures f and the price list p. M is
+-- Document 01, Customer's year and decision: hours of use, and the charges of a year with the figures f and the rates r. M is
 -- `f .peak`, S is `f .sum`, H is `f .high`.
 use mathlib.Core.Bool.{Bool, cond, not, _&&_}
 use Prim.Native.Nat.{ℕ, _+_, _-_, _*_, _/_, max}
@@ -6,6 +6,7 @@ use lib.Dec.{ltb}
 use Rattle.answers.specs.Ruling.{rowQuarters, floorParts}
 use Rattle.tariff.specs.declared.Row.{Row}
 use Rattle.tariff.specs.declared.Prices.{Prices}
+use Rattle.tariff.specs.declared.Rates.{Rates}
 use Rattle.tariff.specs.declared.Figures.{Figures}
 use Rattle.tariff.specs.Prices.{pricesOut}
 
@@ -36,25 +37,25 @@ abbrev pub chargeMost : ℕ
 chargeMost = 1000000000000000000
 
 -- "General charge g: P is M, row by hours of use."
-unfoldable pub general : Figures → Prices → ℕ
-general f p = chargeFor (f .peak) (rowOf p (fewHours f)) (f .sum)
+unfoldable pub general : Figures → Rates → ℕ
+general f r = chargeFor (f .peak) (rowOf (r .prices) (fewHours f)) (f .sum)
 
 -- "Reduced charge r: P is H, the same row; with the customer's option and below 2,500 hours, the high row. At 2,500 hours and more
 -- the option changes nothing."
-unfoldable pub reduced : Figures → Prices → Bool → ℕ
-reduced f p option = chargeFor (f .high) (rowOf p (fewHours f && not option)) (f .sum)
+unfoldable pub reduced : Figures → Rates → ℕ
+reduced f r = chargeFor (f .high) (rowOf (r .prices) (fewHours f && not (r .option))) (f .sum)
 
 -- "Floor f: the least whole cent with 5f at least g."
 unfoldable pub floorOf : ℕ → ℕ
 floorOf g = (g + (floorParts - 1)) / floorParts
 
 -- "Charge c: the larger of r and f."
-unfoldable pub charge : Figures → Prices → Bool → ℕ
-charge f p option = max (reduced f p option) (floorOf (general f p))
+unfoldable pub charge : Figures → Rates → ℕ
+charge f r = max (reduced f r) (floorOf (general f r))
 
 -- g and c as the calls give them, for any prices: 0 where a price is above its limit ("6", Numbered answers), for then no charge is named
-unfoldable pub generalIn : Figures → Prices → ℕ
-generalIn f p = cond (pricesOut p) 0 (general f p)
+unfoldable pub generalIn : Figures → Rates → ℕ
+generalIn f r = cond (pricesOut (r .prices)) 0 (general f r)
 
-unfoldable pub flooredIn : Figures → Prices → Bool → ℕ
-flooredIn f p option = cond (pricesOut p) 0 (charge f p option)
+unfoldable pub flooredIn : Figures → Rates → ℕ
+flooredIn f r = cond (pricesOut (r .prices)) 0 (charge f r)

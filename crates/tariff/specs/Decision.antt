@@ -1,11 +1,11 @@
 -- Document 01, Customer's year and decision, and Numbered answers: "level (2), .. 6, .. 8, 9, 10, 11". The decision over a year's figures
--- f, a level, a price list p and the customer's option, in two halves: may the customer have a reduced charge, and what is it.
+-- f and the rates r, in two halves: may the customer have a reduced charge, and what is it.
 use mathlib.Core.Bool.{Bool, true, cond, not}
 use Prim.Native.Nat.{ℕ, _+_, _-_, _*_}
 use lib.Dec.{ltb}
 use Rattle.answers.specs.Ruling.{shareOf, leastMove, leastReduction, levelOut}
 use Rattle.answers.specs.Said.{Said, only, orElse, yesNo}
-use Rattle.tariff.specs.declared.Prices.{Prices}
+use Rattle.tariff.specs.declared.Rates.{Rates}
 use Rattle.tariff.specs.declared.Figures.{Figures}
 use Rattle.tariff.specs.Prices.{pricesOut}
 use Rattle.tariff.specs.Charges.{general, charge}
@@ -24,42 +24,42 @@ abbrev pub wholeShare : ℕ
 wholeShare = 100
 
 -- 9, "share not reached": not "100 (M - H) at least share times M"
-abbrev pub shareShort : Figures → ℕ → Bool
-shareShort f level = ltb (wholeShare * moved f) (shareOf level * f .peak)
+abbrev pub shareShort : Figures → Rates → Bool
+shareShort f r = ltb (wholeShare * moved f) (shareOf (r .level) * f .peak)
 
 -- 10, "less than 100 kW moved": not "M - H at least 100,000 W"
 abbrev pub moveShort : Figures → Bool
 moveShort f = ltb (moved f) leastMove
 
 -- 11, "reduction below 500 euro": not "g at least c + 50,000 cent"
-abbrev pub reductionShort : Figures → Prices → Bool → Bool
-reductionShort f p option = ltb (general f p) (charge f p option + leastReduction)
+abbrev pub reductionShort : Figures → Rates → Bool
+reductionShort f r = ltb (general f r) (charge f r + leastReduction)
 
 -- the first half, for a legal level and legal prices: 8, 9, 10, else 0 with yes
-unfoldable pub eligibleRules : Figures → ℕ → Prices → Said
-eligibleRules f level p =
-    cond (noWindow f) (withPlain (plainOf f (general f p)))
-    (cond (shareShort f level) (withPeaks 9 (peaksOf f (general f p)))
-    (cond (moveShort f) (withPeaks 10 (peaksOf f (general f p)))
+unfoldable pub eligibleRules : Figures → Rates → Said
+eligibleRules f r =
+    cond (noWindow f) (withPlain (plainOf f (general f r)))
+    (cond (shareShort f r) (withPeaks 9 (peaksOf f (general f r)))
+    (cond (moveShort f) (withPeaks 10 (peaksOf f (general f r)))
     (yesNo true)))
 
 -- the second half, for legal prices: 8, 11, else 0 with the charge
-unfoldable pub chargeRules : Figures → Prices → Bool → Said
-chargeRules f p option =
-    cond (noWindow f) (withPlain (plainOf f (general f p)))
-    (cond (reductionShort f p option) (withPeaks 11 (peaksOf f (general f p)))
-    (withCharge (chargedOf f (general f p) (charge f p option))))
+unfoldable pub chargeRules : Figures → Rates → Said
+chargeRules f r =
+    cond (noWindow f) (withPlain (plainOf f (general f r)))
+    (cond (reductionShort f r) (withPeaks 11 (peaksOf f (general f r)))
+    (withCharge (chargedOf f (general f r) (charge f r))))
 
 -- the whole, for a legal level and legal prices: the two halves in a row
-unfoldable pub judgeRules : Figures → ℕ → Prices → Bool → Said
-judgeRules f level p option = orElse (eligibleRules f level p) (chargeRules f p option)
+unfoldable pub judgeRules : Figures → Rates → Said
+judgeRules f r = orElse (eligibleRules f r) (chargeRules f r)
 
 -- for any level and prices: 2 and 6 in front
-unfoldable pub eligibleAnswer : Figures → ℕ → Prices → Said
-eligibleAnswer f level p = cond (levelOut level) (only 2) (cond (pricesOut p) (only 6) (eligibleRules f level p))
+unfoldable pub eligibleAnswer : Figures → Rates → Said
+eligibleAnswer f r = cond (levelOut (r .level)) (only 2) (cond (pricesOut (r .prices)) (only 6) (eligibleRules f r))
 
-unfoldable pub chargeAnswer : Figures → Prices → Bool → Said
-chargeAnswer f p option = cond (pricesOut p) (only 6) (chargeRules f p option)
+unfoldable pub chargeAnswer : Figures → Rates → Said
+chargeAnswer f r = cond (pricesOut (r .prices)) (only 6) (chargeRules f r)
 
-unfoldable pub judgeAnswer : Figures → ℕ → Prices → Bool → Said
-judgeAnswer f level p option = cond (levelOut level) (only 2) (cond (pricesOut p) (only 6) (judgeRules f level p option))
+unfoldable pub judgeAnswer : Figures → Rates → Said
+judgeAnswer f r = cond (levelOut (r .level)) (only 2) (cond (pricesOut (r .prices)) (only 6) (judgeRules f r))

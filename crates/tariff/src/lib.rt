@@ -16,6 +16,15 @@ pub struct Prices {
     pub high: Row,
 }
 
+// What a year's figures are judged by: the charge year, the sheet's level, the customer's option, and the price list. No rule looks at
+// the year yet: it stands here so that a rule that comes with a year finds it.
+pub struct Rates {
+    pub year: u16,
+    pub level: u8,
+    pub option: bool,
+    pub prices: Prices,
+}
+
 // A year's figures: the annual peak M, W; the sum S of all readings; is there an in-window quarter, of which an in-window peak of 0 says
 // nothing; the in-window peak H, W, with the day, from 1, and the quarter, from 0, where it first occurs.
 pub struct Figures {

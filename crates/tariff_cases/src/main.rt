@@ -13,6 +13,7 @@ use libc::STDOUT_FILENO;
 use tariff::Decision;
 use tariff::Figures;
 use tariff::Prices;
+use tariff::Rates;
 use tariff::Row;
 
 fn write_text(text: &[u8]) {
@@ -124,13 +125,19 @@ fn one_set() {
     let level = next_byte();
     let prices = next_prices();
     let option = next_yes();
+    let rates = Rates {
+        year: 2025,
+        level,
+        option,
+        prices,
+    };
     write_prices(charges::prices_out(prices));
     write_text(b"E");
-    write_answer(decision::eligible(figures, level, prices));
+    write_answer(decision::eligible(figures, rates));
     write_text(b"\nC");
-    write_answer(decision::charge(figures, prices, option));
+    write_answer(decision::charge(figures, rates));
     write_text(b"\nJ");
-    write_answer(decision::judge(figures, level, prices, option));
+    write_answer(decision::judge(figures, rates));
     write_text(b"\n");
 }
 

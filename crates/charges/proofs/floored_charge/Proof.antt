@@ -11,17 +11,17 @@ use Rattle.charges.proofs.floored_charge.Statement.{statement}
 use Rattle.charges.proofs.floored_charge.Tie as tie
 
 -- what is known past the test
-prices-at : (e : tie.Else1) → pricesOut (e .before .before .args .prices) ≡ false
+prices-at : (e : tie.Else1) → pricesOut (e .before .before .before .args .rates .prices) ≡ false
 prices-at e = sym (e .before .prices-out .ensures) ∙ e .if1 .left
 
 returns-2 : tie.Need-returns-2
 returns-2 c =
     let e = c .before .before .before in
-    let a = e .before .before .args in
+    let a = e .before .before .before .args in
     let g = c .before .general-charge .ensures .0 ∙ general-in _ _ (prices-at e) in (
       c .with-floor .ensures .0
-          ∙ charge-of (a .figures) (a .prices) (a .option) (c .before .before .reduced-charge .ensures .0) g
-          ∙ sym (floored-in _ _ _ (prices-at e)),
+          ∙ charge-of (a .figures) (a .rates) (c .before .before .reduced-charge .ensures .0) g
+          ∙ sym (floored-in _ _ (prices-at e)),
       c .with-floor .ensures .1,
     )
 
@@ -30,7 +30,7 @@ floored-charge-spec =
     tie.close
     (tie.spec
     (λ c κs. search needs)  -- prices-out-requires
-    (λ c. (floored-out _ _ _ (sym (c .before .prices-out .ensures) ∙ c .if1 .taken), omega arith))  -- returns
+    (λ c. (floored-out _ _ (sym (c .before .prices-out .ensures) ∙ c .if1 .taken), omega arith))  -- returns
     (λ c κs. prices-legal _ .0 (prices-at c))  -- reduced-charge-requires
     (λ c κs. search needs)  -- general-charge-requires
     (λ c κs. search needs)  -- with-floor-requires

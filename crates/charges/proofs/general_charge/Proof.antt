@@ -12,11 +12,15 @@ use Rattle.charges.proofs.general_charge.Statement.{statement}
 use Rattle.charges.proofs.general_charge.Tie as tie
 
 -- what is known past the test
-prices-at : (e : tie.Else1) → pricesOut (e .before .before .args .prices) ≡ false
+prices-at : (e : tie.Else1) → pricesOut (e .before .before .before .args .rates .prices) ≡ false
 prices-at e = sym (e .before .prices-out .ensures) ∙ e .if1 .left
 
 -- past the test, in the row of the hours of use
-general-at : (c : tie.After-charge-for) → let a = c .before .before .before .before .before .args in c .charge-for .result ≡ general (a .figures) (a .prices)
+general-at :
+    (c : tie.After-charge-for)
+    → let past = c .before .before .before in
+    let a = past .before .before .before .args in
+    c .charge-for .result ≡ general (a .figures) (a .rates)
 unfolding general
 general-at c = c .charge-for .ensures .0 ∙ rw (c .before .row-of .ensures .0, c .before .before .few-hours .ensures)
 

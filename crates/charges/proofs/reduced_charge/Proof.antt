@@ -8,7 +8,10 @@ use Rattle.charges.proofs.reduced_charge.Tie as tie
 
 returns : tie.Need-returns
 unfolding reduced
-returns c = (c .charge-for .ensures .0 ∙ rw (c .before .row-of .ensures .0, c .before .before .few-hours .ensures), c .charge-for .ensures .1)
+returns c = (
+  c .charge-for .ensures .0 ∙ rw (c .before .row-of .ensures .0, c .before .before .before .few-hours .ensures),
+  c .charge-for .ensures .1,
+)
 
 pub reduced-charge-spec : {M : Type 1} → statement M
 reduced-charge-spec =

@@ -18,25 +18,27 @@ use Rattle.decision.proofs.eligible.Statement.{statement}
 use Rattle.decision.proofs.eligible.Tie as tie
 
 -- what is known past each test
-level-at : (e : tie.Else1) → levelOut (e .before .before .args .level) ≡ false
+level-at : (e : tie.Else1) → levelOut (e .before .before .args .rates .level) ≡ false
 level-at e = sym (e .before .level-out .ensures) ∙ e .if1 .left
 
-prices-at : (e : tie.Else2) → pricesOut (e .before .before .before .before .args .prices) ≡ false
+prices-at : (e : tie.Else2) → pricesOut (e .before .before .before .before .before .args .rates .prices) ≡ false
 prices-at e = sym (e .before .prices-out .ensures) ∙ e .if2 .left
 
 general-at :
     (c : tie.After-general-charge)
-    → let a = c .before .before .before .before .before .args in
-    c .general-charge .result ≡ general (a .figures) (a .prices)
+    → let past = c .before .before .before in
+    let a = past .before .before .before .args in
+    c .general-charge .result ≡ general (a .figures) (a .rates)
 general-at c = c .general-charge .ensures .0 ∙ general-in _ _ (prices-at (c .before))
 
-some-at : (e : tie.Else3) → e .before .before .before .before .before .before .before .args .figures .any ≡ true
+some-at : (e : tie.Else3) → let past = e .before .before .before in past .before .before .before .before .before .args .figures .any ≡ true
 some-at e = not-false _ (e .if3 .left)
 
 share-at :
     (e : tie.Else4)
-    → let a = e .before .before .before .before .before .before .before .before .before .args in
-    shareOf (a .level) * a .figures .peak ≤ wholeShare * moved (a .figures)
+    → let past = e .before .before .before .before .before in
+    let a = past .before .before .before .before .before .args in
+    shareOf (a .rates .level) * a .figures .peak ≤ wholeShare * moved (a .figures)
 share-at e = ltb-false _ _ (sym (e .before .share-short .ensures) ∙ e .if4 .left)
 
 returns-3 : tie.Need-returns-3
@@ -44,14 +46,14 @@ returns-3 c =
     let g = c .before .before .before in
     let p = g .before in
     ap withPlain (c .plain-of .ensures)
-    ∙ eligible-none _ _ _ (level-at (p .before .before)) (prices-at p) (general-at g) (not-true _ (c .before .if3 .taken))
+    ∙ eligible-none _ _ (level-at (p .before .before .before)) (prices-at p) (general-at g) (not-true _ (c .before .if3 .taken))
 
 returns-4 : tie.Need-returns-4
 returns-4 c =
     let s = c .before .before .before in
     let p = s .before .before .before in
     ap (withPeaks 9) (c .peaks-of .ensures)
-    ∙ eligible-share _ _ _ (level-at (p .before .before)) (prices-at p) (general-at (s .before .before)) (some-at s)
+    ∙ eligible-share _ _ (level-at (p .before .before .before)) (prices-at p) (general-at (s .before .before)) (some-at s)
     (ltb-true _ _ (sym (c .before .before .share-short .ensures) ∙ c .before .if4 .taken))
 
 returns-5 : tie.Need-returns-5
@@ -60,27 +62,27 @@ returns-5 c =
     let s = h .before .before in
     let p = s .before .before .before in
     ap (withPeaks 10) (c .peaks-of2 .ensures)
-    ∙ eligible-move _ _ _ (level-at (p .before .before)) (prices-at p) (general-at (s .before .before)) (some-at s) (share-at h) (omega arith)
+    ∙ eligible-move _ _ (level-at (p .before .before .before)) (prices-at p) (general-at (s .before .before)) (some-at s) (share-at h) (omega arith)
 
 returns-6 : tie.Need-returns-6
 returns-6 c =
     let h = c .before .before in
     let s = h .before .before in
     let p = s .before .before .before in
-    eligible-yes _ _ _ (level-at (p .before .before)) (prices-at p) (general-at (s .before .before)) (some-at s) (share-at h) (omega arith)
+    eligible-yes _ _ (level-at (p .before .before .before)) (prices-at p) (general-at (s .before .before)) (some-at s) (share-at h) (omega arith)
 
 pub eligible-spec : {M : Type 1} → statement M
 eligible-spec =
     tie.close
     (tie.spec
     (λ c κs. search needs)  -- level-out-requires
-    (λ c. eligible-level _ _ _ (sym (c .before .level-out .ensures) ∙ c .if1 .taken))  -- returns
+    (λ c. eligible-level _ _ (sym (c .before .level-out .ensures) ∙ c .if1 .taken))  -- returns
     (λ c κs. search needs)  -- prices-out-requires
-    (λ c. eligible-prices _ _ _ (level-at (c .before .before)) (sym (c .before .prices-out .ensures) ∙ c .if2 .taken))  -- returns-2
+    (λ c. eligible-prices _ _ (level-at (c .before .before .before)) (sym (c .before .prices-out .ensures) ∙ c .if2 .taken))  -- returns-2
     (λ c κs. search needs)  -- general-charge-requires
     (λ c κs. search needs)  -- plain-of-requires
     returns-3
-    (λ c κs. level-of _ .0 (level-at (c .before .before .before .before .before)))  -- share-short-requires
+    (λ c κs. let p = c .before .before .before in level-of _ .0 (level-at (p .before .before .before)))  -- share-short-requires
     (λ c κs. search needs)  -- peaks-of-requires
     returns-4
     (λ c κs. search needs)  -- moved-out-requires

@@ -22,14 +22,14 @@ returns c =
     let e = c .before .before .before in
     let a = e .before .args in
     let z = number-is (sym (e .eligible .ensures) ∙ ap saidOf (c .before .enum-told .given .1)) in
-    judge-second (a .figures) (a .level) (a .prices) (a .option) z (c .charge .ensures)
+    judge-second (a .figures) (a .rates) z (c .charge .ensures)
 
 returns-2 : tie.Need-returns-2
 returns-2 c =
     let a = c .before .before .args in
     let e = c .before .eligible .ensures in
-    judge-first (a .figures) (a .level) (a .prices) (a .option) e (λ z.
-    let same : c .before .eligible .result ≡ Eligible = decision-only e (eligible-zero _ _ _ (sym (number-is e) ∙ z)) in
+    judge-first (a .figures) (a .rates) e (λ z.
+    let same : c .before .eligible .result ≡ Eligible = decision-only e (eligible-zero _ _ (sym (number-is e) ∙ z)) in
     miss others 1 tt (rw same at (c .match .keys2)))
 
 pub judge-spec : {M : Type 1} → statement M
