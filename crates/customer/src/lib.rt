@@ -6,10 +6,10 @@ ghost use Prim.Native.Nat.{_≤_, _<_};
 ghost use lib.ListN.{length};
 ghost use Rattle.answers.specs.Said.{orElse};
 ghost use Rattle.dates.specs.Dates.{yearDays};
+ghost use Rattle.readings.specs.declared.Run.the-variants.{Year};
 ghost use Rattle.readings.specs.Runs.{dayLen, runReadings};
 ghost use Rattle.sheet.specs.Answers.{saidOfSheet};
 ghost use Rattle.tariff.specs.Answers.{saidOf};
-ghost use Rattle.day_figures.specs.Counts.{yearRun};
 ghost use Rattle.customer.specs.Answers.{termsOf, listsAnswer, openAnswer, opened, shut, openCustomer, sumMost, dayUnder, dayAnswer, taken, dayCustomer, closeAnswer, figuresUnder, wholeAnswer, decideAnswer};
 use answers::Place;
 use day_figures::YearFigures;
@@ -109,10 +109,7 @@ pub fn decide(
         return Decision::WrongLength;
     };
     if CUSTOMER_MOST < figures.peak {
-        let run = Run {
-            year,
-            period: false,
-        };
+        let run = Run::Year(year);
         return Decision::BadReading(legal::first_illegal(run, series, CUSTOMER_MOST));
     }
     let list = opened.customer.terms.prices;
@@ -135,10 +132,7 @@ fn day_answer(year: u16, seen: u16, sum: u64, day: &[u32]) -> Decision
     if dates::year_days(year) <= seen {
         return Decision::DayOut;
     }
-    let run = Run {
-        year,
-        period: false,
-    };
+    let run = Run::Year(year);
     if day.len() != readings::day_len(run, seen) {
         return Decision::WrongLength;
     }
@@ -219,7 +213,7 @@ impl Customer {
 
     // A legal day is taken in.
     fn add(self, day: &[u32]) -> Customer
-        requires { ⌜ (self .seen < yearDays (self .terms .year)) × (length (now day) ≡ dayLen (yearRun (self .terms .year)) (self .seen)) × (self .figures .sum ≤ sumMost (self .seen)) ⌝ }
+        requires { ⌜ (self .seen < yearDays (self .terms .year)) × (length (now day) ≡ dayLen (Year (self .terms .year)) (self .seen)) × (self .figures .sum ≤ sumMost (self .seen)) ⌝ }
         ensures { λ r. ⌜ r ≡ taken self (now (day .entry)) ⌝ }
     {
         let terms = self.terms;

@@ -9,13 +9,13 @@ use lib.ListN.{length}
 use Rattle.answers.specs.Ruling.{customerMost}
 use Rattle.answers.specs.Said.{Said, only, badPlace}
 use Rattle.answers.specs.declared.Place.{Place}
+use Rattle.readings.specs.declared.Run.the-variants.{Year}
 use Rattle.readings.specs.Runs.{runDays, dayLen}
 use Rattle.readings.specs.Legal.{firstAbove}
 use Rattle.readings.specs.Days.{nextAnswer}
 use Rattle.tariff.specs.declared.Decision.{Decision}
 use Rattle.tariff.specs.declared.Decision.the-variants.{Accepted, Eligible, Taken, YearOut, LevelOut, BadHolidays, WrongLength, BadReading, PriceOut, NoWindow, ShareShort, MoveShort, ReductionShort, Malformed, DayOut}
 use Rattle.tariff.specs.Answers.{saidOf}
-use Rattle.day_figures.specs.Counts.{yearRun}
 use Rattle.customer.specs.declared.Customer.{Customer}
 use Rattle.customer.specs.Answers.{overfull, dayAnswer, dayCustomer}
 use Rattle.fields.specs.declared.Stage.the-variants as Stage
@@ -40,7 +40,7 @@ module _ (P : Said → Type 0) (thirteen : P (only 13)) (four : P (only 4)) (fiv
   pub day-cases : (c : Customer) (day : List ℕ) → P (dayAnswer c day)
   unfolding dayAnswer nextAnswer
   day-cases c day =
-      let run = yearRun (c .terms .year) in
+      let run = Year (c .terms .year) in
       let first = firstAbove customerMost day in
       by-tests (overfull c) (leb (runDays run) (c .seen)) (not (eqb (length day) (dayLen run (c .seen)))) (ltb first (length day))
       (record { day = c .seen + 1; position = first })

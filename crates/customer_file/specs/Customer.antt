@@ -4,7 +4,7 @@ use mathlib.Core.List.{List}
 use Prim.Native.Nat.{ℕ}
 use Rattle.answers.specs.Ruling.{customerMost}
 use Rattle.answers.specs.Said.{Said}
-use Rattle.day_figures.specs.Counts.{yearRun}
+use Rattle.readings.specs.declared.Run.the-variants.{Year}
 use Rattle.customer.specs.Answers.{decideAnswer}
 use Rattle.fields.specs.Layout.{headSize}
 use Rattle.fields.specs.Series.{seriesIn}
@@ -14,6 +14,6 @@ use Rattle.customer_head.specs.Header.{sheetPart, customerYear, optionOf, holid
 -- what a customer file is answered: its header, then its days, then what the decision over its whole series is
 unfoldable pub customerAnswer : List ℕ → Said
 customerAnswer b =
-    fileAnswer (customerLayout b) (yearRun (customerYear b)) customerMost
+    fileAnswer (customerLayout b) (Year (customerYear b)) customerMost
     (decideAnswer (sheetPart b) (holidaysOf b) (pricesOf b) (optionOf b) (seriesIn b (headSize (customerLayout b))))
     b

@@ -7,8 +7,8 @@ use lib.Dec.{ltb}
 use lib.ListN.{replicate}
 use Rattle.answers.specs.Said.{Said}
 use Rattle.dates.specs.Dates.{yearDays}
+use Rattle.readings.specs.declared.Run.the-variants.{Year}
 use Rattle.customer.specs.declared.Customer.{Customer}
-use Rattle.day_figures.specs.Counts.{yearRun}
 use Rattle.customer.specs.Answers.{shut, dayAnswer, dayCustomer, closeAnswer}
 use Rattle.fields.specs.declared.Stage.{Stage}
 use Rattle.fields.specs.declared.Stage.the-variants.{Going}
@@ -40,7 +40,7 @@ customerReader =
       head = λ s. s .head;
       stage = λ s. s .stage;
       layout = customerLayout;
-      run = λ s. yearRun (s .customer .terms .year);
+      run = λ s. Year (s .customer .terms .year);
       days = λ s. yearDays (s .customer .terms .year);
       ended = customerEnded;
       headed = λ s head. customerHead (s .customer) (s .field + 1) head;

@@ -22,6 +22,7 @@ use Rattle.answers.specs.Ruling.{dayQuarters}
 use Rattle.dates.specs.Dates.{seasonOf}
 use Rattle.dates.proofs.Seasons.{season-range}
 use Rattle.readings.specs.declared.Run.{Run}
+use Rattle.readings.specs.declared.Run.the-variants.{Year}
 use Rattle.readings.specs.Legal.{highestOf}
 use Rattle.readings.specs.Runs.{dayLen, quarterOf}
 use Rattle.readings.proofs.Runs.{quarter-in}
@@ -29,7 +30,7 @@ use Rattle.sheet.specs.Windows.{places, placeOf}
 use Rattle.sheet.proofs.Windows.{set-at}
 use Rattle.tariff.specs.declared.Figures.{Figures}
 use Rattle.day_figures.specs.declared.Tops.{Tops}
-use Rattle.day_figures.specs.Counts.{yearRun, setOn, countsOn}
+use Rattle.day_figures.specs.Counts.{setOn, countsOn}
 use Rattle.day_figures.specs.Day.{alone}
 use Rattle.day_figures.specs.Within.{topsOf, someSet, allOnes, masksOf, maskedHigh, plainly}
 use Rattle.figures.specs.Figures.{anyOn, highOn, quarterOn, DayRecord, recordOf, better, takenIn}
@@ -41,36 +42,36 @@ mask-leaves false v l = and-zero-r v
 
 -- the windows of the day's season begin at `base`
 module _ (y : ℕ) (ws : List Bool) (d : ℕ) {base : ℕ} (e : base ≡ placeOf (seasonOf y (d + 1)) 0) where
-  module _ (p : ℕ) (l : p < dayLen (yearRun y) d) where
-    pub place-fits : base + quarterOf (yearRun y) d p < places
-    place-fits = omega (arith, season-range y (d + 1), quarter-in (yearRun y) d p l)
+  module _ (p : ℕ) (l : p < dayLen (Year y) d) where
+    pub place-fits : base + quarterOf (Year y) d p < places
+    place-fits = omega (arith, season-range y (d + 1), quarter-in (Year y) d p l)
 
-    pub set-on : {q : ℕ} → q ≡ quarterOf (yearRun y) d p → getD ws (base + q) false ≡ setOn y ws d p
+    pub set-on : {q : ℕ} → q ≡ quarterOf (Year y) d p → getD ws (base + q) false ≡ setOn y ws d p
     unfolding setOn
     set-on {q} f =
-        let at : base + q ≡ placeOf (seasonOf y (d + 1)) (quarterOf (yearRun y) d p) = omega arith in
-        ap (λ (k : ℕ). getD ws k false) at ∙ set-at ws (seasonOf y (d + 1)) (quarterOf (yearRun y) d p) (season-range y (d + 1)) (quarter-in (yearRun y) d p l)
+        let at : base + q ≡ placeOf (seasonOf y (d + 1)) (quarterOf (Year y) d p) = omega arith in
+        ap (λ (k : ℕ). getD ws k false) at ∙ set-at ws (seasonOf y (d + 1)) (quarterOf (Year y) d p) (season-range y (d + 1)) (quarter-in (Year y) d p l)
 
-    masked-is : (v : ℕ) → v ≤ allOnes → bitAnd v (getD (masksOf ws base) (quarterOf (yearRun y) d p) 0) ≡ counted (setOn y ws d p) v
+    masked-is : (v : ℕ) → v ≤ allOnes → bitAnd v (getD (masksOf ws base) (quarterOf (Year y) d p) 0) ≡ counted (setOn y ws d p) v
     unfolding masksOf
     masked-is v s =
-        let q = quarterOf (yearRun y) d p in
-        ap (bitAnd v) (getD-table (λ k. counted (getD ws (base + k) false) allOnes) dayQuarters q 0 (quarter-in (yearRun y) d p l))
+        let q = quarterOf (Year y) d p in
+        ap (bitAnd v) (getD-table (λ k. counted (getD ws (base + k) false) allOnes) dayQuarters q 0 (quarter-in (Year y) d p l))
         ∙ mask-leaves (getD ws (base + q) false) v s ∙ ap (λ (b : Bool). counted b v) (set-on refl)
 
     -- without set quarters in the season, or on a day that carries none, no position counts
     silent : (c : Bool) → (c && someSet ws base) ≡ false → countsOn y c ws d p ≡ false
     unfolding someSet
     silent false h = refl
-    silent true h = sym (set-on refl) ∙ all-passed (λ q. getD ws (base + q) false) dayQuarters h .fails (quarterOf (yearRun y) d p) (quarter-in (yearRun y) d p l)
+    silent true h = sym (set-on refl) ∙ all-passed (λ q. getD ws (base + q) false) dayQuarters h .fails (quarterOf (Year y) d p) (quarter-in (Year y) d p l)
 
-  pub counts-none : (c : Bool) → (c && someSet ws base) ≡ false → anyOver (countsOn y c ws d) (dayLen (yearRun y) d) ≡ false
+  pub counts-none : (c : Bool) → (c && someSet ws base) ≡ false → anyOver (countsOn y c ws d) (dayLen (Year y) d) ≡ false
   counts-none c h = any-fails _ _ (λ p l. silent p l c h)
 
   -- what the masks leave of a day's readings is what is in a window
   pub masked-in :
       (day : List ℕ) {masks : List ℕ}
-      → length day ≡ dayLen (yearRun y) d
+      → length day ≡ dayLen (Year y) d
       → ((k : ℕ) → alone day k ≤ allOnes)
       → masks ≡ masksOf ws base
       → maskedHigh masks y d day ≡ largestIn (setOn y ws d) (alone day) (length day)

@@ -6,11 +6,11 @@ use lib.Bits.{bitAnd}
 use lib.ListN.{length, getD}
 use Rattle.over.specs.Over.{largestOver, sumOver, anyOver, counted, table}
 use Rattle.answers.specs.Ruling.{dayQuarters}
+use Rattle.readings.specs.declared.Run.the-variants.{Year}
 use Rattle.readings.specs.Legal.{highestOf}
 use Rattle.readings.specs.Runs.{quarterOf}
 use Rattle.tariff.specs.declared.Figures.{Figures}
 use Rattle.day_figures.specs.declared.Tops.{Tops}
-use Rattle.day_figures.specs.Counts.{yearRun}
 use Rattle.day_figures.specs.Day.{alone}
 
 -- four readings below this fit 32 bits together
@@ -33,7 +33,7 @@ masksOf windows base = table (λ q. counted (getD windows (base + q) false) allO
 
 -- the highest of what the masks leave of day d's readings
 unfoldable pub maskedHigh : List ℕ → ℕ → ℕ → List ℕ → ℕ
-maskedHigh masks y d day = largestOver (λ p. bitAnd (alone day p) (getD masks (quarterOf (yearRun y) d p) 0)) (length day)
+maskedHigh masks y d day = largestOver (λ p. bitAnd (alone day p) (getD masks (quarterOf (Year y) d p) 0)) (length day)
 
 -- the figures with a day taken in whose in-window peak, if it has one, does not count
 abbrev pub plainly : Figures → Tops → Figures

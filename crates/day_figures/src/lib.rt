@@ -11,11 +11,12 @@ ghost use lib.ListN.{length};
 ghost use Rattle.over.specs.Over.{firstOver, counted, sumOver};
 ghost use Rattle.answers.specs.Ruling.{dayQuarters};
 ghost use Rattle.dates.specs.Dates.{mostDays, yearDays, seasonOf};
+ghost use Rattle.readings.specs.declared.Run.the-variants.{Year};
 ghost use Rattle.readings.specs.Runs.{dayLen, dayStart, runReadings};
 ghost use Rattle.readings.specs.Legal.{highestOf};
 ghost use Rattle.sheet.specs.Windows.{places, placeOf};
 ghost use Rattle.figures.specs.Figures.{noFigures, recordOf, takenIn};
-ghost use Rattle.day_figures.specs.Counts.{yearRun, setOn, countsOn};
+ghost use Rattle.day_figures.specs.Counts.{setOn, countsOn};
 ghost use Rattle.day_figures.specs.Day.{alone, dayMost, sumEnd, dayTaken};
 ghost use Rattle.day_figures.specs.Year.{figuresIn, yearFigures};
 ghost use Rattle.day_figures.specs.Within.{fourEnd, allOnes, someSet, masksOf, maskedHigh, topsOf, plainly};
@@ -159,13 +160,10 @@ fn masked(reading: u32, mask: u32) -> u32
 
 // The highest reading of day d that the masks leave.
 fn masked_high(masks: &[u32; 96], year: u16, d: u16, day: &[u32]) -> u32
-    requires { ⌜ length (now day) ≡ dayLen (yearRun year) d ⌝ }
+    requires { ⌜ length (now day) ≡ dayLen (Year year) d ⌝ }
     ensures { λ r. ⌜ r ≡ maskedHigh (now (masks .entry)) year d (now (day .entry)) ⌝ }
 {
-    let run = Run {
-        year,
-        period: false,
-    };
+    let run = Run::Year(year);
     let mut high = 0;
     for p in 0..day.len() {
         high = legal::larger(high, masked(day[p], masks[readings::quarter_of(run, d, p)]));
@@ -182,13 +180,10 @@ fn first_in(
     day: &[u32],
     high: u32,
 ) -> usize
-    requires { ⌜ (base ≡ placeOf (seasonOf year (d + 1)) 0) × (length (now day) ≡ dayLen (yearRun year) d) ⌝ }
+    requires { ⌜ (base ≡ placeOf (seasonOf year (d + 1)) 0) × (length (now day) ≡ dayLen (Year year) d) ⌝ }
     ensures { λ r. ⌜ r ≡ firstOver (λ (p : ℕ). setOn year (now (windows .entry)) d p && eqb (alone (now (day .entry)) p) high) (length (now (day .entry))) ⌝ }
 {
-    let run = Run {
-        year,
-        period: false,
-    };
+    let run = Run::Year(year);
     for p in 0..day.len() {
         if windows[base + readings::quarter_of(run, d, p)] & (day[p] == high) {
             return p;
@@ -231,8 +226,8 @@ fn take_masked(
     masks: &[u32; 96],
     day: &[u32],
 ) -> Figures
-    requires { ⌜ (length (now day) ≡ dayLen (yearRun year) d) × (d < mostDays) × (f .sum + dayMost < sumEnd) × (base ≡ placeOf (seasonOf year (d + 1)) 0) × (now masks ≡ masksOf (now windows) base) × (next ≡ plainly f (topsOf (now day))) × (next .sum ≤ f .sum + dayMost) ⌝ }
-    ensures { λ r. ⌜ (r ≡ takenIn f (d + 1) (recordOf (yearRun year) (setOn year (now (windows .entry))) d (alone (now (day .entry))))) × (r .sum ≤ f .sum + dayMost) ⌝ }
+    requires { ⌜ (length (now day) ≡ dayLen (Year year) d) × (d < mostDays) × (f .sum + dayMost < sumEnd) × (base ≡ placeOf (seasonOf year (d + 1)) 0) × (now masks ≡ masksOf (now windows) base) × (next ≡ plainly f (topsOf (now day))) × (next .sum ≤ f .sum + dayMost) ⌝ }
+    ensures { λ r. ⌜ (r ≡ takenIn f (d + 1) (recordOf (Year year) (setOn year (now (windows .entry))) d (alone (now (day .entry))))) × (r .sum ≤ f .sum + dayMost) ⌝ }
 {
     let high = masked_high(masks, year, d, day);
     if f.any & (high <= f.high) {
@@ -242,10 +237,7 @@ fn take_masked(
     if day.len() <= position {
         return next;
     }
-    let run = Run {
-        year,
-        period: false,
-    };
+    let run = Run::Year(year);
     Figures {
         peak: next.peak,
         sum: next.sum,
@@ -271,8 +263,8 @@ fn take_fit(
     masks: &[u32; 96],
     day: &[u32],
 ) -> Figures
-    requires { ⌜ (length (now day) ≡ dayLen (yearRun year) d) × (d < mostDays) × (f .sum + dayMost < sumEnd) × (base ≡ placeOf (seasonOf year (d + 1)) 0) × (now masks ≡ masksOf (now windows) base) × (some ≡ someSet (now windows) base) × (next ≡ plainly f (topsOf (now day))) × (next .sum ≤ f .sum + dayMost) ⌝ }
-    ensures { λ r. ⌜ (r ≡ takenIn f (d + 1) (recordOf (yearRun year) (countsOn year carries (now (windows .entry))) d (alone (now (day .entry))))) × (r .sum ≤ f .sum + dayMost) ⌝ }
+    requires { ⌜ (length (now day) ≡ dayLen (Year year) d) × (d < mostDays) × (f .sum + dayMost < sumEnd) × (base ≡ placeOf (seasonOf year (d + 1)) 0) × (now masks ≡ masksOf (now windows) base) × (some ≡ someSet (now windows) base) × (next ≡ plainly f (topsOf (now day))) × (next .sum ≤ f .sum + dayMost) ⌝ }
+    ensures { λ r. ⌜ (r ≡ takenIn f (d + 1) (recordOf (Year year) (countsOn year carries (now (windows .entry))) d (alone (now (day .entry))))) × (r .sum ≤ f .sum + dayMost) ⌝ }
 {
     if carries & some {
         return take_masked(f, next, year, d, windows, base, masks, day);
@@ -292,10 +284,7 @@ pub fn take_day(
 ) -> Figures
     ensures { λ r. ⌜ (r ≡ dayTaken f year d carries (now (windows .entry)) (now (day .entry))) × (r .sum ≤ f .sum + dayMost) ⌝ }
 {
-    let run = Run {
-        year,
-        period: false,
-    };
+    let run = Run::Year(year);
     if day.len() != readings::day_len(run, d) {
         return f;
     }
@@ -322,8 +311,8 @@ fn take_month(
     windows: &[bool; sheet::PLACES],
     series: &[u32],
 ) -> Reach
-    requires { ⌜ (length (now series) ≡ runReadings (yearRun year)) × (from < yearDays year) × (start ≡ dayStart (yearRun year) from) × (f ≡ figuresIn year (now carrying) (now windows) (now series) from) × (f .sum ≤ dayMost * from) ⌝ }
-    ensures { λ r. ⌜ (from < r .d) × (r .d ≤ yearDays year) × (r .at ≡ dayStart (yearRun year) (r .d)) × (r .figures ≡ figuresIn year (now (carrying .entry)) (now (windows .entry)) (now (series .entry)) (r .d)) × (r .figures .sum ≤ dayMost * (r .d)) ⌝ }
+    requires { ⌜ (length (now series) ≡ runReadings (Year year)) × (from < yearDays year) × (start ≡ dayStart (Year year) from) × (f ≡ figuresIn year (now carrying) (now windows) (now series) from) × (f .sum ≤ dayMost * from) ⌝ }
+    ensures { λ r. ⌜ (from < r .d) × (r .d ≤ yearDays year) × (r .at ≡ dayStart (Year year) (r .d)) × (r .figures ≡ figuresIn year (now (carrying .entry)) (now (windows .entry)) (now (series .entry)) (r .d)) × (r .figures .sum ≤ dayMost * (r .d)) ⌝ }
 {
     let base = base_of(year, from);
     let some = some_set(windows, base);
@@ -332,10 +321,7 @@ fn take_month(
     let mut figures = f;
     let mut at = start;
     for d in from..end {
-        let run = Run {
-            year,
-            period: false,
-        };
+        let run = Run::Year(year);
         let next = at + readings::day_len(run, d);
         let carries = carrying[d as usize];
         let day = &series[at..next];
@@ -370,10 +356,7 @@ pub fn year_figures<'a>(
 ) -> YearFigures
     ensures { λ r. ⌜ r ≡ yearFigures year (now (carrying .entry)) (now (windows .entry)) (now (series .entry)) ⌝ }
 {
-    let run = Run {
-        year,
-        period: false,
-    };
+    let run = Run::Year(year);
     if series.len() != readings::run_readings(run) {
         return YearFigures::WrongLength;
     }

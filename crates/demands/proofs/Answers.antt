@@ -16,6 +16,7 @@ use Rattle.answers.specs.Ruling.{dayQuarters, gridMost}
 use Rattle.answers.specs.Said.{Said, only, orElse}
 use Rattle.periods.specs.Period.{periodDays}
 use Rattle.calendar.proofs.Answers.{exactly}
+use Rattle.readings.specs.declared.Run.the-variants.{Period}
 use Rattle.readings.specs.Legal.{highestOf}
 use Rattle.readings.specs.Days.{seriesAnswer}
 use Rattle.readings.proofs.Days.{next-exactly}
@@ -28,7 +29,7 @@ use Rattle.sheet.proofs.Exactly.{read-exactly, write-exactly}
 use Rattle.sheet.proofs.Back.{buffer-read}
 use Rattle.windows.specs.Chosen.{kept, curveOf, curvesOf}
 use Rattle.windows.proofs.Forty.{chosen-at}
-use Rattle.grid_curves.specs.Curves.{periodRun, curveAt, flatCurves}
+use Rattle.grid_curves.specs.Curves.{curveAt, flatCurves}
 use Rattle.grid.specs.Answers.{openAnswer, sheetOf, finishAnswer, finished, windowsAnswer, windowsBuffer}
 use Rattle.grid.specs.Rows.{periodPeak}
 use Rattle.grid_curves.proofs.Curves.{peak-curves}
@@ -109,7 +110,7 @@ module _ (y level : ℕ) (xs buffer : List ℕ) (z : windowsAnswer y level xs (l
   finish-is =
       let a = otherwise (ltb (length buffer) sheetSize) 14 _ (omega arith) z in
       let b = second (openAnswer y level) _ (sym (number-is a) ∙ z) in
-      let c = second (seriesAnswer (periodRun y) gridMost xs) _ (sym (number-is (a ∙ b)) ∙ z) in
+      let c = second (seriesAnswer (Period y) gridMost xs) _ (sym (number-is (a ∙ b)) ∙ z) in
       a ∙ b ∙ c
 
   write-is : finishAnswer y level flat (length buffer) ≡ writeAnswer laid (length buffer)

@@ -19,6 +19,7 @@ use Rattle.holidays.specs.Holidays.{badHolidays}
 use Rattle.calendar.specs.Free.{carries}
 use Rattle.calendar.specs.Answer.{dayOut, dayAnswer}
 use Rattle.readings.specs.declared.Run.{Run}
+use Rattle.readings.specs.declared.Run.the-variants.{Year, Period}
 use Rattle.readings.specs.Runs.{runDays, dayLen, runReadings}
 use Rattle.readings.specs.Legal.{highestOf, firstAbove, badAt, badDay, firstIllegal}
 use Rattle.readings.specs.Illegal.{SomeIllegalIn, FirstIllegalIn}
@@ -40,7 +41,6 @@ use Rattle.grid.specs.Answers.{windowsAnswer, openAnswer as gridOpens, closeAns
 use Rattle.grid.specs.Rows.{WindowsRow}
 use Rattle.grid.specs.Rows.WindowsRow.{five}
 use Rattle.grid.specs.declared.Grid.{Grid}
-use Rattle.grid_curves.specs.Curves.{periodRun}
 use Rattle.grid.proofs.Exactly.{windows-exactly}
 use Rattle.tariff.specs.declared.Prices.{Prices}
 use Rattle.tariff.specs.declared.Rates.{Rates}
@@ -48,7 +48,6 @@ use Rattle.tariff.specs.declared.Figures.{Figures}
 use Rattle.tariff.specs.Prices.{pricesOut}
 use Rattle.tariff.specs.Charges.{general, charge}
 use Rattle.tariff.specs.Decision.{noWindow, shareShort, moveShort, reductionShort, eligibleRules, chargeRules, judgeRules, eligibleAnswer, chargeAnswer, judgeAnswer}
-use Rattle.day_figures.specs.Counts.{yearRun}
 use Rattle.customer.specs.Answers.{termsOf, ratesOf, wholeAnswer, decideAnswer, openAnswer as customerOpens, overfull, dayAnswer as customerDay, closeAnswer as customerCloses}
 use Rattle.customer.specs.declared.Customer.{Customer}
 use Rattle.customer.specs.Rows.{CustomerOpenRow, CustomerDayRow, SeriesRow, DecideRow}
@@ -169,14 +168,14 @@ series-listed run limit xs others none =
     (choice (Refusing column) (ltb 0 (firstIllegal run limit xs .day)) (λ r. leaf refl)
     (λ r. absurd (r refl)))
 
-windows-listed : (y level : ℕ) (xs : List ℕ) (room : ℕ) → Carries (windowsAnswer y level xs room) (withPlace (firstIllegal (periodRun y) gridMost xs) (bare []))
+windows-listed : (y level : ℕ) (xs : List ℕ) (room : ℕ) → Carries (windowsAnswer y level xs room) (withPlace (firstIllegal (Period y) gridMost xs) (bare []))
 unfolding windowsAnswer
 windows-listed y level xs room =
-    let place = firstIllegal (periodRun y) gridMost xs in
+    let place = firstIllegal (Period y) gridMost xs in
     let column = withPlace place (bare []) in
     either (ltb room sheetSize) (leaf refl)
     (behind (gridOpens y level) (λ r. grid-opens column (before place (bare [])) y level)
-    (behind (seriesAnswer (periodRun y) gridMost xs) (series-listed (periodRun y) gridMost xs (bare []) refl)
+    (behind (seriesAnswer (Period y) gridMost xs) (series-listed (Period y) gridMost xs (bare []) refl)
     (finishes column (before place (bare [])) y level _ room)))
 
 -- the decision over figures, under any column that lists what the year's does, but for 5
@@ -235,7 +234,7 @@ decides k xs =
 
 customer-days : (c : Customer) (day : List ℕ) → Carries (customerDay c day) (withPlace (record { day = c .seen + 1; position = firstAbove customerMost day }) (bare []))
 unfolding customerDay
-customer-days c day = either (overfull c) (leaf refl) (next-listed (yearRun (c .terms .year)) customerMost (c .seen) day)
+customer-days c day = either (overfull c) (leaf refl) (next-listed (Year (c .terms .year)) customerMost (c .seen) day)
 
 customer-closes : (c : Customer) → Carries (customerCloses c) (yearColumn (c .figures) (ratesOf (c .terms)))
 unfolding customerCloses
@@ -279,11 +278,11 @@ found-in run limit xs s =
       first = first-illegal-in run limit xs v;
     }
 
-windows-place : (y level : ℕ) (xs buffer : List ℕ) → windowsAnswer y level xs (length buffer) .number ≡ 5 → Found (firstIllegal (periodRun y) gridMost xs) (FirstIllegalIn (periodRun y) gridMost xs)
+windows-place : (y level : ℕ) (xs buffer : List ℕ) → windowsAnswer y level xs (length buffer) .number ≡ 5 → Found (firstIllegal (Period y) gridMost xs) (FirstIllegalIn (Period y) gridMost xs)
 windows-place y level xs buffer e = go (windows-exactly y level xs buffer 5 .0 e)
   where
-    go : WindowsRow y level xs (length buffer) 5 → Found (firstIllegal (periodRun y) gridMost xs) (FirstIllegalIn (periodRun y) gridMost xs)
-    go (five c v) = found-in (periodRun y) gridMost xs v
+    go : WindowsRow y level xs (length buffer) 5 → Found (firstIllegal (Period y) gridMost xs) (FirstIllegalIn (Period y) gridMost xs)
+    go (five c v) = found-in (Period y) gridMost xs v
 
 -- reading a sheet and opening are never answered 5
 read-five : {b : List ℕ} {n : ℕ} → ReadRow b n → n ≡ 5 → ⊥
@@ -324,7 +323,7 @@ customer-today c day e = go (customer-day-exactly c day 5 .0 e) refl
   where
     go : {n : ℕ} → CustomerDayRow c day n → n ≡ 5 → Found (record { day = c .seen + 1; position = firstAbove customerMost day }) (FirstToday customerMost (c .seen) day)
     go (over o) e = absurd (omega arith)
-    go (next l r) e = found-today (yearRun (c .terms .year)) customerMost (c .seen) day r e
+    go (next l r) e = found-today (Year (c .terms .year)) customerMost (c .seen) day r e
 
 pub carried : Carried ours
 carried =
@@ -334,7 +333,7 @@ carried =
       write = writes (bare []) (λ n e. refl);
       windows = λ y level xs buffer. placed (windows-listed y level xs (length buffer)) (windows-place y level xs buffer);
       grid-open = grid-opens (bare []) (λ n e. refl);
-      grid-day = λ g day. placed (next-listed (periodRun (g .year)) gridMost (g .seen) day) (λ e. found-today (periodRun (g .year)) gridMost (g .seen) day (next-exactly (periodRun (g .year)) gridMost (g .seen) day 5 .0 e) refl);
+      grid-day = λ g day. placed (next-listed (Period (g .year)) gridMost (g .seen) day) (λ e. found-today (Period (g .year)) gridMost (g .seen) day (next-exactly (Period (g .year)) gridMost (g .seen) day 5 .0 e) refl);
       grid-close = grid-closes (bare []) (λ n e. refl);
       eligible = eligible-listed;
       charge = charged;

@@ -10,6 +10,7 @@ use Rattle.over.specs.Limits.{Within}
 use Rattle.answers.specs.Ruling.{gridMost, customerMost, missing}
 use Rattle.periods.specs.Period.{periodDays}
 use Rattle.readings.specs.declared.Run.{Run}
+use Rattle.readings.specs.declared.Run.the-variants.{Year, Period}
 use Rattle.readings.specs.Runs.{dayLen, reading}
 use Rattle.readings.specs.Rows.{NextRow}
 use Rattle.readings.specs.Rows.NextRow.{thirteen, four, five, zero}
@@ -17,11 +18,9 @@ use Rattle.readings.proofs.Runs.{period-run, year-run}
 use Rattle.readings.proofs.Legal.{reading-le}
 use Rattle.readings.proofs.Days.{next-exactly}
 use Rattle.sheet.specs.Bytes.{sheetIn}
-use Rattle.grid_curves.specs.Curves.{periodRun}
 use Rattle.grid.specs.Rows.{WindowsRow}
 use Rattle.grid.specs.Rows.WindowsRow.{seven, zero}
 use Rattle.grid.proofs.Exactly.{windows-exactly}
-use Rattle.day_figures.specs.Counts.{yearRun}
 use Rattle.customer.specs.declared.Customer.{Customer}
 use Rattle.customer.specs.Answers.{termsOf}
 use Rattle.customer.specs.Rows.{CustomerOpenRow, CustomerDayRow, SeriesRow, DecideRow}
@@ -37,12 +36,12 @@ use Rattle.demands.specs.Module.{ours}
 use Rattle.demands.specs.Answers.{NeverLegal}
 
 -- windows
-module _ (y level : ℕ) (xs buffer : List ℕ) (d p : ℕ) (l : d < periodDays y) (h : p < dayLen (periodRun y) d) (e : reading (periodRun y) xs d p ≡ missing) where
+module _ (y level : ℕ) (xs buffer : List ℕ) (d p : ℕ) (l : d < periodDays y) (h : p < dayLen (Period y) d) (e : reading (Period y) xs d p ≡ missing) where
   not-done : WindowsRow y level xs (length buffer) 0 → ⊥
   not-done (zero c low m) = omega (arith, e, low d p (omega (arith, period-run y)) h)
 
   not-none : WindowsRow y level xs (length buffer) 7 → ⊥
-  not-none (seven c z) = omega (arith, e, z, reading-le (periodRun y) xs (periodDays y) d p l h)
+  not-none (seven c z) = omega (arith, e, z, reading-le (Period y) xs (periodDays y) d p l h)
 
 -- a day
 next-taken : (run : Run) (limit n : ℕ) (day : List ℕ) (p : ℕ) → limit < missing → p < length day → getD day p 0 ≡ missing → {k : ℕ} → NextRow run limit n day k → k ≡ 0 → ⊥
@@ -53,7 +52,7 @@ next-taken run limit n day p b l e (zero c v) z = omega (arith, e, v p l)
 
 customer-taken : (c : Customer) (day : List ℕ) (p : ℕ) → p < length day → getD day p 0 ≡ missing → {k : ℕ} → CustomerDayRow c day k → k ≡ 0 → ⊥
 customer-taken c day p l e (over o) z = omega arith
-customer-taken c day p l e (next s r) z = next-taken (yearRun (c .terms .year)) customerMost (c .seen) day p (omega arith) l e r z
+customer-taken c day p l e (next s r) z = next-taken (Year (c .terms .year)) customerMost (c .seen) day p (omega arith) l e r z
 
 -- a year: what the opening refuses is another number, and the series is not legal
 abbrev Decided : ℕ → Type 0
@@ -92,7 +91,7 @@ never-legal =
           ⊎-elim (λ z. not-done y level xs buffer d p l h e (windows-exactly y level xs buffer 0 .0 z))
           (λ z. not-none y level xs buffer d p l h e (windows-exactly y level xs buffer 7 .0 z));
       grid-day = λ g day p l e z.
-          next-taken (periodRun (g .year)) gridMost (g .seen) day p (omega arith) l e (next-exactly (periodRun (g .year)) gridMost (g .seen) day 0 .0 z) refl;
+          next-taken (Period (g .year)) gridMost (g .seen) day p (omega arith) l e (next-exactly (Period (g .year)) gridMost (g .seen) day 0 .0 z) refl;
       customer = λ k xs d p l h e. decide-other k xs d p l h e (decide-exactly (k .sheet) (k .holidays) (k .prices) (k .option) xs _ .0 refl);
       customer-day = λ c day p l e z. customer-taken c day p l e (customer-day-exactly c day 0 .0 z) refl;
     }

@@ -13,6 +13,7 @@ use Rattle.dates.specs.Dates.{leap, leapDay}
 use Rattle.holidays.specs.Holidays.{badHolidays}
 use Rattle.calendar.specs.Answer.{dayOut, dayAnswer}
 use Rattle.readings.specs.declared.Run.{Run}
+use Rattle.readings.specs.declared.Run.the-variants.{Period}
 use Rattle.readings.specs.Runs.{runDays}
 use Rattle.readings.specs.Illegal.{LegalSeries}
 use Rattle.readings.specs.Days.{offered, daysOf, AsWhole}
@@ -25,7 +26,6 @@ use Rattle.sheet.specs.Rows.{ReadRow, WriteRow}
 use Rattle.sheet.specs.Rows.ReadRow.{malformed, one, two, full, zero}
 use Rattle.sheet.specs.Rows.WriteRow.{zero}
 use Rattle.grid.specs.declared.Grid.{Grid}
-use Rattle.grid_curves.specs.Curves.{periodRun}
 use Rattle.grid.specs.Answers.{openAnswer as gridOpens}
 use Rattle.tariff.specs.Answers.{payable}
 use Rattle.tariff.specs.Rows.{EligibleRow, ChargeRow, JudgeRow}
@@ -85,7 +85,7 @@ unfolding gridOpens yearOut levelOut
 opened-6 = refl
 
 abbrev period : Run
-period = periodRun 2025
+period = Period 2025
 
 same-legal : LegalSeries period gridMost same
 same-legal =

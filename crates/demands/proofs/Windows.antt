@@ -16,11 +16,12 @@ use Rattle.over.proofs.Bools.{both, pair}
 use Rattle.over.proofs.Largest.{largest-le}
 use Rattle.over.proofs.Tests.{count-cong}
 use Rattle.periods.specs.Period.{periodDays}
+use Rattle.readings.specs.declared.Run.the-variants.{Period}
 use Rattle.readings.specs.Runs.{dayLen, quarterOf, reading}
 use Rattle.readings.specs.Legal.{dayPeak, peakOf}
 use Rattle.readings.proofs.Legal.{reading-le}
 use Rattle.windows.specs.Chosen.{aboveLine, comesBefore, rank, kept}
-use Rattle.grid_curves.specs.Curves.{periodRun, inSeason, topOf, curveAt}
+use Rattle.grid_curves.specs.Curves.{inSeason, topOf, curveAt}
 use Rattle.grid.specs.Rows.{periodPeak}
 use Rattle.grid_curves.proofs.Curves.{in-curve}
 use Rattle.demands.specs.Windows.{NoneAboveIn, IsPeak, IsCurve, ahead, Kept}
@@ -35,8 +36,8 @@ module _ (y : ℕ) (xs : List ℕ) where
   unfolding peakOf dayPeak
   peak-plain =
       record {
-        bound = λ d p l h. reading-le (periodRun y) xs (periodDays y) d p l h;
-        least = λ b none. largest-le (dayPeak (periodRun y) xs) (periodDays y) b (λ d l. largest-le (reading (periodRun y) xs d) (dayLen (periodRun y) d) b (λ p h. none d p l h));
+        bound = λ d p l h. reading-le (Period y) xs (periodDays y) d p l h;
+        least = λ b none. largest-le (dayPeak (Period y) xs) (periodDays y) b (λ d l. largest-le (reading (Period y) xs d) (dayLen (Period y) d) b (λ p h. none d p l h));
       }
 
   abbrev curve : ℕ → ℕ → ℕ
@@ -47,8 +48,8 @@ module _ (y : ℕ) (xs : List ℕ) where
   curve-least s q b none =
       largest-le _ (periodDays y) b (λ d l.
       counted-low (inSeason y d s) (λ e.
-      largest-le _ (dayLen (periodRun y) d) b (λ p h.
-      counted-low (eqb (quarterOf (periodRun y) d p) q) (λ f. none d p l h (eqb-true _ _ e) (eqb-true _ _ f)))))
+      largest-le _ (dayLen (Period y) d) b (λ p h.
+      counted-low (eqb (quarterOf (Period y) d p) q) (λ f. none d p l h (eqb-true _ _ e) (eqb-true _ _ f)))))
 
   pub curve-plain : (s : ℕ) → IsCurve y xs s (curve s)
   curve-plain s =

@@ -12,6 +12,7 @@ use Rattle.answers.specs.Ruling.{gridMost, customerMost}
 use Rattle.answers.specs.Said.{Said, only}
 use Rattle.periods.proofs.Periods.{period-days}
 use Rattle.readings.specs.declared.Run.{Run}
+use Rattle.readings.specs.declared.Run.the-variants.{Period}
 use Rattle.readings.specs.Runs.{runDays, dayLen, dayStart, reading}
 use Rattle.readings.specs.Part.{dayPart}
 use Rattle.readings.specs.Days.{daysOf, AsWhole}
@@ -19,7 +20,6 @@ use Rattle.readings.proofs.Runs.{len-some, run-held, period-run, year-run}
 use Rattle.readings.proofs.Part.{length-part, part-at}
 use Rattle.readings.proofs.Given.{days-more}
 use Rattle.sheet.specs.Bytes.{sheetSize}
-use Rattle.grid_curves.specs.Curves.{periodRun}
 use Rattle.grid.specs.Rows.{OpenRow, Complete, periodPeak}
 use Rattle.grid.specs.Rows.OpenRow.{one, two, zero}
 use Rattle.grid.specs.Rows.WindowsRow.{seven, zero}
@@ -46,7 +46,7 @@ module _ (m : Module) (d : Demands m) where
   -- the grid, in any year and at any level
   module _ (y level : ℕ) (o : m .gridOpen y level ≡ only 0) where
     abbrev period : Run
-    period = periodRun y
+    period = Period y
 
     many : 1 < runDays period
     many = omega (arith, period-run y, period-days y _ _ refl refl)

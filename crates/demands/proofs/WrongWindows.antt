@@ -19,6 +19,7 @@ use Rattle.over.proofs.Tests.{count-fails}
 use Rattle.answers.specs.Ruling.{Level, gridMost, dayQuarters, lineParts, peakParts, windowsMost}
 use Rattle.dates.specs.Dates.{leap, leapDay, daysTo, monthOf, seasonOf}
 use Rattle.periods.specs.Period.{periodDays, periodDate, periodSeason}
+use Rattle.readings.specs.declared.Run.the-variants.{Period}
 use Rattle.readings.specs.Runs.{runDays, dayLen, quarterOf, runReadings, reading}
 use Rattle.readings.specs.Illegal.{AllLegalIn}
 use Rattle.readings.proofs.Runs.{len-some, quarter-is, period-run}
@@ -26,7 +27,7 @@ use Rattle.readings.proofs.Illegal.{all-legal-in}
 use Rattle.sheet.specs.Windows.{isSet}
 use Rattle.sheet.specs.Bytes.{sheetSize}
 use Rattle.windows.specs.Chosen.{aboveLine, comesBefore, rank, kept}
-use Rattle.grid_curves.specs.Curves.{periodRun, inSeason, topOf, curveAt}
+use Rattle.grid_curves.specs.Curves.{inSeason, topOf, curveAt}
 use Rattle.grid.specs.Rows.{periodPeak}
 use Rattle.grid.specs.Rows.WindowsRow.{zero}
 use Rattle.grid_curves.proofs.Curves.{curve-le, in-curve}
@@ -44,7 +45,7 @@ pub days-2025 : periodDays 2025 ≡ 366
 unfolding periodDays daysTo leapDay leap sumOver joined
 days-2025 = refl
 
-pub some-2025 : 0 < runDays (periodRun 2025)
+pub some-2025 : 0 < runDays (Period 2025)
 some-2025 = omega (arith, period-run 2025, days-2025)
 
 abbrev pub blankBuffer : List ℕ
@@ -52,16 +53,16 @@ blankBuffer = replicate sheetSize 0
 
 -- the same reading everywhere, and one reading at the very start, 1 September
 abbrev pub same : List ℕ
-same = everywhere (periodRun 2025) 1
+same = everywhere (Period 2025) 1
 
 pub same-peak : periodPeak 2025 same ≡ 1
-same-peak = rw (← period-run 2025) (everywhere-peak (periodRun 2025) 1 some-2025)
+same-peak = rw (← period-run 2025) (everywhere-peak (Period 2025) 1 some-2025)
 
 abbrev first : List ℕ
-first = atStart (periodRun 2025) 1
+first = atStart (Period 2025) 1
 
 first-peak : periodPeak 2025 first ≡ 1
-first-peak = rw (← period-run 2025) (start-peak (periodRun 2025) 1 some-2025)
+first-peak = rw (← period-run 2025) (start-peak (Period 2025) 1 some-2025)
 
 -- quarter 0 is kept where it has the peak, and a quarter with curve value 0 never is
 kept-top : (peak : ℕ) (curve : List ℕ) → 0 < peak → getD curve 0 0 ≡ peak → ((p : ℕ) → p < dayQuarters → getD curve p 0 ≤ peak) → kept peak curve 0 ≡ true
@@ -102,9 +103,9 @@ same-low q l = omega (arith, value-is same q l, curve-le 2025 same (periodDays 2
 same-top : getD (summerCurve same) 0 0 ≡ 1
 same-top =
     let d : 365 < periodDays 2025 = omega (arith, days-2025) in
-    let r = everywhere-at (periodRun 2025) 1 365 0 (omega (arith, period-run 2025)) (len-some (periodRun 2025) 365) in
-    let c = in-curve 2025 same (periodDays 2025) 365 0 d (len-some (periodRun 2025) 365) in
-    omega (arith, same-low 0 (omega arith), value-is same 0 (omega arith), rw (last-season, ← quarter-is (periodRun 2025) 365 0) at c)
+    let r = everywhere-at (Period 2025) 1 365 0 (omega (arith, period-run 2025)) (len-some (Period 2025) 365) in
+    let c = in-curve 2025 same (periodDays 2025) 365 0 d (len-some (Period 2025) 365) in
+    omega (arith, same-low 0 (omega arith), value-is same 0 (omega arith), rw (last-season, ← quarter-is (Period 2025) 365 0) at c)
 
 same-kept : kept (periodPeak 2025 same) (summerCurve same) 0 ≡ true
 same-kept = rw same-peak (kept-top 1 (summerCurve same) (omega arith) same-top same-low)
@@ -117,10 +118,10 @@ first-zero : curveAt 2025 first (periodDays 2025) 3 0 ≤ 0
 unfolding curveAt topOf
 first-zero = largest-le _ (periodDays 2025) 0 (λ d l. go d (decLt 0 d))
   where
-    go : (d : ℕ) → Dec (0 < d) → counted (inSeason 2025 d 3) (largestOver (λ p. counted (eqb (quarterOf (periodRun 2025) d p) 0) (reading (periodRun 2025) first d p)) (dayLen (periodRun 2025) d)) ≤ 0
+    go : (d : ℕ) → Dec (0 < d) → counted (inSeason 2025 d 3) (largestOver (λ p. counted (eqb (quarterOf (Period 2025) d p) 0) (reading (Period 2025) first d p)) (dayLen (Period 2025) d)) ≤ 0
     go d (yes l) =
         counted-low (inSeason 2025 d 3)
-        (largest-le _ (dayLen (periodRun 2025) d) 0 (λ p m. counted-low (eqb (quarterOf (periodRun 2025) d p) 0) (omega (arith, start-later (periodRun 2025) 1 d p l))))
+        (largest-le _ (dayLen (Period 2025) d) 0 (λ p m. counted-low (eqb (quarterOf (Period 2025) d p) 0) (omega (arith, start-later (Period 2025) 1 d p l))))
     go d (no l) =
         let e : d ≡ 0 = omega arith in
         rw (e, first-season) (omega arith)
@@ -131,9 +132,9 @@ first-kept = kept-none (periodPeak 2025 first) (summerCurve first) 0 (omega (ari
 -- any module that meets the demands
 module _ (m : Module) (d : Demands m) (level : ℕ) (l : Level level) where
   -- it accepts a complete series of 2025 with a peak of 1
-  module _ (xs : List ℕ) (long : length xs ≡ runReadings (periodRun 2025)) (peak : periodPeak 2025 xs ≡ 1) where
-    low : AllLegalIn (periodRun 2025) gridMost xs
-    low = all-legal-in (periodRun 2025) gridMost xs .0 (rw (period-run 2025) (omega (arith, peak)))
+  module _ (xs : List ℕ) (long : length xs ≡ runReadings (Period 2025)) (peak : periodPeak 2025 xs ≡ 1) where
+    low : AllLegalIn (Period 2025) gridMost xs
+    low = all-legal-in (Period 2025) gridMost xs .0 (rw (period-run 2025) (omega (arith, peak)))
 
     accepted : m .windows 2025 level xs (length blankBuffer) .number ≡ 0
     accepted =
@@ -144,16 +145,16 @@ module _ (m : Module) (d : Demands m) (level : ℕ) (l : Level level) where
     laid = d .to-the-quarter-hour 2025 level xs blankBuffer accepted
 
   pub same-accepted : m .windows 2025 level same (length blankBuffer) .number ≡ 0
-  same-accepted = accepted same (everywhere-long (periodRun 2025) 1) same-peak
+  same-accepted = accepted same (everywhere-long (Period 2025) 1) same-peak
 
   pub same-laid : SheetLaid m 2025 level same blankBuffer
-  same-laid = laid same (everywhere-long (periodRun 2025) 1) same-peak
+  same-laid = laid same (everywhere-long (Period 2025) 1) same-peak
 
   first-accepted : m .windows 2025 level first (length blankBuffer) .number ≡ 0
-  first-accepted = accepted first (start-long (periodRun 2025) 1 some-2025) first-peak
+  first-accepted = accepted first (start-long (Period 2025) 1 some-2025) first-peak
 
   first-laid : SheetLaid m 2025 level first blankBuffer
-  first-laid = laid first (start-long (periodRun 2025) 1 some-2025) first-peak
+  first-laid = laid first (start-long (Period 2025) 1 some-2025) first-peak
 
   -- the buffer of zeros does not stay: "H" stands at its start
   pub not-blank : m .windowsLaid 2025 level same blankBuffer ≡ blankBuffer → ⊥

@@ -13,6 +13,7 @@ use Rattle.answers.specs.Said.{only, badPlace}
 use Rattle.dates.specs.Dates.{seasonOf}
 use Rattle.periods.specs.Period.{periodDays}
 use Rattle.calendar.specs.Answer.{DayRow}
+use Rattle.readings.specs.declared.Run.the-variants.{Period}
 use Rattle.readings.specs.Runs.{dayLen, quarterOf, reading}
 use Rattle.readings.specs.Days.{BadThere, AsWhole}
 use Rattle.readings.specs.Rows.{NextRow}
@@ -21,7 +22,6 @@ use Rattle.sheet.specs.Windows.{seasons, isSet}
 use Rattle.sheet.specs.Bytes.{sheetSize}
 use Rattle.sheet.specs.Rows.{ReadRow, WriteRow}
 use Rattle.grid.specs.declared.Grid.{Grid}
-use Rattle.grid_curves.specs.Curves.{periodRun}
 use Rattle.grid.specs.Rows.{OpenRow, CloseRow, WindowsRow}
 use Rattle.tariff.specs.declared.Rates.{Rates}
 use Rattle.tariff.specs.declared.Figures.{Figures}
@@ -48,7 +48,7 @@ pub record ExactlyWhen (m : Module) : Type 0 where
       → (m .windows y level xs (length buffer) .number ≡ n) ↔ WindowsRow y level xs (length buffer) n
   -- 0, 1, 2; 0, 4, 5, 13; 0, 7, 13, 14, and 1 or 2 only on a state that no opening handed back
   pub grid-open : (y level n : ℕ) → (m .gridOpen y level .number ≡ n) ↔ OpenRow y level n
-  pub grid-day : (g : Grid) (day : List ℕ) (n : ℕ) → (m .gridDay g day .number ≡ n) ↔ NextRow (periodRun (g .year)) gridMost (g .seen) day n
+  pub grid-day : (g : Grid) (day : List ℕ) (n : ℕ) → (m .gridDay g day .number ≡ n) ↔ NextRow (Period (g .year)) gridMost (g .seen) day n
   pub grid-close : (g : Grid) (buffer : List ℕ) (n : ℕ) → (m .gridClose g (length buffer) .number ≡ n) ↔ CloseRow g (length buffer) n
   -- 0, 2, 6, 8, 9, 10; 0, 6, 8, 11; 0, 2, 6, 8, 9, 10, 11
   pub eligible : (f : Figures) (r : Rates) (n : ℕ) → (m .eligible f r .number ≡ n) ↔ EligibleRow f r n
@@ -69,8 +69,8 @@ pub record NeverLegal (m : Module) : Type 0 where
   pub grid :
       (y level : ℕ) (xs buffer : List ℕ) (d p : ℕ)
       → d < periodDays y
-      → p < dayLen (periodRun y) d
-      → reading (periodRun y) xs d p ≡ missing
+      → p < dayLen (Period y) d
+      → reading (Period y) xs d p ≡ missing
       → (m .windows y level xs (length buffer) .number ≡ 0) ⊎ (m .windows y level xs (length buffer) .number ≡ 7)
       → ⊥
   pub grid-day : (g : Grid) (day : List ℕ) (p : ℕ) → p < length day → getD day p 0 ≡ missing → m .gridDay g day .number ≡ 0 → ⊥
@@ -148,7 +148,7 @@ pub record DaysAsWhole (m : Module) : Type 0 where
   pub grid :
       (y level : ℕ) (buffer : List ℕ)
       → m .gridOpen y level ≡ only 0
-      → AsWhole (periodRun y) gridMost (m .gridDay) (m .gridNext) (m .gridOpened y level) (gridEnd m buffer) (gridWhole m y level buffer)
+      → AsWhole (Period y) gridMost (m .gridDay) (m .gridNext) (m .gridOpened y level) (gridEnd m buffer) (gridWhole m y level buffer)
   pub customer :
       (k : Basis)
       → m .customerOpen k ≡ only 0

@@ -14,13 +14,13 @@ use Rattle.answers.specs.Ruling.{gridMost, customerMost}
 use Rattle.answers.specs.Said.{Said, only}
 use Rattle.periods.specs.Period.{periodDays}
 use Rattle.calendar.specs.Free.{carries}
+use Rattle.readings.specs.declared.Run.the-variants.{Period}
 use Rattle.readings.specs.Illegal.{FirstIllegal, FirstIllegalIn}
 use Rattle.readings.specs.Days.{takenDays}
 use Rattle.sheet.specs.declared.Sheet.{Sheet}
 use Rattle.sheet.specs.Bytes.{sheetSize}
 use Rattle.sheet.specs.Answers.{blank}
 use Rattle.grid.specs.declared.Grid.{Grid}
-use Rattle.grid_curves.specs.Curves.{periodRun}
 use Rattle.grid.specs.Answers.{shut as gridShut}
 use Rattle.tariff.specs.declared.Rates.{Rates}
 use Rattle.tariff.specs.declared.Figures.{Figures}
@@ -121,7 +121,7 @@ pub record Carried (m : Module) : Type 0 where
   pub write : (s : Sheet) (room : ℕ) → Carries (m .write s room) (bare [])
   pub windows :
       (y level : ℕ) (xs buffer : List ℕ)
-      → CarriesPlace (m .windows y level xs (length buffer)) (FirstIllegalIn (periodRun y) gridMost xs) (bare [])
+      → CarriesPlace (m .windows y level xs (length buffer)) (FirstIllegalIn (Period y) gridMost xs) (bare [])
   pub grid-open : (y level : ℕ) → Carries (m .gridOpen y level) (bare [])
   pub grid-day : (g : Grid) (day : List ℕ) → CarriesPlace (m .gridDay g day) (FirstToday gridMost (g .seen) day) (bare [])
   pub grid-close : (g : Grid) (room : ℕ) → Carries (m .gridClose g room) (bare [])

@@ -7,22 +7,22 @@ use Prim.Native.Nat.{ℕ, _+_, _*_, _≤_, _<_}
 use lib.Dec.{ltb, eqb}
 use Rattle.over.specs.Over.{countOver}
 use Rattle.periods.specs.Period.{periodDays, periodSeason}
+use Rattle.readings.specs.declared.Run.the-variants.{Period}
 use Rattle.readings.specs.Runs.{dayLen, quarterOf, reading}
-use Rattle.grid_curves.specs.Curves.{periodRun}
 
 module _ (y : ℕ) (xs : List ℕ) where
   -- no reading of the period is above b; none in quarter q of the days of season s is
   abbrev pub NoneAbove : ℕ → Type 0
-  NoneAbove b = (d p : ℕ) → d < periodDays y → p < dayLen (periodRun y) d → reading (periodRun y) xs d p ≤ b
+  NoneAbove b = (d p : ℕ) → d < periodDays y → p < dayLen (Period y) d → reading (Period y) xs d p ≤ b
 
   abbrev pub NoneAboveIn : ℕ → ℕ → ℕ → Type 0
   NoneAboveIn s q b =
       (d p : ℕ)
       → d < periodDays y
-      → p < dayLen (periodRun y) d
+      → p < dayLen (Period y) d
       → periodSeason y (d + 1) ≡ s
-      → quarterOf (periodRun y) d p ≡ q
-      → reading (periodRun y) xs d p ≤ b
+      → quarterOf (Period y) d p ≡ q
+      → reading (Period y) xs d p ≤ b
 
   -- the peak, and the curve of season s: the least numbers of that kind, so the highest readings
   pub record IsPeak (peak : ℕ) : Type 0 where

@@ -12,13 +12,13 @@ use Rattle.over.specs.Over.{sumOver}
 use Rattle.answers.specs.Ruling.{gridMost, customerMost}
 use Rattle.answers.specs.Said.{Said, only}
 use Rattle.readings.specs.declared.Run.{Run}
+use Rattle.readings.specs.declared.Run.the-variants.{Period}
 use Rattle.readings.specs.Runs.{runDays}
 use Rattle.readings.specs.Illegal.{LegalSeries}
 use Rattle.readings.specs.Part.{dayPart}
 use Rattle.readings.specs.Days.{offered, daysOf}
 use Rattle.sheet.specs.declared.Sheet.{Sheet}
 use Rattle.grid.specs.declared.Grid.{Grid}
-use Rattle.grid_curves.specs.Curves.{periodRun}
 use Rattle.tariff.specs.declared.Rates.{Rates}
 use Rattle.tariff.specs.declared.Figures.{Figures}
 use Rattle.tariff.specs.Answers.{payable}
@@ -116,7 +116,7 @@ pub record ShutOut : Type 0 where
       (m : Module) (y level : ℕ)
       → Demands m
       → m .gridOpen y level ≡ only 0
-      → WrongDays (periodRun y) gridMost (m .gridNext) (m .gridOpened y level)
+      → WrongDays (Period y) gridMost (m .gridNext) (m .gridOpened y level)
       → ⊥
   pub wrong-customer-days :
       (m : Module) (k : Basis)

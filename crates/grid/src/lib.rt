@@ -4,10 +4,10 @@
 ghost use mathlib.Core.Path.{_≡_};
 ghost use lib.ListN.{length};
 ghost use Rattle.answers.specs.Ruling.{gridMost};
+ghost use Rattle.readings.specs.declared.Run.the-variants.{Period};
 ghost use Rattle.readings.specs.Legal.{highestOf};
 ghost use Rattle.readings.specs.Days.{nextAnswer};
 ghost use Rattle.sheet.specs.Answers.{saidOfSheet};
-ghost use Rattle.grid_curves.specs.Curves.{periodRun};
 ghost use Rattle.grid.specs.Answers.{saidOfGrid, finishAnswer, finished, windowsAnswer, windowsBuffer, openAnswer, openGrid, shut, dayAnswer, dayGrid, dayCurves, closeAnswer, closeBuffer};
 use answers::Place;
 use readings::Run;
@@ -85,7 +85,7 @@ pub fn windows(year: u16, level: u8, series: &[u32], out: &mut [u8]) -> GridAnsw
     if answers::level_out(level) {
         return GridAnswer::LevelOut;
     }
-    let run = Run { year, period: true };
+    let run = Run::Period(year);
     if series.len() != readings::run_readings(run) {
         return GridAnswer::WrongLength;
     }
@@ -99,12 +99,12 @@ pub fn windows(year: u16, level: u8, series: &[u32], out: &mut [u8]) -> GridAnsw
 
 // What a day is answered where so many days are taken: 13, then 4, then 5.
 fn day_answer(year: u16, seen: u16, day: &[u32]) -> GridAnswer
-    ensures { λ r. ⌜ saidOfGrid r ≡ nextAnswer (periodRun year) gridMost seen (now (day .entry)) ⌝ }
+    ensures { λ r. ⌜ saidOfGrid r ≡ nextAnswer (Period year) gridMost seen (now (day .entry)) ⌝ }
 {
     if periods::period_days(year) <= seen {
         return GridAnswer::DayOut;
     }
-    if day.len() != readings::day_len(Run { year, period: true }, seen) {
+    if day.len() != readings::day_len(Run::Period(year), seen) {
         return GridAnswer::WrongLength;
     }
     let first = legal::first_above(day, answers::GRID_MOST);
@@ -120,7 +120,7 @@ fn day_answer(year: u16, seen: u16, day: &[u32]) -> GridAnswer
 // One day more, laid over lent curves where so many days are taken: for a host that keeps the curves itself. Refuses 13, 4, 5 in this
 // order, and then changes no value.
 pub fn take_day(curves: &mut [u32; 384], year: u16, seen: u16, day: &[u32]) -> GridAnswer
-    ensures { λ r. ⌜ (saidOfGrid r ≡ nextAnswer (periodRun year) gridMost seen (now (day .entry))) × (now (curves .exit) ≡ dayCurves year (now (curves .entry)) seen (now (day .entry))) ⌝ }
+    ensures { λ r. ⌜ (saidOfGrid r ≡ nextAnswer (Period year) gridMost seen (now (day .entry))) × (now (curves .exit) ≡ dayCurves year (now (curves .entry)) seen (now (day .entry))) ⌝ }
 {
     let answer = day_answer(year, seen, day);
     let GridAnswer::Done = answer else {

@@ -16,10 +16,11 @@ use Rattle.over.proofs.Largest.{largest-none, largest-more, largest-add, larges
 use Rattle.over.proofs.Tables.{is-table, getD-table, table-cong}
 use Rattle.answers.specs.Ruling.{dayQuarters}
 use Rattle.periods.specs.Period.{periodSeason}
+use Rattle.readings.specs.declared.Run.the-variants.{Period}
 use Rattle.readings.specs.Runs.{dayLen, dayStart, quarterOf, reading}
 use Rattle.readings.proofs.Runs.{len-is, quarter-is, start-formula}
 use Rattle.sheet.specs.Windows.{places}
-use Rattle.grid_curves.specs.Curves.{periodRun, inSeason, topOf, curveAt, flatCurves}
+use Rattle.grid_curves.specs.Curves.{inSeason, topOf, curveAt, flatCurves}
 use Rattle.grid_curves.specs.Four.{fourDays, fourTop, overlaid}
 use Rattle.grid_curves.proofs.Curves.{curves-long}
 
@@ -94,25 +95,25 @@ pub top-plain : (y d : ℕ) (f : ℕ → ℕ) (s q : ℕ) → q < dayQuarters �
 unfolding topOf
 top-plain y d f s q l =
     ap (counted (inSeason y d s))
-    (le-antisymm (largest-le g n (f q) (λ p m. up p (ℕ-discrete (quarterOf (periodRun y) d p) q))) (omega (arith, down, one)))
+    (le-antisymm (largest-le g n (f q) (λ p m. up p (ℕ-discrete (quarterOf (Period y) d p) q))) (omega (arith, down, one)))
   where
     n : ℕ
-    n = dayLen (periodRun y) d
+    n = dayLen (Period y) d
 
     g : ℕ → ℕ
-    g p = counted (eqb (quarterOf (periodRun y) d p) q) (f p)
+    g p = counted (eqb (quarterOf (Period y) d p) q) (f p)
 
-    up : (p : ℕ) → Dec (quarterOf (periodRun y) d p ≡ q) → counted (eqb (quarterOf (periodRun y) d p) q) (f p) ≤ f q
+    up : (p : ℕ) → Dec (quarterOf (Period y) d p ≡ q) → counted (eqb (quarterOf (Period y) d p) q) (f p) ≤ f q
     up p (yes e) =
-        let same : p ≡ q = quarter-is (periodRun y) d p ∙ e in
+        let same : p ≡ q = quarter-is (Period y) d p ∙ e in
         simp (eq-eqb _ _ e) (omega (arith, ap f same))
     up p (no e) = simp (ne-eqb _ _ e) (omega arith)
 
-    one : counted (eqb (quarterOf (periodRun y) d q) q) (f q) ≡ f q
-    one = simp (eq-eqb (quarterOf (periodRun y) d q) q (sym (quarter-is (periodRun y) d q)))
+    one : counted (eqb (quarterOf (Period y) d q) q) (f q) ≡ f q
+    one = simp (eq-eqb (quarterOf (Period y) d q) q (sym (quarter-is (Period y) d q)))
 
-    down : counted (eqb (quarterOf (periodRun y) d q) q) (f q) ≤ largestOver (λ p. counted (eqb (quarterOf (periodRun y) d p) q) (f p)) (dayLen (periodRun y) d)
-    down = largest-above (λ p. counted (eqb (quarterOf (periodRun y) d p) q) (f p)) (dayLen (periodRun y) d) q (omega (arith, len-is (periodRun y) d))
+    down : counted (eqb (quarterOf (Period y) d q) q) (f q) ≤ largestOver (λ p. counted (eqb (quarterOf (Period y) d p) q) (f p)) (dayLen (Period y) d)
+    down = largest-above (λ p. counted (eqb (quarterOf (Period y) d p) q) (f p)) (dayLen (Period y) d) q (omega (arith, len-is (Period y) d))
 
 max-pairs : (u v w x : ℕ) → max (max u v) (max w x) ≡ max (max (max (max 0 u) v) w) x
 max-pairs u v w x =
@@ -144,7 +145,7 @@ counted-largest false g n = sym (largest-none _) ∙ largest-rest (λ k. 0) 0 n 
 -- four days of one season more
 module _
     (y : ℕ) (xs : List ℕ) (d s : ℕ) {at size : ℕ}
-    (ea : at ≡ dayStart (periodRun y) d)
+    (ea : at ≡ dayStart (Period y) d)
     (es : size ≡ fourDays)
     (alike : (k : ℕ) → k < 4 → periodSeason y (d + k + 1) ≡ s)
   where
@@ -152,20 +153,20 @@ module _
     four = take size (drop at xs)
 
     -- a day of the four brings its reading
-    brings : (k q t : ℕ) → k < 4 → q < dayQuarters → topOf y (d + k) (reading (periodRun y) xs (d + k)) t q ≡ counted (eqb s t) (getD four (dayQuarters * k + q) 0)
+    brings : (k q t : ℕ) → k < 4 → q < dayQuarters → topOf y (d + k) (reading (Period y) xs (d + k)) t q ≡ counted (eqb s t) (getD four (dayQuarters * k + q) 0)
     brings k q t l m =
-        let stands : dayStart (periodRun y) (d + k) + q ≡ at + (dayQuarters * k + q) = omega (arith, start-formula (periodRun y) d, start-formula (periodRun y) (d + k)) in
+        let stands : dayStart (Period y) (d + k) + q ≡ at + (dayQuarters * k + q) = omega (arith, start-formula (Period y) d, start-formula (Period y) (d + k)) in
         let inside : dayQuarters * k + q < size = omega arith in
-        top-plain y (d + k) (reading (periodRun y) xs (d + k)) t q m
-        ∙ ap (λ (z : ℕ). counted (eqb z t) (reading (periodRun y) xs (d + k) q)) (alike k l)
+        top-plain y (d + k) (reading (Period y) xs (d + k)) t q m
+        ∙ ap (λ (z : ℕ). counted (eqb z t) (reading (Period y) xs (d + k) q)) (alike k l)
         ∙ ap (counted (eqb s t)) (ap (λ (z : ℕ). getD xs z 0) stands ∙ sym (getD-take size (drop at xs) (dayQuarters * k + q) 0 inside ∙ getD-drop at xs (dayQuarters * k + q) 0))
 
     four-value : (t q : ℕ) → q < dayQuarters → max (curveAt y xs d t q) (counted (eqb s t) (fourTop four q)) ≡ curveAt y xs (d + 4) t q
     unfolding curveAt fourTop
     four-value t q m =
-        ap (max (largestOver (λ k. topOf y k (reading (periodRun y) xs k) t q) d))
+        ap (max (largestOver (λ k. topOf y k (reading (Period y) xs k) t q) d))
         (counted-largest (eqb s t) (λ k. getD four (dayQuarters * k + q) 0) 4 ∙ largest-cong _ _ 4 (λ k l. sym (brings k q t l m)))
-        ∙ sym (largest-add (λ k. topOf y k (reading (periodRun y) xs k) t q) d 4)
+        ∙ sym (largest-add (λ k. topOf y k (reading (Period y) xs k) t q) d 4)
 
     pub four-more : {flat : List ℕ} → flat ≡ flatCurves y xs d → overlaid s flat four ≡ flatCurves y xs (d + 4)
     unfolding overlaid flatCurves

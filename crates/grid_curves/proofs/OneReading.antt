@@ -13,10 +13,11 @@ use Rattle.over.specs.Over.{counted}
 use Rattle.over.proofs.Largest.{largest-le}
 use Rattle.periods.specs.Period.{periodSeason}
 use Rattle.readings.specs.declared.Run.{Run}
+use Rattle.readings.specs.declared.Run.the-variants.{Period}
 use Rattle.readings.specs.Runs.{dayLen, quarterOf, reading}
 use Rattle.readings.specs.Legal.{dayPeak, peakOf}
 use Rattle.readings.proofs.Legal.{reading-le}
-use Rattle.grid_curves.specs.Curves.{periodRun, inSeason, topOf, curveAt}
+use Rattle.grid_curves.specs.Curves.{inSeason, topOf, curveAt}
 use Rattle.grid_curves.proofs.Curves.{curve-le, in-curve}
 
 -- the first n days of a series: c everywhere, but v at position `at` of day `on`
@@ -55,33 +56,33 @@ counted-low : (b : Bool) {v w : ℕ} → (b ≡ true → v ≤ w) → counted b 
 counted-low true h = h refl
 counted-low false h = omega arith
 
-module _ (y : ℕ) {xs : List ℕ} {n c v on at : ℕ} (o : OneOther (periodRun y) xs n c v on at) where
+module _ (y : ℕ) {xs : List ℕ} {n c v on at : ℕ} (o : OneOther (Period y) xs n c v on at) where
   -- the curve that the other reading goes into
-  pub curve-there : curveAt y xs n (periodSeason y (on + 1)) (quarterOf (periodRun y) on at) ≡ v
+  pub curve-there : curveAt y xs n (periodSeason y (on + 1)) (quarterOf (Period y) on at) ≡ v
   curve-there =
-      le-antisymm (omega (arith, other-peak o, curve-le y xs n (periodSeason y (on + 1)) (quarterOf (periodRun y) on at)))
+      le-antisymm (omega (arith, other-peak o, curve-le y xs n (periodSeason y (on + 1)) (quarterOf (Period y) on at)))
       (omega (arith, o .there, in-curve y xs n on at (o .on-in) (o .at-in)))
 
   -- another that some reading goes into
   pub curve-else :
       (s q d p : ℕ)
       → d < n
-      → p < dayLen (periodRun y) d
+      → p < dayLen (Period y) d
       → periodSeason y (d + 1) ≡ s
-      → quarterOf (periodRun y) d p ≡ q
-      → (periodSeason y (on + 1) ≡ s → quarterOf (periodRun y) on at ≡ q → ⊥)
+      → quarterOf (Period y) d p ≡ q
+      → (periodSeason y (on + 1) ≡ s → quarterOf (Period y) on at ≡ q → ⊥)
       → curveAt y xs n s q ≡ c
   unfolding curveAt topOf
   curve-else s q d p l m es eq other =
       le-antisymm
       (largest-le _ n c
-      (λ e h. counted-low (inSeason y e s) (λ a. largest-le _ (dayLen (periodRun y) e) c
-      (λ r k. counted-low (eqb (quarterOf (periodRun y) e r) q) (λ b. top e r h k a b)))))
+      (λ e h. counted-low (inSeason y e s) (λ a. largest-le _ (dayLen (Period y) e) c
+      (λ r k. counted-low (eqb (quarterOf (Period y) e r) q) (λ b. top e r h k a b)))))
       (omega (arith, other-low o d p l m, rw (es, eq) at (in-curve y xs n d p l m)))
     where
       -- a reading that goes into this curve is not the other one
-      top : (e r : ℕ) → e < n → r < dayLen (periodRun y) e → inSeason y e s ≡ true → eqb (quarterOf (periodRun y) e r) q ≡ true → reading (periodRun y) xs e r ≤ c
+      top : (e r : ℕ) → e < n → r < dayLen (Period y) e → inSeason y e s ≡ true → eqb (quarterOf (Period y) e r) q ≡ true → reading (Period y) xs e r ≤ c
       top e r h k a b =
           let season : e ≡ on → periodSeason y (on + 1) ≡ s = λ i. ap (λ (t : ℕ). periodSeason y (t + 1)) (sym i) ∙ eqb-true _ _ a in
-          let quarter : e ≡ on → r ≡ at → quarterOf (periodRun y) on at ≡ q = λ i j. ap₂ (quarterOf (periodRun y)) (sym i) (sym j) ∙ eqb-true _ _ b in
+          let quarter : e ≡ on → r ≡ at → quarterOf (Period y) on at ≡ q = λ i j. ap₂ (quarterOf (Period y)) (sym i) (sym j) ∙ eqb-true _ _ b in
           omega (arith, o .elsewhere e r h k (λ i j. other (season i) (quarter i j)))

@@ -5,8 +5,9 @@ ghost use mathlib.Core.Path.{_≡_};
 ghost use Prim.Native.Nat.{ℕ, _<_, _≤_, _+_, min};
 ghost use lib.ListN.{length};
 ghost use Rattle.periods.specs.Period.{periodDays, periodSeason};
+ghost use Rattle.readings.specs.declared.Run.the-variants.{Period};
 ghost use Rattle.readings.specs.Runs.{dayLen, dayStart};
-ghost use Rattle.grid_curves.specs.Curves.{periodRun, flatCurves, merged};
+ghost use Rattle.grid_curves.specs.Curves.{flatCurves, merged};
 ghost use Rattle.grid_curves.specs.Four.{fourDays, overlaid};
 use readings::Run;
 
@@ -42,12 +43,12 @@ fn season_of(year: u16, d: u16) -> u8
 
 // Lays the readings of day d, from 0, over the curve of its season: every day counts, weekends too.
 fn lay(curves: &mut [u32; 384], year: u16, d: u16, season: u8, day: &[u32])
-    requires { ⌜ (length (now day) ≤ dayLen (periodRun year) d) × (season ≡ periodSeason year (d + 1)) ⌝ }
+    requires { ⌜ (length (now day) ≤ dayLen (Period year) d) × (season ≡ periodSeason year (d + 1)) ⌝ }
     ensures { λ r. ⌜ now (curves .exit) ≡ merged year (now (curves .entry)) d (now (day .entry)) ⌝ }
 {
     let base = answers::DAY_QUARTERS * (season as usize - 1);
     for p in 0..day.len() {
-        let at = base + readings::quarter_of(Run { year, period: true }, d, p);
+        let at = base + readings::quarter_of(Run::Period(year), d, p);
         curves[at] = legal::larger(curves[at], day[p]);
     }
 }
@@ -56,7 +57,7 @@ fn lay(curves: &mut [u32; 384], year: u16, d: u16, season: u8, day: &[u32])
 pub fn lay_day(curves: &mut [u32; 384], year: u16, d: u16, day: &[u32])
     ensures { λ r. ⌜ now (curves .exit) ≡ merged year (now (curves .entry)) d (now (day .entry)) ⌝ }
 {
-    let n = smaller(day.len(), readings::day_len(Run { year, period: true }, d));
+    let n = smaller(day.len(), readings::day_len(Run::Period(year), d));
     lay(&mut *curves, year, d, season_of(year, d), &day[..n]);
 }
 
@@ -87,8 +88,8 @@ fn lay_next(
     at: usize,
     series: &[u32],
 ) -> Reach
-    requires { ⌜ (d < end) × (end ≤ periodDays year) × ((k : ℕ) → d ≤ k → k < end → periodSeason year (k + 1) ≡ season) × (at ≡ dayStart (periodRun year) d) × (now curves ≡ flatCurves year (now series) d) ⌝ }
-    ensures { λ r. ⌜ (d < r .d) × (r .d ≤ end) × (r .at ≡ dayStart (periodRun year) (r .d)) × (now (curves .exit) ≡ flatCurves year (now (series .entry)) (r .d)) ⌝ }
+    requires { ⌜ (d < end) × (end ≤ periodDays year) × ((k : ℕ) → d ≤ k → k < end → periodSeason year (k + 1) ≡ season) × (at ≡ dayStart (Period year) d) × (now curves ≡ flatCurves year (now series) d) ⌝ }
+    ensures { λ r. ⌜ (d < r .d) × (r .d ≤ end) × (r .at ≡ dayStart (Period year) (r .d)) × (now (curves .exit) ≡ flatCurves year (now (series .entry)) (r .d)) ⌝ }
 {
     let after = at + FOUR_DAYS;
     if (d + 4 <= end) & (after <= series.len()) {
@@ -98,7 +99,7 @@ fn lay_next(
             at: after,
         };
     }
-    let next = at + readings::day_len(Run { year, period: true }, d);
+    let next = at + readings::day_len(Run::Period(year), d);
     let from = smaller(at, series.len());
     let to = smaller(next, series.len());
     lay(&mut *curves, year, d, season, &series[from..to]);
@@ -107,8 +108,8 @@ fn lay_next(
 
 // Lays the days from day d on to the end of their month over the curves: they lie in one season.
 fn lay_month(curves: &mut [u32; 384], year: u16, from: u16, start: usize, series: &[u32]) -> Reach
-    requires { ⌜ (from < periodDays year) × (start ≡ dayStart (periodRun year) from) × (now curves ≡ flatCurves year (now series) from) ⌝ }
-    ensures { λ r. ⌜ (from < r .d) × (r .d ≤ periodDays year) × (r .at ≡ dayStart (periodRun year) (r .d)) × (now (curves .exit) ≡ flatCurves year (now (series .entry)) (r .d)) ⌝ }
+    requires { ⌜ (from < periodDays year) × (start ≡ dayStart (Period year) from) × (now curves ≡ flatCurves year (now series) from) ⌝ }
+    ensures { λ r. ⌜ (from < r .d) × (r .d ≤ periodDays year) × (r .at ≡ dayStart (Period year) (r .d)) × (now (curves .exit) ≡ flatCurves year (now (series .entry)) (r .d)) ⌝ }
 {
     let season = periods::period_season(year, from + 1);
     let end = from + 1 + periods::period_left(year, from + 1);

@@ -9,9 +9,9 @@ use Rattle.answers.specs.Ruling.{gridMost}
 use Rattle.answers.specs.Said.{Said, after}
 use Rattle.sheet.specs.declared.Sheet.{Sheet}
 use Rattle.packed.specs.Bytes.{twoAt, markSize}
+use Rattle.readings.specs.declared.Run.the-variants.{Period}
 use Rattle.sheet.specs.Bytes.{sheetSize}
 use Rattle.sheet.specs.Answers.{readSheet}
-use Rattle.grid_curves.specs.Curves.{periodRun}
 use Rattle.grid.specs.Answers.{windowsAnswer, windowsBuffer}
 use Rattle.fields.specs.Layout.{Field, Layout, layoutOf, headSize}
 use Rattle.fields.specs.Series.{seriesIn}
@@ -52,7 +52,7 @@ wholeGrid y level xs = withSheet (windowsAnswer y level xs sheetSize) (windowsBu
 -- what a grid file is answered: its header, then its days, then what its whole series is
 unfoldable pub gridAnswer : List ℕ → Said
 gridAnswer b =
-    fileAnswer (gridLayout b) (periodRun (gridYear b)) gridMost
+    fileAnswer (gridLayout b) (Period (gridYear b)) gridMost
     (wholeGrid (gridYear b) (gridLevel b) (seriesIn b (headSize (gridLayout b))))
     b
 

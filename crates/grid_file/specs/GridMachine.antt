@@ -4,9 +4,9 @@ use Prim.Native.Nat.{ℕ, _+_}
 use lib.ListN.{replicate}
 use Rattle.answers.specs.Said.{Said, badPlace}
 use Rattle.periods.specs.Period.{periodDays}
+use Rattle.readings.specs.declared.Run.the-variants.{Period}
 use Rattle.sheet.specs.Bytes.{sheetSize}
 use Rattle.grid.specs.declared.Grid.{Grid}
-use Rattle.grid_curves.specs.Curves.{periodRun}
 use Rattle.grid.specs.Answers.{openGrid, dayAnswer, dayGrid, closeAnswer, closeBuffer}
 use Rattle.fields.specs.declared.Stage.{Stage}
 use Rattle.fields.specs.declared.Stage.the-variants.{Going, Refused, BadReading, Complete}
@@ -34,7 +34,7 @@ gridReader =
       head = λ s. s .head;
       stage = λ s. s .stage;
       layout = gridLayout;
-      run = λ s. periodRun (s .grid .year);
+      run = λ s. Period (s .grid .year);
       days = λ s. periodDays (s .grid .year);
       ended = gridEnded;
       headed = λ s head. gridHead (s .field + 1) head;

@@ -134,8 +134,7 @@ impl GridFile {
             let year = self.grid.year;
             let seen = self.grid.seen;
             if seen < periods::period_days(year) {
-                return field_steps::READING_BYTES
-                    * readings::day_len(Run { year, period: true }, seen);
+                return field_steps::READING_BYTES * readings::day_len(Run::Period(year), seen);
             }
             return 1;
         }
@@ -172,13 +171,7 @@ impl GridFile {
     fn take_day(self, b: &[u8]) -> GridFile
         ensures { λ r. ⌜ r ≡ dayFed gridReader self (now (b .entry)) ⌝ }
     {
-        let n = readings::day_len(
-            Run {
-                year: self.grid.year,
-                period: true,
-            },
-            self.grid.seen,
-        );
+        let n = readings::day_len(Run::Period(self.grid.year), self.grid.seen);
         if b.len() < field_steps::READING_BYTES * n {
             return self.ended(Stage::Refused(4));
         }

@@ -14,13 +14,13 @@ use Rattle.answers.specs.Ruling.{customerMost}
 use Rattle.answers.specs.Said.{Said}
 use Rattle.dates.specs.Dates.{yearDays}
 use Rattle.readings.specs.declared.Run.{Run}
+use Rattle.readings.specs.declared.Run.the-variants.{Year}
 use Rattle.readings.specs.Runs.{runDays}
 use Rattle.readings.specs.Legal.{badIn}
 use Rattle.readings.proofs.Runs.{start-none, days-most, year-run}
 use Rattle.readings.proofs.Legal.{bad-run}
 use Rattle.readings.proofs.Days.{series-legal}
 use Rattle.sheet.specs.Bytes.{sheetIn}
-use Rattle.day_figures.specs.Counts.{yearRun}
 use Rattle.customer.specs.declared.Terms.{Terms}
 use Rattle.customer.specs.declared.Customer.{Customer}
 use Rattle.customer.specs.Answers.{termsOf, opened, shut, dayAnswer, dayCustomer, closeAnswer, decideAnswer}
@@ -105,7 +105,7 @@ module _ (bytes : List ℕ) where
   terms = termsOf (sheetIn (sheetPart bytes)) (holidaysOf bytes) (pricesOf bytes) (optionOf bytes)
 
   abbrev run : Run
-  run = yearRun (terms .year)
+  run = Year (terms .year)
 
   abbrev done : Said
   done = decideAnswer (sheetPart bytes) (holidaysOf bytes) (pricesOf bytes) (optionOf bytes) xs
@@ -215,7 +215,7 @@ module _ (bytes : List ℕ) where
 
   answer-is : fileAnswer l run customerMost done bytes ≡ customerAnswer bytes
   unfolding customerAnswer
-  answer-is = ap (λ (y : ℕ). fileAnswer l (yearRun y) customerMost done bytes) (year-is bytes)
+  answer-is = ap (λ (y : ℕ). fileAnswer l (Year y) customerMost done bytes) (year-is bytes)
 
 -- 423 turns are enough for every file: at most 56 fields, 366 days, and one for what comes after them
 pub statement-printed : StatementPrinted

@@ -13,6 +13,7 @@ use Rattle.answers.specs.Said.{only}
 use Rattle.dates.specs.Dates.{leap, leapDay, yearDays, daysTo, weekdayOf}
 use Rattle.holidays.specs.Holidays.{listed}
 use Rattle.calendar.specs.Free.{christmas, free, candidate, bridge, kindBy, carries}
+use Rattle.readings.specs.declared.Run.the-variants.{Year}
 use Rattle.readings.specs.Runs.{runDays, dayLen, runReadings, reading}
 use Rattle.readings.specs.Days.{seriesAnswer}
 use Rattle.readings.proofs.Runs.{len-is, quarter-is, run-all, year-run}
@@ -23,7 +24,6 @@ use Rattle.tariff.specs.Prices.{rowOut, pricesOut}
 use Rattle.tariff.specs.Charges.{chargeFor, general, reduced, floorOf, charge}
 use Rattle.tariff.specs.Decision.{eligibleRules, chargeRules, judgeRules, judgeAnswer}
 use Rattle.figures.specs.Figures.{figuresOf}
-use Rattle.day_figures.specs.Counts.{yearRun}
 use Rattle.customer.specs.declared.Terms.{Terms}
 use Rattle.customer.specs.Counts.{counts}
 use Rattle.customer.specs.Answers.{termsOf, openAnswer, judged, figuresUnder, decideAnswer}
@@ -115,7 +115,7 @@ figures = record { peak = 1000000; sum = 1500000; any = true; high = 500000; day
 
 figures-are : figuresUnder terms customerSeries (yearDays (terms .year)) ≡ figures
 figures-are =
-    ap (λ (y : ℕ). figuresOf (yearRun y) (counts terms) customerSeries (yearDays y)) example-year
+    ap (λ (y : ℕ). figuresOf (Year y) (counts terms) customerSeries (yearDays y)) example-year
     ∙ ap (figuresOf customerRun (counts terms) customerSeries) (sym (year-run 2025))
     ∙ two-figures two-others (counts terms) (omega arith) inside outside
     ∙ ap (λ (q : ℕ). record { peak = 1000000; sum = 1500000; any = true; high = 500000; day = 2; quarter = q }) (sym (quarter-is customerRun 1 72))
@@ -124,7 +124,7 @@ judged-is : judged terms figures ≡ customerSaid
 unfolding example shareOf levelOut rowOut pricesOut chargeFor general reduced floorOf charge eligibleRules chargeRules judgeRules judgeAnswer
 judged-is = refl
 
-legal : only 0 ≡ seriesAnswer (yearRun (terms .year)) customerMost customerSeries
+legal : only 0 ≡ seriesAnswer (Year (terms .year)) customerMost customerSeries
 legal = rw example-year customer-legal
 
 pub decided : decideAnswer exampleSheet [] prices false customerSeries ≡ customerSaid

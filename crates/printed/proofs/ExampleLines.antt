@@ -12,13 +12,13 @@ use Rattle.over.specs.Over.{joined, sumOver, countOver, anyOver, allOver, first
 use Rattle.over.proofs.Tests.{all-at}
 use Rattle.answers.specs.Ruling.{gridMost, yearOut, levelOut}
 use Rattle.answers.specs.Said.{only}
+use Rattle.readings.specs.declared.Run.the-variants.{Period}
 use Rattle.readings.specs.Runs.{runDays}
 use Rattle.readings.specs.Days.{seriesAnswer}
 use Rattle.packed.specs.Bytes.{twoAt, unlike}
 use Rattle.sheet.specs.Windows.{isSet, setIn, tooFull}
 use Rattle.sheet.specs.Bytes.{windowsIn}
 use Rattle.sheet.specs.Answers.{readAnswer, readSheet}
-use Rattle.grid_curves.specs.Curves.{periodRun}
 use Rattle.fields.specs.Layout.{layoutOf, startOf, headSize}
 use Rattle.fields.specs.Common.{markField, versionField, yearField, levelField}
 use Rattle.fields.specs.Series.{seriesIn, fileSize}
@@ -80,18 +80,18 @@ unfolding windowLines readSheet readAnswer unlike twoAt inBase yearOut levelOut 
 lines-are = refl
 
 -- so the file is answered as the series is
-file-long : length gridBytes ≡ fileSize (periodRun (gridYear gridBytes)) (headSize (gridLayout gridBytes))
+file-long : length gridBytes ≡ fileSize (Period (gridYear gridBytes)) (headSize (gridLayout gridBytes))
 unfolding gridBytes
 file-long = rw (year-is readings, size-is readings) (length-append gridHeader readings ∙ omega (arith, bytes-long gridSeries, grid-long))
 
-legal : only 0 ≡ seriesAnswer (periodRun (gridYear gridBytes)) gridMost (seriesIn gridBytes (headSize (gridLayout gridBytes)))
+legal : only 0 ≡ seriesAnswer (Period (gridYear gridBytes)) gridMost (seriesIn gridBytes (headSize (gridLayout gridBytes)))
 unfolding gridBytes
 legal = rw (year-is readings, series-back) grid-legal
 
 answer-is : gridAnswer gridBytes ≡ wholeGrid 2025 5 gridSeries
 unfolding gridAnswer gridBytes
 answer-is =
-    sym (file-whole (gridLayout gridBytes) gridBytes (taken readings) (periodRun (gridYear gridBytes)) gridMost _ file-long legal)
+    sym (file-whole (gridLayout gridBytes) gridBytes (taken readings) (Period (gridYear gridBytes)) gridMost _ file-long legal)
     ∙ rw (year-is readings, series-back) refl
 
 lines-printed : windowsPrinted gridBytes ≡ exampleWindows

@@ -12,11 +12,11 @@ use Rattle.over.specs.Over.{joined, sumOver, countOver, anyOver, allOver, first
 use Rattle.over.proofs.Tests.{all-at}
 use Rattle.answers.specs.Ruling.{customerMost, yearOut, levelOut}
 use Rattle.answers.specs.Said.{only}
+use Rattle.readings.specs.declared.Run.the-variants.{Year}
 use Rattle.readings.specs.Runs.{runDays}
 use Rattle.readings.specs.Days.{seriesAnswer}
 use Rattle.packed.specs.Bytes.{twoAt, fourAt, unlike}
 use Rattle.sheet.specs.Bytes.{setFrom}
-use Rattle.day_figures.specs.Counts.{yearRun}
 use Rattle.customer.specs.Answers.{decideAnswer}
 use Rattle.fields.specs.Layout.{layoutOf, headSize}
 use Rattle.fields.specs.Common.{markField, versionField, yearField, levelField}
@@ -95,18 +95,18 @@ unfolding customerBytes
 series-back = ap (seriesIn customerBytes) (size-is readings) ∙ ap readingsOf (rest-is readings) ∙ readings-back customerSeries low
 
 -- so the file is answered as the series is
-file-long : length customerBytes ≡ fileSize (yearRun (customerYear customerBytes)) (headSize (customerLayout customerBytes))
+file-long : length customerBytes ≡ fileSize (Year (customerYear customerBytes)) (headSize (customerLayout customerBytes))
 unfolding customerBytes
 file-long = rw (year-is readings, size-is readings) (header-long readings ∙ omega (arith, bytes-long customerSeries, customer-long))
 
-legal : only 0 ≡ seriesAnswer (yearRun (customerYear customerBytes)) customerMost (seriesIn customerBytes (headSize (customerLayout customerBytes)))
+legal : only 0 ≡ seriesAnswer (Year (customerYear customerBytes)) customerMost (seriesIn customerBytes (headSize (customerLayout customerBytes)))
 unfolding customerBytes
 legal = rw (year-is readings, series-back) customer-legal
 
 answer-is : customerAnswer customerBytes ≡ decideAnswer exampleSheet [] prices false customerSeries
 unfolding customerAnswer customerBytes
 answer-is =
-    sym (file-whole (customerLayout customerBytes) customerBytes (taken readings) (yearRun (customerYear customerBytes)) customerMost _ file-long legal)
+    sym (file-whole (customerLayout customerBytes) customerBytes (taken readings) (Year (customerYear customerBytes)) customerMost _ file-long legal)
     ∙ rw (holidays-are readings, prices-are readings, series-back) refl
 
 line-is : statementLine customerSaid ≡ exampleStatement

@@ -18,6 +18,7 @@ use Rattle.answers.specs.Said.{Said, only}
 use Rattle.periods.specs.Period.{periodDays}
 use Rattle.periods.proofs.Periods.{period-most}
 use Rattle.readings.specs.declared.Run.{Run}
+use Rattle.readings.specs.declared.Run.the-variants.{Period}
 use Rattle.readings.specs.Runs.{runDays, dayLen, dayStart}
 use Rattle.readings.specs.Legal.{highestOf, badIn}
 use Rattle.readings.specs.Days.{seriesAnswer}
@@ -25,7 +26,6 @@ use Rattle.readings.proofs.Runs.{start-none, run-all, period-run}
 use Rattle.readings.proofs.Days.{series-legal, next-bad, next-taken}
 use Rattle.sheet.specs.Bytes.{sheetSize}
 use Rattle.grid.specs.declared.Grid.{Grid}
-use Rattle.grid_curves.specs.Curves.{periodRun}
 use Rattle.grid.specs.Answers.{openAnswer, openGrid, dayAnswer, dayGrid, closeBuffer, windowsAnswer}
 use Rattle.grid.proofs.Steps.{open-done}
 use Rattle.grid.proofs.Whole.{holding, machine, opens-empty, closes-whole}
@@ -105,7 +105,7 @@ module _ (bytes : List ℕ) where
   level = gridLevel bytes
 
   abbrev run : Run
-  run = periodRun y
+  run = Period y
 
   abbrev xs : List ℕ
   xs = seriesIn bytes (headSize l)
@@ -260,5 +260,5 @@ pub windows-printed : WindowsPrinted
 unfolding gridAnswer
 windows-printed bytes turns h =
     let l = gridLayout bytes in
-    let enough : l .count + runDays (periodRun (gridYear bytes)) < turns = omega (arith, grid-count bytes, period-run (gridYear bytes), period-most (gridYear bytes)) in
+    let enough : l .count + runDays (Period (gridYear bytes)) < turns = omega (arith, grid-count bytes, period-run (gridYear bytes), period-most (gridYear bytes)) in
     ap (λ (k : ℕ). gridText (driven gridWants gridFed turns (gridHead 0 (heldIn (replicate 8 0) bytes k)) bytes)) (sym (field-none l)) ∙ file-driven (takes bytes) turns enough

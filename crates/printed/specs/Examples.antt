@@ -11,11 +11,10 @@ use Rattle.answers.specs.Said.{Said, only}
 use Rattle.dates.specs.Dates.{dayOf}
 use Rattle.periods.specs.Period.{lateDays}
 use Rattle.readings.specs.declared.Run.{Run}
+use Rattle.readings.specs.declared.Run.the-variants.{Year, Period}
 use Rattle.readings.specs.Runs.{runDays, dayLen, quarterOf}
 use Rattle.sheet.specs.Bytes.{sheetSize}
-use Rattle.grid_curves.specs.Curves.{periodRun}
 use Rattle.grid.specs.Answers.{windowsAnswer, windowsBuffer}
-use Rattle.day_figures.specs.Counts.{yearRun}
 use Rattle.customer.specs.Answers.{decideAnswer}
 use Rattle.fields.specs.Series.{readingBytes}
 use Rattle.fields.specs.File.{driven}
@@ -37,7 +36,7 @@ isAt run day quarter d p = eqb (d + 1) day && eqb (quarterOf run d p) quarter
 -- The window program's example: every reading of the period is 1,000 kW, but quarter 72 of 15 January 2024 has 2,000. That day's number in the period
 -- counts the days of 2023 from 1 September on, then those of 2024.
 abbrev pub gridRun : Run
-gridRun = periodRun 2025
+gridRun = Period 2025
 
 unfoldable pub otherDay : ℕ
 otherDay = lateDays 2023 + dayOf 2024 1 15
@@ -51,7 +50,7 @@ gridSeries = seriesOf gridRun gridReading (runDays gridRun)
 -- The statement program's example: every reading of 2025 is 0, but quarter 0 of 4 January, a Saturday, has 1,000,000 W, and quarter 72 of 2 January,
 -- a Thursday, has 500,000.
 abbrev pub customerRun : Run
-customerRun = yearRun 2025
+customerRun = Year 2025
 
 unfoldable pub saturdayDay : ℕ
 saturdayDay = dayOf 2025 1 4

@@ -1,7 +1,6 @@
 -- Laws of a run's layout: all that other proofs know of it. The sums follow from `dayLen`, so they stay where it moves.
 -- Assumes nothing.
 use mathlib.Core.Path.{_≡_, refl, sym, ap, _∙_}
-use mathlib.Core.Bool.{Bool, true, false, cond}
 use Prim.Native.Nat.{ℕ, zero, suc, _+_, _*_, _≤_, _<_}
 use native.Mathlib.Nat.{not-suc-le-zero}
 use native.Mathlib.Decide.{decLt}
@@ -13,6 +12,7 @@ use Rattle.periods.specs.Period.{periodDays}
 use Rattle.dates.proofs.Leaps.{leap-small}
 use Rattle.periods.proofs.Periods.{period-most}
 use Rattle.readings.specs.declared.Run.{Run}
+use Rattle.readings.specs.declared.Run.the-variants.{Year, Period}
 use Rattle.readings.specs.Runs.{runDays, dayLen, quarterOf, dayStart, runReadings}
 
 -- a day has at least one reading and at most 100, and a position stands for one of 96 quarters
@@ -37,22 +37,20 @@ pub quarter-is : (run : Run) (d p : ℕ) → p ≡ quarterOf run d p
 unfolding quarterOf
 quarter-is run d p = refl
 
-pub days-period : (run : Run) {n : ℕ} → run .period ≡ true → n ≡ periodDays (run .year) → n ≡ runDays run
+-- the days of a charge year, and of a reference period
+pub year-run : (y : ℕ) → runDays (Year y) ≡ yearDays y
 unfolding runDays
-days-period run e f = f ∙ rw e
+year-run y = refl
 
-pub days-year : (run : Run) {n : ℕ} → run .period ≡ false → n ≡ yearDays (run .year) → n ≡ runDays run
+pub period-run : (y : ℕ) → runDays (Period y) ≡ periodDays y
 unfolding runDays
-days-year run e f = f ∙ rw e
+period-run y = refl
 
 -- no run has more days than the longest year
 pub days-most : (run : Run) → runDays run ≤ mostDays
 unfolding runDays
-days-most run = go (run .period)
-  where
-    go : (b : Bool) → cond b (periodDays (run .year)) (yearDays (run .year)) ≤ mostDays
-    go true = omega (arith, period-most (run .year))
-    go false = omega (arith, leap-small (run .year))
+days-most (Year y) = omega (arith, leap-small y)
+days-most (Period y) = omega (arith, period-most y)
 
 module _ (run : Run) where
   pub start-none : dayStart run 0 ≡ 0
@@ -100,12 +98,3 @@ module _ (run : Run) where
   pub run-held : (d : ℕ) → d < runDays run → dayStart run d + dayLen run d ≤ runReadings run
   unfolding runReadings
   run-held d l = start-below (runDays run) d l
-
--- the days of a reference period, and of a charge year
-pub period-run : (y : ℕ) → runDays (record { year = y; period = true }) ≡ periodDays y
-unfolding runDays
-period-run y = refl
-
-pub year-run : (y : ℕ) → runDays (record { year = y; period = false }) ≡ yearDays y
-unfolding runDays
-year-run y = refl

@@ -1,7 +1,6 @@
 -- Document 01, Numbers: "Every day has quarters 0 to 95 (house rule)." A run is the days whose readings a series holds, one day after
 -- the other: a charge year's, or those of its reference period. A run's days d and a day's positions p count from 0. How a day is
 -- laid out in a series is said here, by `dayLen` and `quarterOf`; only the day part (specs/Part) knows no run and takes 96 for each day.
-use mathlib.Core.Bool.{cond}
 use mathlib.Core.List.{List}
 use Prim.Native.Nat.{ℕ, _+_}
 use lib.ListN.{getD}
@@ -10,10 +9,12 @@ use Rattle.answers.specs.Ruling.{dayQuarters}
 use Rattle.dates.specs.Dates.{yearDays}
 use Rattle.periods.specs.Period.{periodDays}
 use Rattle.readings.specs.declared.Run.{Run}
+use Rattle.readings.specs.declared.Run.the-variants.{Year, Period}
 
 -- the days of a run
 unfoldable pub runDays : Run → ℕ
-runDays run = cond (run .period) (periodDays (run .year)) (yearDays (run .year))
+runDays (Year y) = yearDays y
+runDays (Period y) = periodDays y
 
 -- how many readings a day has
 unfoldable pub dayLen : Run → ℕ → ℕ

@@ -5,19 +5,19 @@ ghost use Rattle.readings.specs.Runs.{runDays, dayLen, quarterOf, runRea
 ghost use Rattle.readings.specs.Part.{dayPart};
 
 // The days whose readings a series holds: those of a charge year, or of its reference period.
-pub struct Run {
-    pub year: u16,
-    pub period: bool,
+pub enum Run {
+    Year(u16),
+    Period(u16),
 }
 
 // How many days a run has.
 pub fn run_days(run: Run) -> u16
     ensures { λ r. ⌜ r ≡ runDays run ⌝ }
 {
-    if run.period {
-        return periods::period_days(run.year);
+    match run {
+        Run::Year(year) => dates::year_days(year),
+        Run::Period(year) => periods::period_days(year),
     }
-    dates::year_days(run.year)
 }
 
 // How many readings a day of a run, from 0, has. (Every day has as many, so far; the run and the day are asked all the same.)

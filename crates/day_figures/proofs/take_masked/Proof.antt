@@ -7,8 +7,9 @@ use borrow.Author.Needs.{needs}
 use lib.ListN.{length}
 use Rattle.over.specs.Over.{largestIn}
 use Rattle.over.proofs.Bools.{both}
+use Rattle.readings.specs.declared.Run.the-variants.{Year}
 use Rattle.readings.proofs.Runs.{quarter-in}
-use Rattle.day_figures.specs.Counts.{yearRun, setOn}
+use Rattle.day_figures.specs.Counts.{setOn}
 use Rattle.day_figures.specs.Day.{alone}
 use Rattle.day_figures.proofs.OneDay.{masked-in, taken-old, taken-nowhere, taken-higher}
 use Rattle.day_figures.proofs.take_masked.Statement.{statement}
@@ -34,7 +35,7 @@ returns c =
     let plain = s .pre .5 in
     let low = both _ _ (c .if1 .taken) in (
       plain
-          ∙ taken-old (yearRun (a .year)) (setOn (a .year) (a .windows .now)) (a .d) (a .day .now) (s .pre .0) (a .f) refl (high-in m) (low .0) (omega (arith, leb-true, ltb-true)),
+          ∙ taken-old (Year (a .year)) (setOn (a .year) (a .windows .now)) (a .d) (a .day .now) (s .pre .0) (a .f) refl (high-in m) (low .0) (omega (arith, leb-true, ltb-true)),
       s .pre .6,
     )
 
@@ -45,7 +46,7 @@ returns-2 c =
     let a = s .args in
     let plain = s .pre .5 in (
       plain
-          ∙ taken-nowhere (yearRun (a .year)) (setOn (a .year) (a .windows .now)) (a .d) (a .day .now) (s .pre .0) (a .f) refl (high-in m) (c .before .first-in .ensures) (omega arith),
+          ∙ taken-nowhere (Year (a .year)) (setOn (a .year) (a .windows .now)) (a .d) (a .day .now) (s .pre .0) (a .f) refl (high-in m) (c .before .first-in .ensures) (omega arith),
       s .pre .6,
     )
 
@@ -53,7 +54,7 @@ cast-t16 : tie.Need-cast-t16
 cast-t16 c =
     let s = c .before .before .before .before .before .before .before .before in
     let a = s .args in
-    omega (arith, c .quarter-of .ensures, quarter-in (yearRun (a .year)) (a .d) (c .before .before .first-in .result) (omega arith))
+    omega (arith, c .quarter-of .ensures, quarter-in (Year (a .year)) (a .d) (c .before .before .first-in .result) (omega arith))
 
 returns-3 : tie.Need-returns-3
 returns-3 c =
@@ -61,7 +62,7 @@ returns-3 c =
     let s = m .before .before in
     let a = s .args in
     let plain = s .pre .5 in (
-      taken-higher (yearRun (a .year)) (setOn (a .year) (a .windows .now)) (a .d) (a .day .now) (s .pre .0) (a .f) refl (high-in m)
+      taken-higher (Year (a .year)) (setOn (a .year) (a .windows .now)) (a .d) (a .day .now) (s .pre .0) (a .f) refl (high-in m)
           (c .before .before .first-in .ensures) (omega arith) plain (λ t. let u = rw t at (c .before .before .before .if1 .left) in search needs) (c .quarter-of .ensures),
       s .pre .6,
     )

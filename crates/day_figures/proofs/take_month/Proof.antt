@@ -9,6 +9,7 @@ use lib.ListN.{length, getD, take, drop}
 use Rattle.dates.specs.Dates.{mostDays, yearDays, seasonOf}
 use Rattle.dates.proofs.Leaps.{leap-small}
 use Rattle.dates.proofs.Seasons.{season-stays, year-room}
+use Rattle.readings.specs.declared.Run.the-variants.{Year}
 use Rattle.readings.specs.Runs.{dayLen, dayStart}
 use Rattle.readings.proofs.Runs.{start-more, run-held, year-run, len-most}
 use Rattle.readings.proofs.Part.{cut-at, cut-long}
@@ -16,7 +17,7 @@ use Rattle.sheet.specs.Windows.{placeOf}
 use Rattle.tariff.specs.declared.Figures.{Figures}
 use Rattle.figures.specs.Figures.{anyOn, highOn, quarterOn, recordOf, takenIn}
 use Rattle.figures.proofs.Taken.{taken-more}
-use Rattle.day_figures.specs.Counts.{yearRun, countsOn}
+use Rattle.day_figures.specs.Counts.{countsOn}
 use Rattle.day_figures.specs.Day.{alone, dayMost}
 use Rattle.day_figures.specs.Year.{figuresIn}
 use Rattle.day_figures.proofs.take_month.Statement.{statement}
@@ -24,7 +25,7 @@ use Rattle.day_figures.proofs.take_month.Tie as tie
 
 abbrev Inv-loop : tie.InvT-loop
 Inv-loop year from start carrying windows series base some masks end figures₀ at₀ d₀ figures at d =
-    (from ≤ d) × (d ≤ end) × (end ≤ yearDays year) × (at ≡ dayStart (yearRun year) d) × (figures .sum ≤ dayMost * d)
+    (from ≤ d) × (d ≤ end) × (end ≤ yearDays year) × (at ≡ dayStart (Year year) d) × (figures .sum ≤ dayMost * d)
     × (figures ≡ figuresIn year carrying windows series d)
 
 abbrev μ-loop : tie.MeasureT-loop
@@ -41,12 +42,12 @@ within e = omega (arith, leap-small (e .before .before .before .before .before .
 room :
     (e : tie.After-day-len Inv-loop μ-loop)
     → let a = e .before .before .before .before .before .before .before .before .args in
-    let run = yearRun (a .year) in
+    let run = Year (a .year) in
     dayStart run (e .before .before .loop .d) + dayLen run (e .before .before .loop .d) ≤ length (a .series .now)
 room e =
     let s = e .before .before .before .before .before .before .before .before in
     let y = s .args .year in
-    omega (arith, s .pre .0, run-held (yearRun y) (e .before .before .loop .d) (omega (arith, year-run y)))
+    omega (arith, s .pre .0, run-held (Year y) (e .before .before .loop .d) (omega (arith, year-run y)))
 
 -- its season is the first day's
 same-base :
@@ -67,18 +68,18 @@ long :
     (e : tie.After-day-len Inv-loop μ-loop)
     → let a = e .before .before .before .before .before .before .before .before .args in
     let at = e .before .before .loop in
-    length (take (at .at + e .day-len .result - at .at) (drop (at .at) (a .series .now))) ≡ dayLen (yearRun (a .year)) (at .d)
+    length (take (at .at + e .day-len .result - at .at) (drop (at .at) (a .series .now))) ≡ dayLen (Year (a .year)) (at .d)
 long e =
     let a = e .before .before .before .before .before .before .before .before .args in
     let at = e .before .before .loop in
-    cut-long (yearRun (a .year)) (a .series .now) (at .d) {size = at .at + e .day-len .result - at .at} (at .inv .3) (omega arith) (omega (arith, room e))
+    cut-long (Year (a .year)) (a .series .now) (at .d) {size = at .at + e .day-len .result - at .at} (at .inv .3) (omega arith) (omega (arith, room e))
 
 plain-day-requires : tie.Need-plain-day-requires Inv-loop μ-loop
 plain-day-requires c κs =
     let e = c .before .before in
     let a = e .before .before .before .before .before .before .before .before .args in
     let at = e .before .before .loop in
-    (omega (arith, long e, len-most (yearRun (a .year)) (at .d)), omega (arith, at .inv .4, within (e .before)))
+    (omega (arith, long e, len-most (Year (a .year)) (at .d)), omega (arith, at .inv .4, within (e .before)))
 
 take-fit-requires : tie.Need-take-fit-requires Inv-loop μ-loop
 take-fit-requires c κs =
@@ -103,7 +104,7 @@ loop-again c =
     let a = e .before .before .before .before .before .before .before .before .args in
     let at = e .before .before .loop in
     let size = at .at + e .day-len .result - at .at in
-    let run = yearRun (a .year) in
+    let run = Year (a .year) in
     let counts : ℕ → ℕ → Bool = λ k. countsOn (a .year) (getD (a .carrying .now) k false) (a .windows .now) k in
     let part = cut-at run (a .series .now) (at .d) {size = size} (at .inv .3) (omega arith) in
     let taken : Figures → Figures = λ f. takenIn f (at .d + 1) (recordOf run counts (at .d) (alone (take size (drop (at .at) (a .series .now))))) in

@@ -6,11 +6,11 @@ use native.Mathlib.Omega.{arith}
 use borrow.Author.Needs.{needs}
 use lib.ListN.{length}
 use Rattle.dates.specs.Dates.{yearDays}
+use Rattle.readings.specs.declared.Run.the-variants.{Year}
 use Rattle.readings.specs.Runs.{dayStart, runReadings}
 use Rattle.readings.proofs.Runs.{start-none}
 use Rattle.figures.proofs.Taken.{figures-none}
 use Rattle.day_figures.specs.declared.YearFigures.the-variants.{All}
-use Rattle.day_figures.specs.Counts.{yearRun}
 use Rattle.day_figures.specs.Day.{dayMost}
 use Rattle.day_figures.specs.Year.{figuresIn}
 use Rattle.day_figures.proofs.Years.{year-none, year-all}
@@ -19,13 +19,13 @@ use Rattle.day_figures.proofs.year_figures.Tie as tie
 
 abbrev Inv-loop : tie.InvT-loop
 Inv-loop year carrying windows series figures₀ at₀ d₀ figures at d =
-    (d ≤ yearDays year) × (at ≡ dayStart (yearRun year) d) × (figures ≡ figuresIn year carrying windows series d) × (figures .sum ≤ dayMost * d)
+    (d ≤ yearDays year) × (at ≡ dayStart (Year year) d) × (figures ≡ figuresIn year carrying windows series d) × (figures .sum ≤ dayMost * d)
 
 abbrev μ-loop : tie.MeasureT-loop
 μ-loop year carrying windows series figures₀ at₀ d₀ figures at d = yearDays year - d
 
 -- the series has the year's length
-long : (e : tie.Else1 Inv-loop μ-loop) → let a = e .before .before .before .args in length (a .series .now) ≡ runReadings (yearRun (a .year))
+long : (e : tie.Else1 Inv-loop μ-loop) → let a = e .before .before .before .args in length (a .series .now) ≡ runReadings (Year (a .year))
 long e = omega arith
 
 take-month-requires : tie.Need-take-month-requires Inv-loop μ-loop

@@ -5,15 +5,16 @@ use Prim.Native.Nat.{_≤_, _-_}
 use native.Mathlib.Omega.{arith}
 use borrow.Author.Needs.{needs}
 use Rattle.periods.specs.Period.{periodDays}
+use Rattle.readings.specs.declared.Run.the-variants.{Period}
 use Rattle.readings.specs.Runs.{dayStart}
 use Rattle.readings.proofs.Runs.{start-none}
-use Rattle.grid_curves.specs.Curves.{periodRun, flatCurves}
+use Rattle.grid_curves.specs.Curves.{flatCurves}
 use Rattle.grid_curves.proofs.Curves.{curves-none}
 use Rattle.grid_curves.proofs.collect.Statement.{statement}
 use Rattle.grid_curves.proofs.collect.Tie as tie
 
 abbrev Inv-loop : tie.InvT-loop
-Inv-loop year series days curves₀ at₀ d₀ curves at d = (days ≡ periodDays year) × (d ≤ days) × (at ≡ dayStart (periodRun year) d) × (curves ≡ flatCurves year series d)
+Inv-loop year series days curves₀ at₀ d₀ curves at d = (days ≡ periodDays year) × (d ≤ days) × (at ≡ dayStart (Period year) d) × (curves ≡ flatCurves year series d)
 
 abbrev μ-loop : tie.MeasureT-loop
 μ-loop year series days curves₀ at₀ d₀ curves at d = days - d

@@ -5,14 +5,14 @@ use Prim.Native.Nat.{min}
 use native.Mathlib.Omega.{arith}
 use borrow.Author.Needs.{needs}
 use lib.ListN.{length, length-take}
+use Rattle.readings.specs.declared.Run.the-variants.{Period}
 use Rattle.readings.specs.Runs.{dayLen}
-use Rattle.grid_curves.specs.Curves.{periodRun}
 use Rattle.grid_curves.proofs.Curves.{merged-held}
 use Rattle.grid_curves.proofs.lay_day.Statement.{statement}
 use Rattle.grid_curves.proofs.lay_day.Tie as tie
 
 -- how many readings are laid
-many : (e : tie.After-smaller) → let a = e .before .before .before .args in e .smaller .result ≡ min (length (a .day .now)) (dayLen (periodRun (a .year)) (a .d))
+many : (e : tie.After-smaller) → let a = e .before .before .before .args in e .smaller .result ≡ min (length (a .day .now)) (dayLen (Period (a .year)) (a .d))
 many e = omega (arith, e .smaller .ensures, e .before .day-len .ensures)
 
 returns : tie.Need-returns

@@ -6,13 +6,14 @@ use native.Mathlib.Omega.{arith}
 use borrow.Author.Needs.{needs}
 use Rattle.periods.specs.Period.{periodDays, periodSeason, periodLeft}
 use Rattle.periods.proofs.Periods.{period-most, period-stays, period-room}
+use Rattle.readings.specs.declared.Run.the-variants.{Period}
 use Rattle.readings.specs.Runs.{dayStart}
-use Rattle.grid_curves.specs.Curves.{periodRun, flatCurves}
+use Rattle.grid_curves.specs.Curves.{flatCurves}
 use Rattle.grid_curves.proofs.lay_month.Statement.{statement}
 use Rattle.grid_curves.proofs.lay_month.Tie as tie
 
 abbrev Inv-loop : tie.InvT-loop
-Inv-loop curves₀ year from start series season end d₀ at₀ curves d at = (from ≤ d) × (d ≤ end) × (at ≡ dayStart (periodRun year) d) × (curves ≡ flatCurves year series d)
+Inv-loop curves₀ year from start series season end d₀ at₀ curves d at = (from ≤ d) × (d ≤ end) × (at ≡ dayStart (Period year) d) × (curves ≡ flatCurves year series d)
 
 abbrev μ-loop : tie.MeasureT-loop
 μ-loop curves₀ year from start series season end d₀ at₀ curves d at = end - d

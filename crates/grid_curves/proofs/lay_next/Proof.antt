@@ -9,9 +9,9 @@ use lib.ListN.{length, length-take, length-drop}
 use Rattle.over.proofs.Bools.{both}
 use Rattle.periods.specs.Period.{periodSeason}
 use Rattle.periods.proofs.Periods.{period-most, period-season-range}
+use Rattle.readings.specs.declared.Run.the-variants.{Period}
 use Rattle.readings.specs.Runs.{dayLen}
 use Rattle.readings.proofs.Runs.{start-more, start-most, start-formula, len-most}
-use Rattle.grid_curves.specs.Curves.{periodRun}
 use Rattle.grid_curves.specs.Four.{fourDays}
 use Rattle.grid_curves.proofs.Curves.{curves-held}
 use Rattle.grid_curves.proofs.Fours.{four-more}
@@ -21,7 +21,7 @@ use Rattle.grid_curves.proofs.lay_next.Tie as tie
 -- the readings before the day are few
 few : (s : tie.Start) → (s .args .at ≤ 36600) × (s .args .d < 366)
 few s = (
-  omega (arith, s .pre .3, start-most (periodRun (s .args .year)) (s .args .d), period-most (s .args .year)),
+  omega (arith, s .pre .3, start-most (Period (s .args .year)) (s .args .d), period-most (s .args .year)),
   omega (arith, period-most (s .args .year)),
 )
 
@@ -44,7 +44,7 @@ returns : tie.Need-returns
 returns c =
     let s = c .before .before .before .before .before in
     let a = s .args in
-    let run = periodRun (a .year) in
+    let run = Period (a .year) in
     let h = four (c .before .before .before) in (
       omega arith,
       omega arith,
@@ -56,7 +56,7 @@ returns c =
 
 -- the part of the series that holds the day's readings, as far as it does
 from-to : (e : tie.After-smaller2) → let a = e .before .before .before .before .before .args in
-    (e .before .smaller .result ≡ min (a .at) (length (a .series .now))) × (e .smaller2 .result ≡ min (a .at + dayLen (periodRun (a .year)) (a .d)) (length (a .series .now)))
+    (e .before .smaller .result ≡ min (a .at) (length (a .series .now))) × (e .smaller2 .result ≡ min (a .at + dayLen (Period (a .year)) (a .d)) (length (a .series .now)))
 from-to e = (e .before .smaller .ensures, omega (arith, e .smaller2 .ensures, e .before .before .day-len .ensures))
 
 lay-requires : tie.Need-lay-requires
@@ -75,7 +75,7 @@ returns-2 c =
     let h = from-to e in (
       omega arith,
       omega arith,
-      omega (arith, s .pre .3, e .before .before .day-len .ensures, start-more (periodRun (a .year)) (a .d)),
+      omega (arith, s .pre .3, e .before .before .day-len .ensures, start-more (Period (a .year)) (a .d)),
       c .lay .ensures ∙ curves-held (a .year) (a .series .now) (a .d) (s .pre .3) (h .0) (h .1) (s .pre .4),
     )
 
@@ -93,7 +93,7 @@ lay-next-spec =
     (λ c. let h = few (c .before .before .before .before .before) in omega arith)  -- add-t24
     returns
     (λ c κs. search needs)  -- day-len-requires
-    (λ c. let h = few (c .before .before .before) in let l = len-most (periodRun (c .before .before .before .args .year)) (c .before .before .before .args .d) in omega (arith, c .day-len .ensures))  -- add-next
+    (λ c. let h = few (c .before .before .before) in let l = len-most (Period (c .before .before .before .args .year)) (c .before .before .before .args .d) in omega (arith, c .day-len .ensures))  -- add-next
     (λ c κs. search needs)  -- smaller-requires
     (λ c κs. search needs)  -- smaller-requires-2
     (λ c. search needs)  -- mul-lay

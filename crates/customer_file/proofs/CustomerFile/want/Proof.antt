@@ -4,9 +4,9 @@ use mathlib.Core.Path.{sym, ap, _∙_}
 use Prim.Native.Nat.{ℕ, _*_}
 use native.Mathlib.Omega.{arith}
 use borrow.Author.Needs.{needs}
-use Rattle.day_figures.specs.Counts.{yearRun}
 use Rattle.customer_head.specs.declared.Span.{Span}
 use Rattle.customer_file.specs.CustomerMachine.{customerReader}
+use Rattle.readings.specs.declared.Run.the-variants.{Year}
 use Rattle.readings.proofs.Runs.{len-most}
 use Rattle.customer_head.proofs.CustomerLayout.{fits}
 use Rattle.fields.proofs.Machine.{wants-field, wants-day, wants-end, wants-none}
@@ -21,7 +21,7 @@ returns c =
     (w ∙ wants-field customerReader s (sym (c .before .before .before .before .before .is-going .ensures) ∙ c .before .before .before .before .if1 .taken) (f .field (omega (arith, w))), omega (arith, w, f .few))
 
 mul-result : tie.Need-mul-result
-mul-result c = let s = c .before .before .before .before .before .before .before .before .before .args .self in omega (arith, len-most (yearRun (s .customer .terms .year)) (s .customer .seen))
+mul-result c = let s = c .before .before .before .before .before .before .before .before .before .args .self in omega (arith, len-most (Year (s .customer .terms .year)) (s .customer .seen))
 
 returns-2 : tie.Need-returns-2
 returns-2 c =
@@ -29,7 +29,7 @@ returns-2 c =
     let w = ap (λ (x : Span). x .width) (c .before .before .before .before .span-of .ensures) in (
       ap (λ (n : ℕ). 4 * n) (c .day-len .ensures)
           ∙ wants-day customerReader s (sym (c .before .before .before .before .before .before .before .before .is-going .ensures) ∙ c .before .before .before .before .before .before .before .if1 .taken) (fits (s .head) (s .field) .none (omega (arith, w))) (omega arith),
-      omega (arith, len-most (yearRun (s .customer .terms .year)) (s .customer .seen)),
+      omega (arith, len-most (Year (s .customer .terms .year)) (s .customer .seen)),
     )
 
 returns-3 : tie.Need-returns-3

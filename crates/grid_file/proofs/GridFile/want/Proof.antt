@@ -1,10 +1,10 @@
 -- `grid_file::GridFile::want` meets its contract, a case for each return.
 -- Assumes nothing.
-use Rattle.grid_curves.specs.Curves.{periodRun}
 use mathlib.Core.Path.{sym, ap, _∙_}
 use Prim.Native.Nat.{ℕ, _*_}
 use native.Mathlib.Omega.{arith}
 use borrow.Author.Needs.{needs}
+use Rattle.readings.specs.declared.Run.the-variants.{Period}
 use Rattle.readings.proofs.Runs.{len-most}
 use Rattle.fields.proofs.Machine.{wants-none, wants-field, wants-day, wants-end}
 use Rattle.grid_file.specs.GridMachine.{gridReader}
@@ -18,13 +18,13 @@ returns c =
     (c .width .ensures .0 ∙ wants-field gridReader s (sym (c .before .before .before .before .before .is-going .ensures) ∙ c .before .before .before .before .if1 .taken) (omega (arith, grid-count (s .head))), omega (arith, c .width .ensures .1))
 
 mul-result : tie.Need-mul-result
-mul-result c = let s = c .before .before .before .before .before .before .args .self in omega (arith, c .day-len .ensures, len-most (periodRun (s .grid .year)) (s .grid .seen))
+mul-result c = let s = c .before .before .before .before .before .before .args .self in omega (arith, c .day-len .ensures, len-most (Period (s .grid .year)) (s .grid .seen))
 
 returns-2 : tie.Need-returns-2
 returns-2 c =
     let s = c .before .before .before .before .before .before .args .self in (
       ap (λ (n : ℕ). 4 * n) (c .day-len .ensures) ∙ wants-day gridReader s (sym (c .before .before .before .before .before .is-going .ensures) ∙ c .before .before .before .before .if1 .taken) (omega (arith, grid-count (s .head))) (omega (arith, c .before .before .period-days .ensures)),
-      omega (arith, c .day-len .ensures, len-most (periodRun (s .grid .year)) (s .grid .seen)),
+      omega (arith, c .day-len .ensures, len-most (Period (s .grid .year)) (s .grid .seen)),
     )
 
 returns-3 : tie.Need-returns-3
