@@ -1,8 +1,4 @@
-#!/usr/bin/env python3
-"""Makes the records that crates/calendar_cases reads, and what it must print, from Python's datetime and document 01.
-
-Run at the project's root:  tests/calendar_cases.py          writes crates/calendar_cases/stdin and stdout
-                            tests/calendar_cases.py --check  says whether the two files are what it would write
+"""The calendar's records and what crates/cases must print of them, from Python's datetime and document 01: a part of tests/cases.py.
 
 It knows nothing of the code under test: weekdays and dates are datetime's, a week is the seven dates from a Monday on, and
 the days that carry windows are worked out week by week, as the paper tells them.
@@ -13,7 +9,6 @@ import random
 import struct
 
 from dates import date, day_of, days_of, free_by_others, legal_list, nationwide, yday
-from kept import keep
 
 DAYS = range(368)  # day 0 and the days past the year's end too
 SEASON = {12: 1, 1: 1, 2: 1, 3: 2, 4: 2, 5: 2, 6: 3, 7: 3, 8: 3, 9: 4, 10: 4, 11: 4}
@@ -152,12 +147,9 @@ def cases():
                 yield "D", year, day, listed
 
 
-def made():
-    records, lines = b"", []
-    for kind, year, day, holidays in cases():
-        records += record(kind, year, day, holidays)
-        lines += whole_year(year, holidays) if kind == "Y" else whole_list(year, holidays) if kind == "L" else one_day(year, holidays, day)
-    return records, ("\n".join(lines) + "\n").encode()
+def lines(kind, year, day, holidays):
+    return whole_year(year, holidays) if kind == "Y" else whole_list(year, holidays) if kind == "L" else one_day(year, holidays, day)
 
 
-keep("crates/calendar_cases", dict(zip(("stdin", "stdout"), made())))
+def records():
+    return {"lists": [(record(*case), lines(*case)) for case in cases()]}

@@ -1,18 +1,13 @@
-#!/usr/bin/env python3
-"""Makes the records that crates/customer_cases reads, and what it must print, from document 01's "Customer's year and decision".
-
-Run at the project's root:  tests/customer_cases.py          writes crates/customer_cases/stdin and stdout, and counts the records of each kind
-                            tests/customer_cases.py --check  says whether the two files are what it would write
+"""The customer's records and what crates/cases must print of them, from document 01's "Customer's year and decision": a part of
+tests/cases.py.
 
 It knows nothing of the code under test. tests/year.py works a decision out in two ways: `whole` from the places of a whole series, `Days`
 along the days; where all days were taken, the two are held against each other.
 """
-import collections
 import itertools
 import random
 import struct
 
-from kept import keep
 from recipes import MOST, Patch, any_places, offered, series_of
 from year import LIMITS, MISSING, READING_MOST, SEASON, SHARE, USUAL, YEARS, Days, Terms, carrying_by_weeks, date, days_of, nationwide, opening
 from year import sheet_bytes, whole, yday
@@ -56,7 +51,7 @@ def answered(days, series, call):
 
 def record(length, base, patches, calls):
     assert len(patches) < 256 and len(calls) < 256
-    data = b"S" + struct.pack(">HIBB", length, base, len(patches), len(calls))
+    data = b"C" + struct.pack(">HIBB", length, base, len(patches), len(calls))
     data += b"".join(struct.pack(">HHHIHH", *p) for p in patches) + b"".join(map(call_bytes, calls))
     series, days = series_of(length, base, patches), Days()
     lines = [("S", length)] + [line for call in calls for line in answered(days, series, call)]
@@ -526,12 +521,7 @@ KINDS = (
     printed, zeros, no_windows, free_days_high, stairs, cold_store, holidays_move, year_ends, seasons, one_season, edges_of_day, ties,
     thresholds, bad_readings, lengths, alone, order, refused_openings, refused_days, other_order, early_and_twice, every_year, chance,
 )
-made = {kind.__name__: [record(*case) for case in kind()] for kind in KINDS}
-records = [one_made for part in made.values() for one_made in part]
-lines = [line for _, lines in records for line in lines]
-keep("crates/customer_cases", {
-    "stdin": b"".join(data for data, _ in records),
-    "stdout": "".join(line + "\n" for line in lines).encode(),
-})
-print(len(records), {name: len(part) for name, part in made.items()})
-print("first words", dict(sorted(collections.Counter(" ".join(line.split()[:2]) for line in lines if line[0] in "WOCP").items())))
+
+
+def records():
+    return {kind.__name__: [record(*case) for case in kind()] for kind in KINDS}

@@ -1,8 +1,5 @@
-#!/usr/bin/env python3
-"""Makes the records that crates/grid_cases reads, and what it must print, from Python's datetime and document 01's "High-load windows".
-
-Run at the project's root:  tests/grid_cases.py          writes crates/grid_cases/stdin and stdout, and says how many records of each kind
-                            tests/grid_cases.py --check  says whether the two files are what it would write
+"""The grid's records and what crates/cases must print of them, from Python's datetime and document 01's "High-load windows": a part of
+tests/cases.py.
 
 It knows nothing of the code under test. tests/grid.py works the windows out in two ways, from a whole series and along the days; where all
 days were taken, the two are held against each other.
@@ -12,7 +9,6 @@ import struct
 
 import grid
 from grid import GRID_MOST as LIMIT, Days, kept_of, period, place
-from kept import keep
 from recipes import MOST, Patch, any_places, offered, series_of
 from year import YEARS, sheet_bytes
 
@@ -55,7 +51,7 @@ WIDTHS = {"W": ">HBB", "O": ">HB", "D": ">HH", "P": ">HH", "C": ">B"}
 def record(length, base, patches, calls):
     """The record's bytes and its lines."""
     assert length <= MOST and len(patches) < 256 and len(calls) < 256
-    data = b"S" + struct.pack(">HIBB", length, base, len(patches), len(calls))
+    data = b"G" + struct.pack(">HIBB", length, base, len(patches), len(calls))
     data += b"".join(struct.pack(">HHHIHH", *patch) for patch in patches)
     series = series_of(length, base, patches)
     days = Days()
@@ -369,10 +365,7 @@ KINDS = (
     printed, boundaries, at_line, cut, equal, alone, weekends, bad, missing, zero, lengths, rooms, order, refused_days, other_order, early,
     refused_openings, twice, chance,
 )
-made = {kind.__name__: [record(*case) for case in kind()] for kind in KINDS}
-records = [one_made for part in made.values() for one_made in part]
-keep("crates/grid_cases", {
-    "stdin": b"".join(data for data, _ in records),
-    "stdout": "".join(line + "\n" for _, lines in records for line in lines).encode(),
-})
-print(len(records), {name: len(part) for name, part in made.items()})
+
+
+def records():
+    return {kind.__name__: [record(*case) for case in kind()] for kind in KINDS}

@@ -1,15 +1,9 @@
-#!/usr/bin/env python3
-"""Makes the records that crates/sheet_cases reads, and what it must print, from document 01's "Window sheet".
-
-Run at the project's root:  tests/sheet_cases.py          writes crates/sheet_cases/stdin and stdout
-                            tests/sheet_cases.py --check  says whether the two files are what it would write
+"""The sheet's records and what crates/cases must print of them, from document 01's "Window sheet": a part of tests/cases.py.
 
 It knows nothing of the code under test. A sheet is put together as one large number of bits, and taken apart from a string of bits.
 """
 import random
 import struct
-
-from kept import keep
 
 FILL = 170  # what the lent bytes hold before a writing
 ROOM = 64
@@ -51,12 +45,12 @@ def read_sheet(data):
 
 
 def writing(year, level, chosen, room):
-    """The record and its line."""
+    """The record and its lines."""
     record = b"W" + struct.pack(">HBBH", year, level, room, len(chosen)) + b"".join(bytes((s - 1, q)) for s, q in chosen)
     number = write_answer(year, level, chosen, room)
     lent = bytes([FILL] * ROOM)
     after = sheet_bytes(year, level, chosen) + lent[56:] if number == 0 else lent
-    return record, f"W {number} {after.hex()}"
+    return record, [f"W {number} {after.hex()}"]
 
 
 def reading(data):
@@ -64,7 +58,7 @@ def reading(data):
     # beside a refusal stands one fixed sheet: year 0, level 0, no window
     year, level, chosen = meaning or (0, 0, [])
     line = f"R {number} {year} {level}" + "".join(f" {s}:{q}" for s, q in sorted(chosen))
-    return b"R" + bytes([len(data)]) + data, line
+    return b"R" + bytes([len(data)]) + data, [line]
 
 
 def cases():
@@ -112,8 +106,5 @@ def cases():
         yield reading(full[:i] + bytes([full[i] | 1]) + full[i + 1:])
 
 
-made = list(cases())
-keep("crates/sheet_cases", {
-    "stdin": b"".join(record for record, _ in made),
-    "stdout": "".join(line + "\n" for _, line in made).encode(),
-})
+def records():
+    return {"sheets": list(cases())}

@@ -1,18 +1,13 @@
-#!/usr/bin/env python3
-"""Makes the records that crates/tariff_cases reads, and what it must print, from document 01's "Customer's year and decision".
-
-Run at the project's root:  tests/tariff_cases.py          writes crates/tariff_cases/stdin and stdout, and says how many records of each kind
-                            tests/tariff_cases.py --check  says whether the two files are what it would write
+"""The records of figures and what crates/cases must print of them, from document 01's "Customer's year and decision": a part of
+tests/cases.py.
 
 It knows nothing of the code under test. tests/year.py has the rules, each in two ways that are held against each other; the two halves of the
 decision stand here, and their row is held against the decision there.
 """
-import collections
 import itertools
 import random
 import struct
 
-from kept import keep
 from year import LIMITS, PART, SHARE, USUAL, Set, charge_by_units, charges, few_hours, floor_of, judge, prices_out
 from year import share_by_units, share_reached
 
@@ -317,11 +312,7 @@ def chance():
 KINDS = (
     starred, share, moved, reduction, hours, rounding, rounded_once, floors, odd_peaks, options, prices, levels, order, extreme, chance,
 )
-sets = {kind.__name__: list(kind()) for kind in KINDS}
-records = [record(s) for part in sets.values() for s in part]
-keep("crates/tariff_cases", {
-    "stdin": b"".join(data for data, _ in records),
-    "stdout": "".join(line + "\n" for _, lines in records for line in lines).encode(),
-})
-print(len(records), {name: len(part) for name, part in sets.items()})
-print("judged", dict(sorted(collections.Counter(judge(s)[0] for part in sets.values() for s in part).items())))
+
+
+def records():
+    return {kind.__name__: [record(s) for s in kind()] for kind in KINDS}

@@ -1,0 +1,126 @@
+// A customer's year, whole and by days: calls on a series (series.rt). Numbers have 16 bits where nothing else is said.
+// Each call prints a line: its letter, the answer's number, and what it carries in the order of document 01's table.
+//   A  terms: sheet's length (a byte, at most 64) and bytes, count of holidays (a byte, at most 64) and holidays, the
+//      low row's capacity price and energy price, then the high row's (32 bits each), option (a byte). The decision
+//      over the whole series (W), and an opening (O).
+//   D  day (from 1), count: as many days of the series from that day on, until one is refused. The days taken stand
+//      before the number.
+//   P  place, length: that part of the series as a day.
+//   C  a closing, which leaves the state to the calls after it.
+// tests/customer_cases.py makes them, and what must come of them.
+ghost use Prim.Native.Nat.{_<_};
+use super::input;
+use super::output;
+use super::series;
+use super::tariffs::next_prices;
+use super::tariffs::write_answer;
+use customer::Customer;
+use tariff::Decision;
+use tariff::Prices;
+use tariff::Row;
+
+// The state after some days, how many of them were taken, and what the last one offered was answered.
+struct Offered {
+    customer: Customer,
+    taken: u16,
+    answer: Decision,
+}
+
+// A: the whole series, and an opening under the same terms.
+fn ask(series: &[u32]) -> Customer {
+    let len = input::room();
+    let sheet = input::bytes(len);
+    let count = input::room();
+    let holidays = input::list(count);
+    let prices = next_prices();
+    let option = input::yes();
+    write_answer(
+        b'W',
+        customer::decide(&sheet[0..len], &holidays[0..count], prices, option, series),
+    );
+    let opened = Customer::open(&sheet[0..len], &holidays[0..count], prices, option);
+    let answer = opened.answer;
+    write_answer(b'O', answer);
+    opened.customer
+}
+
+// Days one after the other, until one is refused.
+fn offer(series: &[u32], customer: Customer, first: usize, count: u16) -> Offered
+    requires { ⌜ first < 65536 ⌝ }
+{
+    let mut state = customer;
+    for k in 0..count {
+        let stepped = state.day(readings::day_part(series, first + k as usize));
+        let answer = stepped.answer;
+        state = stepped.customer;
+        let Decision::Taken = answer else {
+            return Offered {
+                customer: state,
+                taken: k,
+                answer,
+            };
+        };
+    }
+    Offered {
+        customer: state,
+        taken: count,
+        answer: Decision::Taken,
+    }
+}
+
+// D: days of the series.
+fn days(series: &[u32], customer: Customer) -> Customer {
+    let first = input::size();
+    let offered = offer(series, customer, first, input::two());
+    let answer = offered.answer;
+    output::letter(b'D');
+    output::next(offered.taken as u64);
+    output::answer(figured::of_decision(answer));
+    output::end();
+    offered.customer
+}
+
+// P: a part of the series as a day, whatever its length.
+fn part(series: &[u32], customer: Customer) -> Customer {
+    let stepped = customer.day(series::part(series));
+    let answer = stepped.answer;
+    write_answer(b'P', answer);
+    stepped.customer
+}
+
+// C: a closing.
+fn closing(customer: Customer) -> Customer {
+    write_answer(b'C', customer.close());
+    customer
+}
+
+fn one_call(series: &[u32], customer: Customer) -> Customer {
+    let kind = input::byte();
+    match kind {
+        b'A' => ask(series),
+        b'D' => days(series, customer),
+        b'P' => part(series, customer),
+        _ => closing(customer),
+    }
+}
+
+// The calls of a record: the first ones, up to an opening, are made on a state that was refused.
+pub(crate) fn all_calls(series: &[u32], count: u8) {
+    let none = Row {
+        capacity: 0,
+        energy: 0,
+    };
+    let refused = Customer::open(
+        &[],
+        &[],
+        Prices {
+            low: none,
+            high: none,
+        },
+        false,
+    );
+    let mut customer = refused.customer;
+    for k in 0..count {
+        customer = one_call(series, customer);
+    }
+}

@@ -1,0 +1,135 @@
+// The grid's windows, whole and by days: calls on a series (series.rt). Level and room are a byte, other numbers have
+// 16 bits. Each call prints a line: its letter and a number, for 5 with day and position.
+//   W  year, level, room: the whole series, with the first `room` of 64 bytes that hold 170. All 64 bytes stand behind
+//      the number.
+//   O  year, level: an opening, with no day before the first.
+//   D  day (from 1), count: as many days of the series from that day on, until one is refused. The days taken stand
+//      before the number.
+//   P  place, length: that part of the series as a day.
+//   C  room: a closing, which leaves the state to the calls after it. All 64 bytes stand behind the number.
+// tests/grid_cases.py makes them, and what must come of them.
+ghost use Prim.Native.Nat.{_<_};
+use super::input;
+use super::input::ROOM;
+use super::output;
+use super::series;
+use grid::Grid;
+use grid::GridAnswer;
+
+// The state after some days, how many of them were taken, and what the last one offered was answered.
+struct Offered {
+    grid: Grid,
+    taken: u16,
+    answer: GridAnswer,
+}
+
+fn write_number(answer: GridAnswer) {
+    output::answer(grid_flat::of_answer(answer));
+}
+
+fn write_answer(call: u8, answer: GridAnswer) {
+    output::letter(call);
+    write_number(answer);
+    output::end();
+}
+
+// What a call that was lent a buffer did.
+fn write_sheet(call: u8, answer: GridAnswer, buffer: [u8; ROOM]) {
+    output::letter(call);
+    write_number(answer);
+    output::bytes(buffer);
+    output::end();
+}
+
+// W: the whole series. The state of the days is handed on.
+fn whole(series: &[u32], grid: Grid) -> Grid {
+    let year = input::two();
+    let level = input::byte();
+    let room = input::room();
+    let mut buffer = [170u8; ROOM];
+    let answer = grid::windows(year, level, series, &mut buffer[0..room]);
+    write_sheet(b'W', answer, buffer);
+    grid
+}
+
+// O: an opening.
+fn opening() -> Grid {
+    let year = input::two();
+    let opened = Grid::open(year, input::byte());
+    let answer = opened.answer;
+    write_answer(b'O', answer);
+    opened.grid
+}
+
+// Days one after the other, until one is refused.
+fn offer(series: &[u32], grid: Grid, first: usize, count: u16) -> Offered
+    requires { ⌜ first < 65536 ⌝ }
+{
+    let mut state = grid;
+    for k in 0..count {
+        let stepped = state.day(readings::day_part(series, first + k as usize));
+        let answer = stepped.answer;
+        state = stepped.grid;
+        let GridAnswer::Done = answer else {
+            return Offered {
+                grid: state,
+                taken: k,
+                answer,
+            };
+        };
+    }
+    Offered {
+        grid: state,
+        taken: count,
+        answer: GridAnswer::Done,
+    }
+}
+
+// D: days of the series.
+fn days(series: &[u32], grid: Grid) -> Grid {
+    let first = input::size();
+    let offered = offer(series, grid, first, input::two());
+    let answer = offered.answer;
+    output::letter(b'D');
+    output::next(offered.taken as u64);
+    write_number(answer);
+    output::end();
+    offered.grid
+}
+
+// P: a part of the series as a day, whatever its length.
+fn part(series: &[u32], grid: Grid) -> Grid {
+    let stepped = grid.day(series::part(series));
+    let answer = stepped.answer;
+    write_answer(b'P', answer);
+    stepped.grid
+}
+
+// C: a closing.
+fn closing(grid: Grid) -> Grid {
+    let room = input::room();
+    let mut buffer = [170u8; ROOM];
+    let answer = grid.close(&mut buffer[0..room]);
+    write_sheet(b'C', answer, buffer);
+    grid
+}
+
+fn one_call(series: &[u32], grid: Grid) -> Grid {
+    let kind = input::byte();
+    match kind {
+        b'W' => whole(series, grid),
+        b'O' => opening(),
+        b'D' => days(series, grid),
+        b'P' => part(series, grid),
+        _ => closing(grid),
+    }
+}
+
+// The calls of a record: the first ones, up to an opening, are made on a state that was refused.
+pub(crate) fn all_calls(series: &[u32], count: u8) {
+    let refused = Grid::open(0, 0);
+    let mut grid = refused.grid;
+    for k in 0..count {
+        grid = one_call(series, grid);
+    }
+}

@@ -1,0 +1,84 @@
+// The rules over a year's figures. A record:
+//   T  M (32 bits), S (64 bits), is there an in-window quarter (a byte), H (32 bits), its day (16 bits) and quarter (a
+//      byte), level (a byte), the low row's capacity price and energy price, then the high row's (32 bits each), option
+//      (a byte)
+// It prints a line for each call: the answer's number, and what it carries in the order of document 01's table.
+//   P  prices_out: 1 for yes, 0 for no
+//   E  eligible
+//   C  charge
+//   J  judge
+// tests/tariff_cases.py makes them, and what must come of them.
+use super::input;
+use super::output;
+use tariff::Decision;
+use tariff::Figures;
+use tariff::Prices;
+use tariff::Rates;
+use tariff::Row;
+
+fn next_figures() -> Figures {
+    let peak = input::four();
+    let sum = input::eight();
+    let any = input::yes();
+    let high = input::four();
+    let day = input::two();
+    let quarter = input::byte();
+    Figures {
+        peak,
+        sum,
+        any,
+        high,
+        day,
+        quarter,
+    }
+}
+
+fn next_row() -> Row {
+    let capacity = input::four();
+    let energy = input::four();
+    Row { capacity, energy }
+}
+
+pub(crate) fn next_prices() -> Prices {
+    let low = next_row();
+    let high = next_row();
+    Prices { low, high }
+}
+
+// The record has no year: no rule looks at it.
+fn next_rates() -> Rates {
+    let level = input::byte();
+    let prices = next_prices();
+    let option = input::yes();
+    Rates {
+        year: 2025,
+        level,
+        option,
+        prices,
+    }
+}
+
+// A call's letter, then its answer.
+pub(crate) fn write_answer(call: u8, answer: Decision) {
+    output::letter(call);
+    output::answer(figured::of_decision(answer));
+    output::end();
+}
+
+fn write_prices(out: bool) {
+    if out {
+        output::text(b"P 1\n");
+    } else {
+        output::text(b"P 0\n");
+    }
+}
+
+// T: one set of figures.
+pub(crate) fn one_set() {
+    let figures = next_figures();
+    let rates = next_rates();
+    write_prices(charges::prices_out(rates.prices));
+    write_answer(b'E', decision::eligible(figures, rates));
+    write_answer(b'C', decision::charge(figures, rates));
+    write_answer(b'J', decision::judge(figures, rates));
+}
