@@ -1,12 +1,18 @@
-// Prices and charges of a year's figures: document 01, Customer's year and decision. Any figures and any prices have an answer.
+// Prices and charges of a year's figures: document 01, Customer's year and decision. Any figures and any prices have an
+// answer.
 ghost use mathlib.Core.Path.{_≡_};
 ghost use Prim.Native.Nat.{_≤_, max};
 ghost use Rattle.tariff.specs.Prices.{rowOut, pricesOut, LegalRow, LegalPrices};
-ghost use Rattle.tariff.specs.Charges.{fewHours, rowOf, chargeFor, chargeMost, reduced, floorOf, generalIn, flooredIn};
+ghost use Rattle.tariff.specs.Charges.{fewHours, rowOf, chargeFor, chargeMost, general, reduced, floorOf};
+ghost use Rattle.tariff.specs.Answers.{saidOfGeneral, saidOfFloored};
+ghost use Rattle.tariff.specs.Decision.{generalAnswer, flooredAnswer};
 use tariff::Figures;
+use tariff::Floored;
+use tariff::General;
 use tariff::Prices;
 use tariff::Rates;
 use tariff::Row;
+use tariff::TwoCharges;
 
 // Below 2,500 hours of use: the sum of the quarter means is below 10,000 times the peak.
 const ROW_QUARTERS: u64 = 10_000;
@@ -36,11 +42,11 @@ pub fn prices_out(prices: Prices) -> bool
     row_out(low) | row_out(high)
 }
 
-// A charge for a capacity figure, rounded once. The sum is split at the parts of a cent, so that no product is too large, whatever the
-// sum: the whole multiples need no rounding.
+// A charge for a capacity figure, rounded once. The sum is split at the parts of a cent, so that no product is too
+// large, whatever the sum: the whole multiples need no rounding.
 fn charge_for(power: u32, row: Row, sum: u64) -> u64
     requires { ⌜ LegalRow row ⌝ }
-    ensures { λ r. ⌜ (r ≡ chargeFor power row sum) × (r ≤ chargeMost) ⌝ }
+    ensures { λ r. ⌜ r ≡ chargeFor power row sum ⌝ }
 {
     let l = row.capacity as u64;
     let a = row.energy as u64;
@@ -67,47 +73,58 @@ fn row_of(prices: Prices, low: bool) -> Row
     row
 }
 
-// The charge for the annual peak. The customer's option does not enter: the reduction is measured from this charge. No charge is named
-// where a price is out of its range: any figures and any list have an answer, and then it is 0.
-pub fn general_charge(figures: Figures, rates: Rates) -> u64
-    ensures { λ r. ⌜ (r ≡ generalIn figures rates) × (r ≤ chargeMost) ⌝ }
+// For the annual peak. The customer's option does not enter: the reduction is measured from this charge.
+fn general_cents(figures: Figures, rates: Rates) -> u64
+    requires { ⌜ LegalPrices (rates .prices) ⌝ }
+    ensures { λ r. ⌜ r ≡ general figures rates ⌝ }
 {
     let prices = rates.prices;
-    if prices_out(prices) {
-        return 0;
-    }
     let row = row_of(prices, few_hours(figures));
     charge_for(figures.peak, row, figures.sum)
 }
 
-// For the in-window peak, in the same row; the option leaves the low row for the high one, and at 2,500 hours changes nothing.
-fn reduced_charge(figures: Figures, rates: Rates) -> u64
+// For the in-window peak, in the same row; the option leaves the low row for the high one, and at 2,500 hours changes
+// nothing.
+fn reduced_cents(figures: Figures, rates: Rates) -> u64
     requires { ⌜ LegalPrices (rates .prices) ⌝ }
-    ensures { λ r. ⌜ (r ≡ reduced figures rates) × (r ≤ chargeMost) ⌝ }
+    ensures { λ r. ⌜ r ≡ reduced figures rates ⌝ }
 {
     let prices = rates.prices;
     let row = row_of(prices, few_hours(figures) & !rates.option);
     charge_for(figures.high, row, figures.sum)
 }
 
-// The larger of reduced charge and floor. The floor is one fifth, rounded up: rounded down it would undercut the statutory floor by a
-// cent.
+// The larger of reduced charge and floor. The floor is one fifth, rounded up: rounded down it would undercut the
+// statutory floor by a cent.
 fn with_floor(r: u64, g: u64) -> u64
-    requires { ⌜ (r ≤ chargeMost) × (g ≤ chargeMost) ⌝ }
-    ensures { λ c. ⌜ (c ≡ max r (floorOf g)) × (c ≤ chargeMost) ⌝ }
+    requires { ⌜ g ≤ chargeMost ⌝ }
+    ensures { λ c. ⌜ c ≡ max r (floorOf g) ⌝ }
 {
     let f = (g + (FLOOR_PARTS - 1)) / FLOOR_PARTS;
     if r < f { f } else { r }
 }
 
-// The charge of an eligible customer: the larger of reduced charge and floor. 0 where a price is out of its range, as above.
-pub fn floored_charge(figures: Figures, rates: Rates) -> u64
-    ensures { λ r. ⌜ (r ≡ flooredIn figures rates) × (r ≤ chargeMost) ⌝ }
+// The general charge, or 6. Any figures and any rates have an answer.
+pub fn general_charge(figures: Figures, rates: Rates) -> General
+    ensures { λ r. ⌜ saidOfGeneral r ≡ generalAnswer figures rates ⌝ }
 {
     let prices = rates.prices;
     if prices_out(prices) {
-        return 0;
+        return General::PriceOut;
     }
-    let r = reduced_charge(figures, rates);
-    with_floor(r, general_charge(figures, rates))
+    General::Cents(general_cents(figures, rates))
+}
+
+// The charge of an eligible customer, the larger of reduced charge and floor, beside the general charge; or 6. Who asks
+// for both asks here, once. Any figures and any rates have an answer.
+pub fn floored_charge(figures: Figures, rates: Rates) -> Floored
+    ensures { λ r. ⌜ saidOfFloored r ≡ flooredAnswer figures rates ⌝ }
+{
+    let prices = rates.prices;
+    if prices_out(prices) {
+        return Floored::PriceOut;
+    }
+    let general = general_cents(figures, rates);
+    let charge = with_floor(reduced_cents(figures, rates), general);
+    Floored::Cents(TwoCharges { charge, general })
 }

@@ -1,16 +1,23 @@
-// The decision over a year's figures: document 01, Customer's year and decision, and Numbered answers (the order of the refusals). May
-// the customer have the reduced charge, what is it, and the two in a row.
+// The decision over a year's figures: document 01, Customer's year and decision, and Numbered answers (the order of the
+// refusals). May the customer have the reduced charge, what is it, and the two in a row.
 // What an answer says, and what follows of it, is told in the room below.
 ghost use mathlib.Core.Path.{_≡_};
-ghost use Rattle.answers.specs.Ruling.{shareOf, Level};
+ghost use Prim.Native.Nat.{_+_};
+ghost use lib.Dec.{ltb};
+ghost use Rattle.answers.specs.Ruling.{shareOf, leastReduction, Level};
+ghost use Rattle.tariff.specs.declared.Rates.{Rates};
 ghost use Rattle.tariff.specs.Answers.{saidOf, plainOf, peaksOf};
-ghost use Rattle.tariff.specs.Decision.{moved, shareShort, eligibleAnswer, chargeAnswer, judgeAnswer};
+ghost use Rattle.tariff.specs.Charges.{general, chargesOf};
+ghost use Rattle.tariff.specs.Decision.{moved, shareShort, eligibleRules, chargeRules, eligibleAnswer, chargeAnswer, judgeAnswer};
 use tariff::Charged;
 use tariff::Decision;
 use tariff::Figures;
+use tariff::Floored;
+use tariff::General;
 use tariff::Peaks;
 use tariff::Plain;
 use tariff::Rates;
+use tariff::TwoCharges;
 
 // The share that each level code, from 1, asks for, in percent: a constant table, as document 01 names it.
 const SHARES: [u8; 7] = [5, 10, 10, 20, 20, 30, 30];
@@ -22,7 +29,8 @@ const LEAST_MOVE: u32 = 100_000;
 
 const LEAST_REDUCTION: u64 = 50_000;
 
-// M - H: what was moved out of the windows. Nothing where H is above M: no year has such figures, but every figure has an answer.
+// M - H: what was moved out of the windows. Nothing where H is above M: no year has such figures, but every figure has
+// an answer.
 fn moved_out(figures: Figures) -> u32
     ensures { λ r. ⌜ r ≡ moved figures ⌝ }
 {
@@ -69,18 +77,21 @@ fn peaks_of(figures: Figures, g: u64) -> Peaks
     }
 }
 
-// May the customer have the reduced charge? Refuses 2, 6, 8, 9, 10 in this order, else 0 with yes. Any figures have an answer.
-pub fn eligible(figures: Figures, rates: Rates) -> Decision
-    ensures { λ r. ⌜ saidOf r ≡ eligibleAnswer figures rates ⌝ }
+// Is the reduction below its least? Without a sum: charges of any size have an answer.
+fn reduction_short(charges: TwoCharges) -> bool
+    ensures { λ r. ⌜ r ≡ ltb (charges .general) (charges .charge + leastReduction) ⌝ }
 {
-    if answers::level_out(rates.level) {
-        return Decision::LevelOut;
+    if charges.general < charges.charge {
+        return true;
     }
-    let prices = rates.prices;
-    if charges::prices_out(prices) {
-        return Decision::PriceOut;
-    }
-    let g = charges::general_charge(figures, rates);
+    charges.general - charges.charge < LEAST_REDUCTION
+}
+
+// The rules of the first half: 8, 9, 10, else 0 with yes, where g is the general charge.
+fn eligible_rules(figures: Figures, rates: Rates, g: u64) -> Decision
+    requires { ⌜ Level (rates .level) × (g ≡ general figures rates) ⌝ }
+    ensures { λ r. ⌜ saidOf r ≡ eligibleRules figures rates ⌝ }
+{
     if !figures.any {
         return Decision::NoWindow(plain_of(figures, g));
     }
@@ -93,34 +104,68 @@ pub fn eligible(figures: Figures, rates: Rates) -> Decision
     Decision::Eligible
 }
 
-// What an eligible customer is charged. Refuses 6, 8, 11 in this order, else 0 with the charge. Any figures have an answer.
-pub fn charge(figures: Figures, rates: Rates) -> Decision
-    ensures { λ r. ⌜ saidOf r ≡ chargeAnswer figures rates ⌝ }
+// The rules of the second half: 8, 11, else 0 with the charge. They look at the charges and not at the rates that these
+// come from.
+fn charge_rules(figures: Figures, charges: TwoCharges) -> Decision
+    ensures { λ r. ⌜ ((rates : Rates) → charges ≡ chargesOf figures rates → saidOf r ≡ chargeRules figures rates) ⌝ }
 {
-    let prices = rates.prices;
-    if charges::prices_out(prices) {
-        return Decision::PriceOut;
-    }
-    let g = charges::general_charge(figures, rates);
+    let g = charges.general;
     if !figures.any {
         return Decision::NoWindow(plain_of(figures, g));
     }
-    let c = charges::floored_charge(figures, rates);
     let peaks = peaks_of(figures, g);
-    if g < c + LEAST_REDUCTION {
+    if reduction_short(charges) {
         return Decision::ReductionShort(peaks);
     }
-    Decision::Accepted(Charged { charge: c, peaks })
+    Decision::Accepted(Charged {
+        charge: charges.charge,
+        peaks,
+    })
 }
 
-// The decision over a year's figures: the two halves in a row, so that no rule is written twice. Refuses 2, 6, 8, 9, 10, 11 in this
-// order, else 0 with the charge. Any figures have an answer.
+// May the customer have the reduced charge? Refuses 2, 6, 8, 9, 10 in this order, else 0 with yes. Any figures have an
+// answer.
+pub fn eligible(figures: Figures, rates: Rates) -> Decision
+    ensures { λ r. ⌜ saidOf r ≡ eligibleAnswer figures rates ⌝ }
+{
+    if answers::level_out(rates.level) {
+        return Decision::LevelOut;
+    }
+    let asked = charges::general_charge(figures, rates);
+    let General::Cents(g) = asked else {
+        return Decision::PriceOut;
+    };
+    eligible_rules(figures, rates, g)
+}
+
+// What an eligible customer is charged. Refuses 6, 8, 11 in this order, else 0 with the charge. Any figures have an
+// answer.
+pub fn charge(figures: Figures, rates: Rates) -> Decision
+    ensures { λ r. ⌜ saidOf r ≡ chargeAnswer figures rates ⌝ }
+{
+    let asked = charges::floored_charge(figures, rates);
+    let Floored::Cents(both) = asked else {
+        return Decision::PriceOut;
+    };
+    charge_rules(figures, both)
+}
+
+// The decision over a year's figures: the two halves in a row, by their rules, so that no rule is written twice, the
+// level and the prices are tested once and each charge is computed once. Refuses 2, 6, 8, 9, 10, 11 in this order, else
+// 0 with the charge. Any figures have an answer.
 pub fn judge(figures: Figures, rates: Rates) -> Decision
     ensures { λ r. ⌜ saidOf r ≡ judgeAnswer figures rates ⌝ }
 {
-    let first = eligible(figures, rates);
+    if answers::level_out(rates.level) {
+        return Decision::LevelOut;
+    }
+    let asked = charges::floored_charge(figures, rates);
+    let Floored::Cents(both) = asked else {
+        return Decision::PriceOut;
+    };
+    let first = eligible_rules(figures, rates, both.general);
     if let Decision::Eligible = first {
-        return charge(figures, rates);
+        return charge_rules(figures, both);
     }
     first
 }

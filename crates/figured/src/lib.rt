@@ -1,5 +1,7 @@
-// A decision as a plain list of numbers: its number and the figures that document 01's table lists for it (Numbered answers, "carries").
-// Main theorem: every decision carries at most seven figures (`decision-small`, proofs/Line), so its list says all of them.
+// A decision as a plain list of numbers: its number and the figures that document 01's table lists for it (Numbered
+// answers, "carries").
+// Main theorem: every decision carries at most seven figures (`decision-small`, proofs/Line), so its list says all of
+// them.
 ghost use mathlib.Core.Path.{_≡_};
 ghost use Rattle.tariff.specs.Answers.{saidOf, withPlain, withPeaks, withCharge};
 ghost use Rattle.flat.specs.Flat.{flatOf};

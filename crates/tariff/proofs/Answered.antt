@@ -1,70 +1,126 @@
--- The cases of the two halves, each with the code's answer on the left, and the two in a row.
+-- The cases of the charges alone and of the two halves, each with the code's answer on the left, and the two halves in
+-- a row.
 -- Assumes nothing.
-use mathlib.Core.Path.{_≡_, sym, ap, _∙_}
+use mathlib.Core.Path.{_≡_, refl, sym, ap, _∙_}
 use mathlib.Core.Bool.{true, false}
 use mathlib.Core.Logic.{⊎-elim}
 use Prim.Native.Nat.{ℕ, _+_, _*_, _≤_, _<_}
 use native.Mathlib.Omega.{arith}
+use lib.ListN.{getD}
 use borrow.Author.Tests.{lt-ltb, le-ltb, eq-eqb, ne-eqb}
 use Rattle.over.proofs.Bools.{decided}
 use Rattle.answers.specs.Ruling.{shareOf, leastMove, leastReduction, levelOut}
 use Rattle.answers.specs.Said.{Said, only, yesNo, orElse}
 use Rattle.tariff.specs.declared.Rates.{Rates}
 use Rattle.tariff.specs.declared.Figures.{Figures}
-use Rattle.tariff.specs.Prices.{pricesOut}
-use Rattle.tariff.specs.Charges.{general, charge}
-use Rattle.tariff.specs.Answers.{withPlain, withPeaks, withCharge, plainOf, peaksOf, chargedOf}
-use Rattle.tariff.specs.Decision.{moved, wholeShare, eligibleRules, chargeRules, judgeRules, eligibleAnswer, chargeAnswer, judgeAnswer}
+use Rattle.tariff.specs.declared.TwoCharges.{TwoCharges}
+use Rattle.tariff.specs.Prices.{pricesOut, LegalPrices}
+use Rattle.tariff.specs.Charges.{general, chargesOf}
+use Rattle.tariff.specs.Answers.{withGeneral, withCharges, withPlain, withPeaks, withCharge, plainOf, peaksOf, chargedOf, payable}
+use Rattle.tariff.specs.Decision.{moved, wholeShare, generalAnswer, flooredAnswer, eligibleRules, chargeRules, judgeRules, eligibleAnswer, chargeAnswer, judgeAnswer}
+use Rattle.tariff.specs.Rows.{LegalRates}
+use Rattle.tariff.proofs.Limits.{prices-legal, legal-in}
 
--- the first half
+pub number-is : {a b : Said} → a ≡ b → a .number ≡ b .number
+number-is e = ap (λ (s : Said). s .number) e
+
+-- the charges that an answer carries
+abbrev chargesFrom : Said → TwoCharges
+chargesFrom a = record { charge = getD (a .carries) 0 0; general = getD (a .carries) 1 0 }
+
+-- the charges alone
+module _ (f : Figures) (r : Rates) where
+  pub general-out : pricesOut (r .prices) ≡ true → only 6 ≡ generalAnswer f r
+  unfolding generalAnswer
+  general-out q = simp q
+
+  pub general-in : {g : ℕ} → pricesOut (r .prices) ≡ false → g ≡ general f r → withGeneral g ≡ generalAnswer f r
+  unfolding generalAnswer
+  general-in q e = simp (q, e)
+
+  pub floored-out : pricesOut (r .prices) ≡ true → only 6 ≡ flooredAnswer f r
+  unfolding flooredAnswer
+  floored-out q = simp q
+
+  pub floored-in : {a : TwoCharges} → pricesOut (r .prices) ≡ false → a ≡ chargesOf f r → withCharges a ≡ flooredAnswer f r
+  unfolding flooredAnswer
+  floored-in q e = simp (q, e)
+
+  -- and read off what they say: 6 is given for a price alone, and cents are the charges of legal prices
+  pub general-six : only 6 ≡ generalAnswer f r → pricesOut (r .prices) ≡ true
+  general-six e = ⊎-elim (λ q. q) (λ q. absurd (omega (arith, number-is (e ∙ sym (general-in q refl))))) (decided _)
+
+  pub general-cents : {g : ℕ} → withGeneral g ≡ generalAnswer f r → (pricesOut (r .prices) ≡ false) × (g ≡ general f r)
+  general-cents e =
+      ⊎-elim (λ q. absurd (omega (arith, number-is (e ∙ sym (general-out q)))))
+      (λ q. (q, ap payable (e ∙ sym (general-in q refl)))) (decided _)
+
+  pub floored-six : only 6 ≡ flooredAnswer f r → pricesOut (r .prices) ≡ true
+  floored-six e = ⊎-elim (λ q. q) (λ q. absurd (omega (arith, number-is (e ∙ sym (floored-in q refl))))) (decided _)
+
+  pub floored-cents : {a : TwoCharges} → withCharges a ≡ flooredAnswer f r → (pricesOut (r .prices) ≡ false) × (a ≡ chargesOf f r)
+  floored-cents e =
+      ⊎-elim (λ q. absurd (omega (arith, number-is (e ∙ sym (floored-out q)))))
+      (λ q. (q, ap chargesFrom (e ∙ sym (floored-in q refl)))) (decided _)
+
+-- the rules of the first half
+module _ (f : Figures) (r : Rates) {g : ℕ} (e : g ≡ general f r) where
+  pub eligible-none : f .any ≡ false → withPlain (plainOf f g) ≡ eligibleRules f r
+  unfolding eligibleRules
+  eligible-none n = simp (e, n)
+
+  module _ (n : f .any ≡ true) where
+    pub eligible-share : wholeShare * moved f < shareOf (r .level) * f .peak → withPeaks 9 (peaksOf f g) ≡ eligibleRules f r
+    unfolding eligibleRules
+    eligible-share s = simp (e, n, lt-ltb _ _ s)
+
+    module _ (s : shareOf (r .level) * f .peak ≤ wholeShare * moved f) where
+      pub eligible-move : moved f < leastMove → withPeaks 10 (peaksOf f g) ≡ eligibleRules f r
+      unfolding eligibleRules
+      eligible-move m = simp (e, n, le-ltb _ _ s, lt-ltb _ _ m)
+
+      pub eligible-yes : leastMove ≤ moved f → yesNo true ≡ eligibleRules f r
+      unfolding eligibleRules
+      eligible-yes m = simp (n, le-ltb _ _ s, le-ltb _ _ m)
+
+-- the rules of the second half, by the charges
+module _ (f : Figures) (r : Rates) {a : TwoCharges} (e : a ≡ chargesOf f r) where
+  pub charge-none : f .any ≡ false → withPlain (plainOf f (a .general)) ≡ chargeRules f r
+  unfolding chargeRules
+  charge-none n = simp (e, n)
+
+  module _ (n : f .any ≡ true) where
+    pub charge-reduction : a .general < a .charge + leastReduction → withPeaks 11 (peaksOf f (a .general)) ≡ chargeRules f r
+    unfolding chargeRules
+    charge-reduction l = let k = rw e at l in simp (e, n, lt-ltb _ _ k)
+
+    pub charge-accepted : a .charge + leastReduction ≤ a .general → withCharge (chargedOf f (a .general) (a .charge)) ≡ chargeRules f r
+    unfolding chargeRules
+    charge-accepted l =
+        let k = rw e at l in
+        ap (λ (b : TwoCharges). withCharge (chargedOf f (b .general) (b .charge))) e ∙ simp (n, le-ltb _ _ k)
+
+-- 2 and 6 in front, and the rules for legal rates
 module _ (f : Figures) (r : Rates) where
   pub eligible-level : levelOut (r .level) ≡ true → only 2 ≡ eligibleAnswer f r
   unfolding eligibleAnswer
-  eligible-level e = simp e
+  eligible-level l = simp l
 
-  module _ (l : levelOut (r .level) ≡ false) where
-    pub eligible-prices : pricesOut (r .prices) ≡ true → only 6 ≡ eligibleAnswer f r
-    unfolding eligibleAnswer
-    eligible-prices e = simp (l, e)
+  pub eligible-prices : levelOut (r .level) ≡ false → pricesOut (r .prices) ≡ true → only 6 ≡ eligibleAnswer f r
+  unfolding eligibleAnswer
+  eligible-prices l q = simp (l, q)
 
-    module _ (q : pricesOut (r .prices) ≡ false) {g : ℕ} (e : g ≡ general f r) where
-      pub eligible-none : f .any ≡ false → withPlain (plainOf f g) ≡ eligibleAnswer f r
-      unfolding eligibleAnswer eligibleRules
-      eligible-none n = simp (l, q, e, n)
+  pub eligible-legal : LegalRates r → eligibleRules f r ≡ eligibleAnswer f r
+  unfolding eligibleAnswer
+  eligible-legal h = simp (legal-in h .0, legal-in h .1)
 
-      module _ (n : f .any ≡ true) where
-        pub eligible-share : wholeShare * moved f < shareOf (r .level) * f .peak → withPeaks 9 (peaksOf f g) ≡ eligibleAnswer f r
-        unfolding eligibleAnswer eligibleRules
-        eligible-share s = simp (l, q, e, n, lt-ltb _ _ s)
-
-        module _ (s : shareOf (r .level) * f .peak ≤ wholeShare * moved f) where
-          pub eligible-move : moved f < leastMove → withPeaks 10 (peaksOf f g) ≡ eligibleAnswer f r
-          unfolding eligibleAnswer eligibleRules
-          eligible-move m = simp (l, q, e, n, le-ltb _ _ s, lt-ltb _ _ m)
-
-          pub eligible-yes : leastMove ≤ moved f → yesNo true ≡ eligibleAnswer f r
-          unfolding eligibleAnswer eligibleRules
-          eligible-yes m = simp (l, q, n, le-ltb _ _ s, le-ltb _ _ m)
-
--- the second half
-module _ (f : Figures) (r : Rates) where
   pub charge-prices : pricesOut (r .prices) ≡ true → only 6 ≡ chargeAnswer f r
   unfolding chargeAnswer
-  charge-prices e = simp e
+  charge-prices q = simp q
 
-  module _ (q : pricesOut (r .prices) ≡ false) {g : ℕ} (e : g ≡ general f r) where
-    pub charge-none : f .any ≡ false → withPlain (plainOf f g) ≡ chargeAnswer f r
-    unfolding chargeAnswer chargeRules
-    charge-none n = simp (q, e, n)
-
-    module _ (n : f .any ≡ true) {c : ℕ} (k : c ≡ charge f r) where
-      pub charge-reduction : g < c + leastReduction → withPeaks 11 (peaksOf f g) ≡ chargeAnswer f r
-      unfolding chargeAnswer chargeRules
-      charge-reduction l = simp (q, e, n, lt-ltb (general f r) (charge f r + leastReduction) (omega arith))
-
-      pub charge-accepted : c + leastReduction ≤ g → withCharge (chargedOf f g c) ≡ chargeAnswer f r
-      unfolding chargeAnswer chargeRules
-      charge-accepted l = simp (q, e, k, n, le-ltb (general f r) (charge f r + leastReduction) (omega arith))
+  pub charge-legal : LegalPrices (r .prices) → chargeRules f r ≡ chargeAnswer f r
+  unfolding chargeAnswer
+  charge-legal h = simp (prices-legal (r .prices) .1 h)
 
 -- the whole decision is the two halves in a row, for any level and prices
 pub in-a-row : (f : Figures) (r : Rates) → judgeAnswer f r ≡ orElse (eligibleAnswer f r) (chargeAnswer f r)
@@ -73,9 +129,6 @@ in-a-row f r =
     ⊎-elim (λ (l : levelOut (r .level) ≡ true). simp l) (λ (l : levelOut (r .level) ≡ false).
     ⊎-elim (λ (q : pricesOut (r .prices) ≡ true). simp (l, q)) (λ (q : pricesOut (r .prices) ≡ false). simp (l, q))
     (decided (pricesOut (r .prices)))) (decided (levelOut (r .level)))
-
-pub number-is : {a b : Said} → a ≡ b → a .number ≡ b .number
-number-is e = ap (λ (s : Said). s .number) e
 
 -- so a refusal of the first half is its answer, and else what the second half answers
 module _ (f : Figures) (r : Rates) where

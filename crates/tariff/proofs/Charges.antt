@@ -1,17 +1,18 @@
--- Laws of the charges: the sum split at the parts of a cent gives the same charge, its products are small, it is the exact value
--- rounded half up, the floor is the least, no charge grows as the capacity figure falls, and the calls give the charges of legal prices.
+-- Laws of the charges: the sum split at the parts of a cent gives the same charge, its products are small, it is the
+-- exact value rounded half up, the floor is the least, and no charge grows as the capacity figure falls.
 -- Assumes nothing.
 use mathlib.Core.Path.{_≡_, sym, ap, ap₂, _∙_}
-use mathlib.Core.Bool.{true, false}
+use mathlib.Core.Bool.{Bool, true, false}
 use Prim.Native.Nat.{ℕ, _+_, _*_, _/_, _%_, _≤_, _<_, max}
 use native.Mathlib.Nat.{mul-le-mul, mul-le-mul-right, add-mul, div-add-mod', mul-assoc, mul-comm}
 use native.Mathlib.Omega.{arith}
 use Rattle.answers.specs.Ruling.{capacityMost, energyMost, floorParts}
 use Rattle.tariff.specs.declared.Row.{Row}
+use Rattle.tariff.specs.declared.Prices.{Prices}
 use Rattle.tariff.specs.declared.Rates.{Rates}
 use Rattle.tariff.specs.declared.Figures.{Figures}
-use Rattle.tariff.specs.Prices.{pricesOut}
-use Rattle.tariff.specs.Charges.{fewHours, centParts, capacityParts, partsFor, chargeFor, general, reduced, floorOf, charge, generalIn, flooredIn}
+use Rattle.tariff.specs.Prices.{LegalRow, LegalPrices}
+use Rattle.tariff.specs.Charges.{fewHours, rowOf, centParts, capacityParts, partsFor, chargeFor, chargeMost, general, reduced, floorOf, charge}
 
 module _ (power : ℕ) (row : Row) (sum : ℕ) where
   pub charge-split :
@@ -20,8 +21,10 @@ module _ (power : ℕ) (row : Row) (sum : ℕ) where
   unfolding chargeFor
   charge-split =
       let a : ℕ = row .energy in
-      let whole : sum * a ≡ sum / centParts * centParts * a + sum % centParts * a = ap (λ (n : ℕ). n * a) (sym (div-add-mod' sum centParts)) ∙ add-mul _ _ a in
-      let turned : sum / centParts * centParts * a ≡ sum / centParts * a * centParts = mul-assoc _ _ a ∙ ap (_*_ (sum / centParts)) (mul-comm centParts a) ∙ sym (mul-assoc _ a centParts) in
+      let whole : sum * a ≡ sum / centParts * centParts * a + sum % centParts * a =
+      ap (λ (n : ℕ). n * a) (sym (div-add-mod' sum centParts)) ∙ add-mul _ _ a in
+      let turned : sum / centParts * centParts * a ≡ sum / centParts * a * centParts =
+      mul-assoc _ _ a ∙ ap (_*_ (sum / centParts)) (mul-comm centParts a) ∙ sym (mul-assoc _ a centParts) in
       omega arith
 
   -- a charge is its exact value rounded half up: twice the exact value lies from 2 c - 1 to below 2 c + 1
@@ -48,6 +51,31 @@ small power l a sum hp hl ha hs =
       rest = omega (arith, product (sum % centParts) a {m = centParts} {n = energyMost} (omega arith) ha);
     }
 
+-- so no charge is above the most
+pub charge-most :
+    (power : ℕ) (row : Row) (sum : ℕ)
+    → power ≤ 4294967295
+    → LegalRow row
+    → sum < 18446744073709551616
+    → chargeFor power row sum ≤ chargeMost
+charge-most power row sum hp h hs =
+    let s = small power (row .capacity) (row .energy) sum hp (h .capacity) (h .energy) hs in
+    omega (arith, charge-split power row sum)
+
+-- each row of legal prices is legal
+row-in : (p : Prices) (low : Bool) → LegalPrices p → LegalRow (rowOf p low)
+row-in p true h = h .low
+row-in p false h = h .high
+
+pub general-most :
+    (f : Figures) (r : Rates)
+    → LegalPrices (r .prices)
+    → f .peak ≤ 4294967295
+    → f .sum < 18446744073709551616
+    → general f r ≤ chargeMost
+unfolding general
+general-most f r h hp hs = charge-most (f .peak) _ (f .sum) hp (row-in (r .prices) (fewHours f) h) hs
+
 -- no lower whole cent is a fifth of the general charge
 pub floor-least : (g : ℕ) → (g ≤ floorParts * floorOf g) × ((k : ℕ) → k < floorOf g → floorParts * k < g)
 unfolding floorOf
@@ -68,21 +96,3 @@ option-idle f r s p h = simp (p, h)
 pub charge-of : (f : Figures) (r : Rates) {own g : ℕ} → own ≡ reduced f r → g ≡ general f r → max own (floorOf g) ≡ charge f r
 unfolding charge
 charge-of f r a e = ap₂ max a (ap floorOf e)
-
--- what the calls give: the charges themselves with legal prices, else 0
-module _ (f : Figures) (r : Rates) where
-  pub general-out : pricesOut (r .prices) ≡ true → 0 ≡ generalIn f r
-  unfolding generalIn
-  general-out q = simp q
-
-  pub general-in : pricesOut (r .prices) ≡ false → generalIn f r ≡ general f r
-  unfolding generalIn
-  general-in q = simp q
-
-  pub floored-out : pricesOut (r .prices) ≡ true → 0 ≡ flooredIn f r
-  unfolding flooredIn
-  floored-out q = simp q
-
-  pub floored-in : pricesOut (r .prices) ≡ false → flooredIn f r ≡ charge f r
-  unfolding flooredIn
-  floored-in q = simp q

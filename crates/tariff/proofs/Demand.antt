@@ -1,8 +1,8 @@
--- Demand 3 over a year's figures: a lower in-window peak never costs more, an acceptance stays one, and an accepted charge is at least
--- a fifth of the general charge and at least 500 euro below it.
+-- Demand 3 over a year's figures: a lower in-window peak never costs more, an acceptance stays one, and an accepted
+-- charge is at least a fifth of the general charge and at least 500 euro below it.
 -- Assumes nothing.
 use mathlib.Core.Path.{_≡_, refl, sym, ap, _∙_}
-use mathlib.Core.Bool.{Bool, cond}
+use mathlib.Core.Bool.{cond}
 use Prim.Native.Nat.{ℕ, _+_, _*_, _≤_}
 use native.Mathlib.Decide.{ℕ-discrete}
 use native.Mathlib.Omega.{arith}
@@ -18,15 +18,15 @@ use Rattle.tariff.specs.declared.Figures.{Figures}
 use Rattle.tariff.specs.declared.Charged.{Charged}
 use Rattle.tariff.specs.Charges.{general, reduced, floorOf, charge}
 use Rattle.tariff.specs.Answers.{withCharge, payable}
-use Rattle.tariff.specs.Decision.{eligibleAnswer, chargeAnswer, judgeAnswer}
+use Rattle.tariff.specs.Decision.{eligibleRules, chargeRules, eligibleAnswer, chargeAnswer, judgeAnswer}
 use Rattle.tariff.specs.Rows.{LegalRates, EligibleRow, ChargeRow, JudgeRow}
 use Rattle.tariff.specs.Rows.EligibleRow.{zero}
 use Rattle.tariff.specs.Rows.ChargeRow.{six, eight, eleven, zero}
 use Rattle.tariff.specs.Rows.JudgeRow.{two, six, eight, nine, ten, eleven, zero}
 use Rattle.tariff.specs.Demand.{Under, Fair}
-use Rattle.tariff.proofs.Limits.{prices-legal, legal-in}
+use Rattle.tariff.proofs.Limits.{prices-legal}
 use Rattle.tariff.proofs.Charges.{floor-least, charge-mono}
-use Rattle.tariff.proofs.Answered.{eligible-level, eligible-prices, eligible-none, eligible-share, eligible-move, charge-reduction, charge-accepted, number-is, judge-first, judge-second}
+use Rattle.tariff.proofs.Answered.{number-is, eligible-none, eligible-share, eligible-move, charge-reduction, charge-accepted, eligible-level, eligible-prices, eligible-legal, charge-legal, judge-first, judge-second}
 use Rattle.tariff.proofs.Exactly.{eligible-exactly, charge-exactly, judge-exactly}
 
 module _ {f e : Figures} (u : Under f e) (r : Rates) where
@@ -52,7 +52,7 @@ charge-fair f r a e = go (charge-exactly f r 0 .0 (number-is e)) refl
     go (eight h n) z = absurd (omega arith)
     go (eleven h n cut) z = absurd (omega arith)
     go (zero h n cut) z =
-        let all = charge-accepted f r (prices-legal _ .1 h) refl n refl cut ∙ e in
+        let all = charge-accepted f r refl n cut ∙ charge-legal f r h ∙ e in
         let c : charge f r ≡ a .charge = ap payable all in
         let g : general f r ≡ a .peaks .plain .general = ap (λ (s : Said). getD (s .carries) 1 0) all in
         record { floor = omega (arith, floor-least (general f r) .0); reduction = omega arith }
@@ -97,11 +97,11 @@ module _ (r : Rates) where
     refused : {a : Said} → LegalRates r → a ≡ judgeAnswer f r → (a .number ≡ 0 → ⊥) → payable a ≡ general f r → Pays f
     refused h e z g = full h (λ k. z (number-is e ∙ k)) (sym (ap payable e) ∙ g)
 
-    first : {a : Said} → LegalRates r → a ≡ eligibleAnswer f r → (a .number ≡ 0 → ⊥) → payable a ≡ general f r → Pays f
-    first h e z g = refused h (judge-first f r e z) z g
+    first : {a : Said} → LegalRates r → a ≡ eligibleRules f r → (a .number ≡ 0 → ⊥) → payable a ≡ general f r → Pays f
+    first h e z g = refused h (judge-first f r (e ∙ eligible-legal f r h) z) z g
 
-    second : {a : Said} → EligibleRow f r 0 → a ≡ chargeAnswer f r → a ≡ judgeAnswer f r
-    second row e = judge-second f r (eligible-exactly f r 0 .1 row) e
+    second : {a : Said} → LegalRates r → EligibleRow f r 0 → a ≡ chargeRules f r → a ≡ judgeAnswer f r
+    second h row e = judge-second f r (eligible-exactly f r 0 .1 row) (e ∙ charge-legal f r (h .legal-prices))
 
     pays : {n : ℕ} → JudgeRow f r n → Pays f
     pays (two a) =
@@ -110,13 +110,13 @@ module _ (r : Rates) where
     pays (six a b) =
         let e = eligible-prices f r (level-of _ .1 a) (refutes _ (prices-legal _) .1 b) in
         unsaid (λ h. b (h .legal-prices)) (ap payable (sym (judge-first f r e (omega arith))))
-    pays (eight h n) = first h (eligible-none f r (legal-in h .0) (legal-in h .1) refl n) (omega arith) refl
-    pays (nine h n s) = first h (eligible-share f r (legal-in h .0) (legal-in h .1) refl n s) (omega arith) refl
-    pays (ten h s m) = first h (eligible-move f r (legal-in h .0) (legal-in h .1) refl (s .some) (s .share) m) (omega arith) refl
+    pays (eight h n) = first h (eligible-none f r refl n) (omega arith) refl
+    pays (nine h n s) = first h (eligible-share f r refl n s) (omega arith) refl
+    pays (ten h s m) = first h (eligible-move f r refl (s .some) (s .share) m) (omega arith) refl
     pays (eleven h s m cut) =
-        refused h (second (zero h s m) (charge-reduction f r (legal-in h .1) refl (s .some) refl cut)) (omega arith) refl
+        refused h (second h (zero h s m) (charge-reduction f r refl (s .some) cut)) (omega arith) refl
     pays (zero h s m cut) =
-        let e = second (zero h s m) (charge-accepted f r (legal-in h .1) refl (s .some) refl cut) in
+        let e = second h (zero h s m) (charge-accepted f r refl (s .some) cut) in
         own h (sym (number-is e)) cut (sym (ap payable e))
 
   pub never-more : {f e : Figures} → Under f e → payable (judgeAnswer e r) ≤ payable (judgeAnswer f r)

@@ -1,7 +1,7 @@
 -- Each number of each call is given exactly when its row holds and no number before it is given.
 -- Assumes nothing.
 use mathlib.Core.Path.{_≡_, refl, sym, _∙_}
-use mathlib.Core.Bool.{true, false}
+use mathlib.Core.Bool.{true}
 use mathlib.Core.Logic.{_↔_, ⊎-elim}
 use Prim.Native.Nat.{ℕ, _+_, _*_, _≤_, _<_}
 use native.Mathlib.Decide.{decLt, ℕ-discrete}
@@ -12,51 +12,51 @@ use Rattle.answers.specs.Said.{yesNo}
 use Rattle.answers.proofs.Laws.{level-of}
 use Rattle.tariff.specs.declared.Rates.{Rates}
 use Rattle.tariff.specs.declared.Figures.{Figures}
-use Rattle.tariff.specs.Prices.{pricesOut}
+use Rattle.tariff.specs.Prices.{pricesOut, LegalPrices}
 use Rattle.tariff.specs.Charges.{general, charge}
-use Rattle.tariff.specs.Decision.{moved, wholeShare, eligibleAnswer, chargeAnswer, judgeAnswer}
+use Rattle.tariff.specs.Decision.{moved, wholeShare, eligibleRules, chargeRules, eligibleAnswer, chargeAnswer, judgeAnswer}
 use Rattle.tariff.specs.Rows.{LegalRates, EligibleRow, ChargeRow, JudgeRow}
 use Rattle.tariff.specs.Rows.EligibleRow.{two, six, eight, nine, ten, zero}
 use Rattle.tariff.specs.Rows.ChargeRow.{six, eight, eleven, zero}
 use Rattle.tariff.specs.Rows.JudgeRow.{two, six, eight, nine, ten, eleven, zero}
-use Rattle.tariff.proofs.Limits.{prices-legal, legal-in}
-use Rattle.tariff.proofs.Answered.{eligible-level, eligible-prices, eligible-none, eligible-share, eligible-move, eligible-yes, charge-prices, charge-none, charge-reduction, charge-accepted, number-is, judge-first, judge-second}
+use Rattle.tariff.proofs.Limits.{prices-legal, rates-legal}
+use Rattle.tariff.proofs.Answered.{number-is, eligible-none, eligible-share, eligible-move, eligible-yes, charge-none, charge-reduction, charge-accepted, eligible-level, eligible-prices, eligible-legal, charge-prices, charge-legal, judge-first, judge-second}
 
 -- the first half
 module _ (f : Figures) (r : Rates) where
-  legal-holds : LegalRates r → EligibleRow f r (eligibleAnswer f r .number)
-  legal-holds h =
+  eligible-rules-hold : LegalRates r → EligibleRow f r (eligibleRules f r .number)
+  eligible-rules-hold h =
       ⊎-elim (λ n. some n (decLt (wholeShare * moved f) (shareOf (r .level) * f .peak)) (decLt (moved f) leastMove))
-      (λ n. rw (← eligible-none f r (legal-in h .0) (legal-in h .1) refl n) (eight h n)) (decided (f .any))
+      (λ n. rw (← eligible-none f r refl n) (eight h n)) (decided (f .any))
     where
       some :
           f .any ≡ true
           → Dec (wholeShare * moved f < shareOf (r .level) * f .peak)
           → Dec (moved f < leastMove)
-          → EligibleRow f r (eligibleAnswer f r .number)
-      some n (yes s) m = rw (← eligible-share f r (legal-in h .0) (legal-in h .1) refl n s) (nine h n s)
+          → EligibleRow f r (eligibleRules f r .number)
+      some n (yes s) m = rw (← eligible-share f r refl n s) (nine h n s)
       some n (no s) (yes m) =
           let reached : shareOf (r .level) * f .peak ≤ wholeShare * moved f = omega arith in
-          rw (← eligible-move f r (legal-in h .0) (legal-in h .1) refl n reached m) (ten h (record { some = n; share = reached }) m)
+          rw (← eligible-move f r refl n reached m) (ten h (record { some = n; share = reached }) m)
       some n (no s) (no m) =
           let reached : shareOf (r .level) * f .peak ≤ wholeShare * moved f = omega arith in
           let t : leastMove ≤ moved f = omega arith in
-          rw (← eligible-yes f r (legal-in h .0) (legal-in h .1) refl n reached t) (zero h (record { some = n; share = reached }) t)
+          rw (← eligible-yes f r refl n reached t) (zero h (record { some = n; share = reached }) t)
 
   eligible-holds : EligibleRow f r (eligibleAnswer f r .number)
   eligible-holds =
       ⊎-elim (λ l. rw (← eligible-level f r l) (two (refutes _ (level-of _) .0 l))) (λ l.
       ⊎-elim (λ q. rw (← eligible-prices f r l q) (six (level-of _ .0 l) (refutes _ (prices-legal _) .0 q)))
-      (λ q. legal-holds (record { legal-level = level-of _ .0 l; legal-prices = prices-legal _ .0 q }))
+      (λ q. let h = rates-legal l q in rw (← eligible-legal f r h) (eligible-rules-hold h))
       (decided (pricesOut (r .prices)))) (decided (levelOut (r .level)))
 
   eligible-given : {n : ℕ} → EligibleRow f r n → eligibleAnswer f r .number ≡ n
   eligible-given (two a) = rw (← eligible-level f r (refutes _ (level-of _) .1 a))
   eligible-given (six a b) = rw (← eligible-prices f r (level-of _ .1 a) (refutes _ (prices-legal _) .1 b))
-  eligible-given (eight h n) = rw (← eligible-none f r (legal-in h .0) (legal-in h .1) refl n)
-  eligible-given (nine h n s) = rw (← eligible-share f r (legal-in h .0) (legal-in h .1) refl n s)
-  eligible-given (ten h s m) = rw (← eligible-move f r (legal-in h .0) (legal-in h .1) refl (s .some) (s .share) m)
-  eligible-given (zero h s m) = rw (← eligible-yes f r (legal-in h .0) (legal-in h .1) refl (s .some) (s .share) m)
+  eligible-given (eight h n) = rw (← eligible-legal f r h, ← eligible-none f r refl n)
+  eligible-given (nine h n s) = rw (← eligible-legal f r h, ← eligible-share f r refl n s)
+  eligible-given (ten h s m) = rw (← eligible-legal f r h, ← eligible-move f r refl (s .some) (s .share) m)
+  eligible-given (zero h s m) = rw (← eligible-legal f r h, ← eligible-yes f r refl (s .some) (s .share) m)
 
   pub eligible-exactly : (n : ℕ) → (eligibleAnswer f r .number ≡ n) ↔ EligibleRow f r n
   eligible-exactly n = (λ e. rw e at eligible-holds, eligible-given)
@@ -71,32 +71,36 @@ module _ (f : Figures) (r : Rates) where
       go (eight h n) e = absurd (omega arith)
       go (nine h n s) e = absurd (omega arith)
       go (ten h s m) e = absurd (omega arith)
-      go (zero h s m) e = eligible-yes f r (legal-in h .0) (legal-in h .1) refl (s .some) (s .share) m
+      go (zero h s m) e = eligible-yes f r refl (s .some) (s .share) m ∙ eligible-legal f r h
 
 -- the second half
 module _ (f : Figures) (r : Rates) where
+  -- by the rules alone, for legal prices
+  some-holds :
+      LegalPrices (r .prices)
+      → f .any ≡ true
+      → Dec (general f r < charge f r + leastReduction)
+      → ChargeRow f r (chargeRules f r .number)
+  some-holds h n (yes cut) = rw (← charge-reduction f r refl n cut) (eleven h n cut)
+  some-holds h n (no cut) =
+      let t : charge f r + leastReduction ≤ general f r = omega arith in
+      rw (← charge-accepted f r refl n t) (zero h n t)
+
+  charge-rules-hold : LegalPrices (r .prices) → ChargeRow f r (chargeRules f r .number)
+  charge-rules-hold h =
+      ⊎-elim (λ n. some-holds h n (decLt (general f r) (charge f r + leastReduction)))
+      (λ n. rw (← charge-none f r refl n) (eight h n)) (decided (f .any))
+
   charge-holds : ChargeRow f r (chargeAnswer f r .number)
   charge-holds =
-      ⊎-elim (λ q. rw (← charge-prices f r q) (six (refutes _ (prices-legal _) .0 q))) (λ q.
-      ⊎-elim (λ n. some q n (decLt (general f r) (charge f r + leastReduction)))
-      (λ n. rw (← charge-none f r q refl n) (eight (prices-legal _ .0 q) n))
-      (decided (f .any))) (decided (pricesOut (r .prices)))
-    where
-      some :
-          pricesOut (r .prices) ≡ false
-          → f .any ≡ true
-          → Dec (general f r < charge f r + leastReduction)
-          → ChargeRow f r (chargeAnswer f r .number)
-      some q n (yes cut) = rw (← charge-reduction f r q refl n refl cut) (eleven (prices-legal _ .0 q) n cut)
-      some q n (no cut) =
-          let t : charge f r + leastReduction ≤ general f r = omega arith in
-          rw (← charge-accepted f r q refl n refl t) (zero (prices-legal _ .0 q) n t)
+      ⊎-elim (λ q. rw (← charge-prices f r q) (six (refutes _ (prices-legal _) .0 q)))
+      (λ q. let h = prices-legal _ .0 q in rw (← charge-legal f r h) (charge-rules-hold h)) (decided (pricesOut (r .prices)))
 
   charge-given : {n : ℕ} → ChargeRow f r n → chargeAnswer f r .number ≡ n
   charge-given (six a) = rw (← charge-prices f r (refutes _ (prices-legal _) .1 a))
-  charge-given (eight h n) = rw (← charge-none f r (prices-legal _ .1 h) refl n)
-  charge-given (eleven h n cut) = rw (← charge-reduction f r (prices-legal _ .1 h) refl n refl cut)
-  charge-given (zero h n cut) = rw (← charge-accepted f r (prices-legal _ .1 h) refl n refl cut)
+  charge-given (eight h n) = rw (← charge-legal f r h, ← charge-none f r refl n)
+  charge-given (eleven h n cut) = rw (← charge-legal f r h, ← charge-reduction f r refl n cut)
+  charge-given (zero h n cut) = rw (← charge-legal f r h, ← charge-accepted f r refl n cut)
 
   pub charge-exactly : (n : ℕ) → (chargeAnswer f r .number ≡ n) ↔ ChargeRow f r n
   charge-exactly n = (λ e. rw e at charge-holds, charge-given)

@@ -1,4 +1,5 @@
--- A price list is refused exactly when it is not within its limits, and a legal level with legal prices passes both tests.
+-- A price list is refused exactly when it is not within its limits, and a legal level with legal prices passes both
+-- tests.
 -- Assumes nothing.
 use mathlib.Core.Path.{_≡_}
 use mathlib.Core.Bool.{false}
@@ -30,6 +31,9 @@ prices-legal p = (
       record { low = row-legal (p .low) .0 (n .0); high = row-legal (p .high) .0 (n .1) },
   λ h. simp (row-legal (p .low) .1 (h .low), row-legal (p .high) .1 (h .high)),
 )
+
+pub rates-legal : {r : Rates} → levelOut (r .level) ≡ false → pricesOut (r .prices) ≡ false → LegalRates r
+rates-legal l q = record { legal-level = level-of _ .0 l; legal-prices = prices-legal _ .0 q }
 
 pub legal-in : {r : Rates} → LegalRates r → (levelOut (r .level) ≡ false) × (pricesOut (r .prices) ≡ false)
 legal-in h = (level-of _ .1 (h .legal-level), prices-legal _ .1 (h .legal-prices))

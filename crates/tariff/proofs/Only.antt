@@ -9,9 +9,23 @@ use Rattle.answers.specs.Said.{Said}
 use Rattle.answers.proofs.Laws.{one-answer}
 use Rattle.tariff.specs.declared.Plain.{Plain}
 use Rattle.tariff.specs.declared.Peaks.{Peaks}
+use Rattle.tariff.specs.declared.General.{General}
+use Rattle.tariff.specs.declared.General.the-variants.{Cents, PriceOut}
+use Rattle.tariff.specs.declared.Floored.{Floored}
+use Rattle.tariff.specs.declared.Floored.the-variants.{Cents, PriceOut}
 use Rattle.tariff.specs.declared.Decision.{Decision}
 use Rattle.tariff.specs.declared.Decision.the-variants.{Accepted, Eligible, Taken, YearOut, LevelOut, BadHolidays, WrongLength, BadReading, PriceOut, NoWindow, ShareShort, MoveShort, ReductionShort, Malformed, DayOut}
-use Rattle.tariff.specs.Answers.{saidOf}
+use Rattle.tariff.specs.Answers.{saidOf, saidOfGeneral, saidOfFloored}
+
+-- an answer that is told back from what it says is fixed by it
+told-back :
+    {A : Type 0} (said : A → Said) (back : Said → A)
+    → ((d : A) → back (said d) ≡ d)
+    → {x : Said} {r s : A}
+    → said r ≡ x
+    → said s ≡ x
+    → r ≡ s
+told-back said back same {x} {r} {s} p q = sym (same r) ∙ ap back (one-answer p q) ∙ same s
 
 -- figure i of an answer, and the figures from figure i on
 abbrev figure : Said → ℕ → ℕ
@@ -23,7 +37,8 @@ plainFrom a i = record { general = figure a i; peak = figure a (1 + i); sum = fi
 abbrev peaksFrom : Said → ℕ → Peaks
 peaksFrom a i = record { plain = plainFrom a i; high = figure a (3 + i); day = figure a (4 + i); quarter = figure a (5 + i) }
 
--- an answer, back from what it says: linear in the cases. 0 alone is a day that is taken, yes is one figure, a charge comes with seven.
+-- an answer, back from what it says: linear in the cases. 0 alone is a day that is taken, yes is one figure, a charge
+-- comes with seven.
 abbrev decisionBack : Said → Decision
 decisionBack a =
     cond (eqb (a .number) 0)
@@ -59,9 +74,27 @@ back (ReductionShort a) = refl
 back Malformed = refl
 back DayOut = refl
 
-pub decision-said : {a b : Decision} → saidOf a ≡ saidOf b → a ≡ b
-decision-said {a} {b} e = sym (back a) ∙ ap decisionBack e ∙ back b
-
 -- nothing else meets a promise of `eligible`, `charge`, `judge`
 pub decision-only : {x : Said} {r s : Decision} → saidOf r ≡ x → saidOf s ≡ x → r ≡ s
-decision-only p q = decision-said (one-answer p q)
+decision-only = told-back saidOf decisionBack back
+
+-- nor one of the calls for the charges alone
+abbrev generalBack : Said → General
+generalBack a = cond (eqb (a .number) 0) (Cents (figure a 0)) PriceOut
+
+general-back : (d : General) → generalBack (saidOfGeneral d) ≡ d
+general-back (Cents g) = refl
+general-back PriceOut = refl
+
+pub general-only : {x : Said} {r s : General} → saidOfGeneral r ≡ x → saidOfGeneral s ≡ x → r ≡ s
+general-only = told-back saidOfGeneral generalBack general-back
+
+abbrev flooredBack : Said → Floored
+flooredBack a = cond (eqb (a .number) 0) (Cents (record { charge = figure a 0; general = figure a 1 })) PriceOut
+
+floored-back : (d : Floored) → flooredBack (saidOfFloored d) ≡ d
+floored-back (Cents a) = refl
+floored-back PriceOut = refl
+
+pub floored-only : {x : Said} {r s : Floored} → saidOfFloored r ≡ x → saidOfFloored s ≡ x → r ≡ s
+floored-only = told-back saidOfFloored flooredBack floored-back

@@ -1,5 +1,5 @@
--- Document 01, Numbered answers: what each number of the decision carries, in the table's order, and the number of each case of the
--- code's answer. M is `peak`, S is `sum`, H is `high` with its day and quarter.
+-- Document 01, Numbered answers: what each number of the decision carries, in the table's order, and the number of each
+-- case of the code's answer. M is `peak`, S is `sum`, H is `high` with its day and quarter.
 use mathlib.Core.Bool.{true}
 use mathlib.Core.List.{List, [], _∷_, _++_}
 use Prim.Native.Nat.{ℕ}
@@ -9,6 +9,11 @@ use Rattle.tariff.specs.declared.Figures.{Figures}
 use Rattle.tariff.specs.declared.Plain.{Plain}
 use Rattle.tariff.specs.declared.Peaks.{Peaks}
 use Rattle.tariff.specs.declared.Charged.{Charged}
+use Rattle.tariff.specs.declared.TwoCharges.{TwoCharges}
+use Rattle.tariff.specs.declared.General.{General}
+use Rattle.tariff.specs.declared.General.the-variants.{Cents, PriceOut}
+use Rattle.tariff.specs.declared.Floored.{Floored}
+use Rattle.tariff.specs.declared.Floored.the-variants.{Cents, PriceOut}
 use Rattle.tariff.specs.declared.Decision.{Decision}
 use Rattle.tariff.specs.declared.Decision.the-variants.{Accepted, Eligible, Taken, YearOut, LevelOut, BadHolidays, WrongLength, BadReading, PriceOut, NoWindow, ShareShort, MoveShort, ReductionShort, Malformed, DayOut}
 
@@ -51,6 +56,21 @@ saidOf (MoveShort a) = withPeaks 10 a
 saidOf (ReductionShort a) = withPeaks 11 a
 saidOf Malformed = only 12
 saidOf DayOut = only 13
+
+-- and of the calls for the charges alone: 0 with g; 0 with c and g
+abbrev pub withGeneral : ℕ → Said
+withGeneral g = record { number = 0; carries = g ∷ [] }
+
+abbrev pub withCharges : TwoCharges → Said
+withCharges a = record { number = 0; carries = a .charge ∷ a .general ∷ [] }
+
+abbrev pub saidOfGeneral : General → Said
+saidOfGeneral (Cents g) = withGeneral g
+saidOfGeneral PriceOut = only 6
+
+abbrev pub saidOfFloored : Floored → Said
+saidOfFloored (Cents a) = withCharges a
+saidOfFloored PriceOut = only 6
 
 -- what is carried of a year's figures f, its general charge g and its charge c
 abbrev pub plainOf : Figures → ℕ → Plain

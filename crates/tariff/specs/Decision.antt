@@ -1,5 +1,5 @@
--- Document 01, Customer's year and decision, and Numbered answers: "level (2), .. 6, .. 8, 9, 10, 11". The decision over a year's figures
--- f and the rates r, in two halves: may the customer have a reduced charge, and what is it.
+-- Document 01, Customer's year and decision, and Numbered answers: "level (2), .. 6, .. 8, 9, 10, 11". The decision
+-- over a year's figures f and the rates r, in two halves: may the customer have a reduced charge, and what is it.
 use mathlib.Core.Bool.{Bool, true, cond, not}
 use Prim.Native.Nat.{ℕ, _+_, _-_, _*_}
 use lib.Dec.{ltb}
@@ -8,8 +8,15 @@ use Rattle.answers.specs.Said.{Said, only, orElse, yesNo}
 use Rattle.tariff.specs.declared.Rates.{Rates}
 use Rattle.tariff.specs.declared.Figures.{Figures}
 use Rattle.tariff.specs.Prices.{pricesOut}
-use Rattle.tariff.specs.Charges.{general, charge}
-use Rattle.tariff.specs.Answers.{withPlain, withPeaks, withCharge, plainOf, peaksOf, chargedOf}
+use Rattle.tariff.specs.Charges.{general, charge, chargesOf}
+use Rattle.tariff.specs.Answers.{withGeneral, withCharges, withPlain, withPeaks, withCharge, plainOf, peaksOf, chargedOf}
+
+-- the charges alone, for any prices: 6, else 0 with g; 6, else 0 with c and g
+unfoldable pub generalAnswer : Figures → Rates → Said
+generalAnswer f r = cond (pricesOut (r .prices)) (only 6) (withGeneral (general f r))
+
+unfoldable pub flooredAnswer : Figures → Rates → Said
+flooredAnswer f r = cond (pricesOut (r .prices)) (only 6) (withCharges (chargesOf f r))
 
 -- 8, "no in-window quarter in the year"
 abbrev pub noWindow : Figures → Bool

@@ -5,7 +5,8 @@ use Rattle.answers.specs.Ruling.{floorParts, leastReduction}
 use Rattle.tariff.specs.declared.Figures.{Figures}
 use Rattle.tariff.specs.declared.Charged.{Charged}
 
--- a year f, and a year e with the same annual peak, the same sum, windows alike, and an in-window peak that is no higher
+-- a year f, and a year e with the same annual peak, the same sum, windows alike, and an in-window peak that is no
+-- higher
 pub record Under (f e : Figures) : Type 0 where
   pub peak : e .peak ≡ f .peak
   pub sum : e .sum ≡ f .sum

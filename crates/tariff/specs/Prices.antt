@@ -1,5 +1,5 @@
--- Document 01, Numbers: the limits of a row and of a list. "A price list has two rows, for use below 2,500 hours and for
--- 2,500 and more."
+-- Document 01, Numbers: the limits of a row and of a list. "A price list has two rows, for use below 2,500 hours and
+-- for 2,500 and more."
 use mathlib.Core.Bool.{Bool, _||_}
 use Prim.Native.Nat.{_≤_}
 use Rattle.answers.specs.Ruling.{capacityMost, energyMost, capacityOut, energyOut}

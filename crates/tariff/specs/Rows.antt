@@ -1,5 +1,5 @@
--- Document 01, Numbered answers: what each number is given for, where no number before it in the call's order is given. In plain
--- orders; the figures f, the rates r.
+-- Document 01, Numbered answers: what each number is given for, where no number before it in the call's order is given.
+-- In plain orders; the figures f, the rates r.
 use mathlib.Core.Path.{_≡_}
 use mathlib.Core.Bool.{true, false}
 use Prim.Native.Nat.{ℕ, _+_, _*_, _≤_, _<_}

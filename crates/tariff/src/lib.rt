@@ -1,7 +1,7 @@
-// Prices, charges and the decision over a year's figures, as they are defined: document 01, Customer's year and decision. The rooms above
-// compute them.
-// Main theorem: a lower in-window peak, with all else the same, never costs more, and an acceptance stays one (`never-more`, `stays`,
-// proofs/Demand).
+// Prices, charges and the decision over a year's figures, as they are defined: document 01, Customer's year and
+// decision. The rooms above compute them.
+// Main theorem: a lower in-window peak, with all else the same, never costs more, and an acceptance stays one
+// (`never-more`, `stays`, proofs/Demand).
 use answers::Place;
 
 // A row of a price list: cent per kW and year, thousandth of a cent per kWh.
@@ -16,8 +16,8 @@ pub struct Prices {
     pub high: Row,
 }
 
-// What a year's figures are judged by: the charge year, the sheet's level, the customer's option, and the price list. No rule looks at
-// the year yet: it stands here so that a rule that comes with a year finds it.
+// What a year's figures are judged by: the charge year, the sheet's level, the customer's option, and the price list.
+// No rule looks at the year yet: it stands here so that a rule that comes with a year finds it.
 pub struct Rates {
     pub year: u16,
     pub level: u8,
@@ -25,8 +25,9 @@ pub struct Rates {
     pub prices: Prices,
 }
 
-// A year's figures: the annual peak M, W; the sum S of all readings; is there an in-window quarter, of which an in-window peak of 0 says
-// nothing; the in-window peak H, W, with the day, from 1, and the quarter, from 0, where it first occurs.
+// A year's figures: the annual peak M, W; the sum S of all readings; is there an in-window quarter, of which an
+// in-window peak of 0 says nothing; the in-window peak H, W, with the day, from 1, and the quarter, from 0, where it
+// first occurs.
 pub struct Figures {
     pub peak: u32,
     pub sum: u64,
@@ -67,8 +68,27 @@ pub struct Charged {
     pub peaks: Peaks,
 }
 
-// What the decision answers, in the rooms above: 0 with the charge, 0 with yes, 0 of an opening or a day that is taken, 1, 2, 3,
-// 4, 5 with its place, 6, 8, 9, 10, 11, 12, 13.
+// A year's charges, cent: the charge of an eligible customer, and the general charge.
+pub struct TwoCharges {
+    pub charge: u64,
+    pub general: u64,
+}
+
+// What the call for the general charge answers: 0 with the cents, or 6.
+pub enum General {
+    Cents(u64),
+    PriceOut,
+}
+
+// What the call for both charges answers: 0 with the cents, or 6.
+pub enum Floored {
+    Cents(TwoCharges),
+    PriceOut,
+}
+
+// What the decision answers, in the rooms above: 0 with the charge, 0 with yes, 0 of an opening or a day that is taken,
+// 1, 2, 3, 4, 5 with its place, 6, 8, 9, 10, 11, 12, 13. A new case comes at the end: proofs and tables name a case by
+// its place in this list, and nothing before a new last one moves.
 pub enum Decision {
     Accepted(Charged),
     Eligible,

@@ -1,4 +1,5 @@
--- `charges::charge_for` meets its contract: a sum split at the parts of a cent gives the same charge, and its products are small.
+-- `charges::charge_for` meets its contract: a sum split at the parts of a cent gives the same charge, and its products
+-- are small.
 -- Assumes nothing.
 use native.Mathlib.Omega.{arith}
 use borrow.Author.Needs.{needs}
@@ -22,4 +23,4 @@ charge-for-spec =
     (λ c. let h = bounds c in omega arith)  -- add-result
     (λ c. let h = bounds c in omega arith)  -- add-result-2
     (λ c. let h = bounds c in omega arith)  -- add-result-3
-    (λ c. let h = bounds c in (charge-split _ _ _, omega arith)))
+    (λ c. charge-split _ _ _))

@@ -1,13 +1,23 @@
--- `decision::judge` meets its contract: the two halves in a row. What the first half says tells whether it is `Eligible`.
+-- `decision::judge` meets its contract: the two halves in a row. What the first half says tells whether it is
+-- `Eligible`.
 -- Assumes nothing.
 use mathlib.Core.Path.{_≡_, sym, ap, _∙_}
+use mathlib.Core.Bool.{false}
 use mathlib.Core.List.{List, [], _∷_}
 use Prim.Native.Nat.{ℕ}
+use native.Mathlib.Omega.{arith}
 use borrow.Author.Needs.{needs}
 use types.Run.{miss}
+use Rattle.answers.specs.Ruling.{levelOut}
+use Rattle.tariff.specs.declared.TwoCharges.{TwoCharges}
 use Rattle.tariff.specs.declared.Decision.the-variants.{Eligible}
-use Rattle.tariff.specs.Answers.{saidOf}
-use Rattle.tariff.proofs.Answered.{number-is, judge-first, judge-second}
+use Rattle.tariff.specs.Prices.{pricesOut}
+use Rattle.tariff.specs.Charges.{chargesOf}
+use Rattle.tariff.specs.Answers.{saidOf, saidOfFloored}
+use Rattle.tariff.specs.Decision.{eligibleAnswer}
+use Rattle.tariff.specs.Rows.{LegalRates}
+use Rattle.tariff.proofs.Limits.{rates-legal}
+use Rattle.tariff.proofs.Answered.{number-is, floored-six, floored-cents, eligible-level, eligible-prices, eligible-legal, charge-legal, judge-first, judge-second}
 use Rattle.tariff.proofs.Exactly.{eligible-zero}
 use Rattle.tariff.proofs.Only.{decision-only}
 use Rattle.decision.proofs.judge.Statement.{statement}
@@ -17,27 +27,59 @@ use Rattle.decision.proofs.judge.Tie as tie
 abbrev others : List ℕ
 others = 0 ∷ 2 ∷ 3 ∷ 4 ∷ 5 ∷ 6 ∷ 7 ∷ 8 ∷ 9 ∷ 10 ∷ 11 ∷ 12 ∷ 13 ∷ 14 ∷ []
 
-returns : tie.Need-returns
-returns c =
-    let e = c .before .before .before in
-    let a = e .before .args in
-    let z = number-is (sym (e .eligible .ensures) ∙ ap saidOf (c .before .enum-told .given .1)) in
-    judge-second (a .figures) (a .rates) z (c .charge .ensures)
+-- what is known past each test
+level-at : (e : tie.Else1) → levelOut (e .before .before .args .rates .level) ≡ false
+level-at e = sym (e .before .level-out .ensures) ∙ e .if1 .left
+
+cents-at :
+    (e : tie.After-asked)
+    → let a = e .before .before .before .before .before .args in
+    (pricesOut (a .rates .prices) ≡ false) × (e .asked .given .0 .0 ≡ chargesOf (a .figures) (a .rates))
+cents-at e = floored-cents _ _ (ap saidOfFloored (sym (e .asked .given .1)) ∙ e .before .before .floored-charge .ensures)
+
+legal-at : (e : tie.After-asked) → LegalRates (e .before .before .before .before .before .args .rates)
+legal-at e = rates-legal (level-at (e .before .before .before)) (cents-at e .0)
+
+-- what the first half says
+first-at :
+    (c : tie.After-eligible-rules)
+    → let e = c .before .before in
+    let a = e .before .before .before .before .before .args in
+    saidOf (c .eligible-rules .result) ≡ eligibleAnswer (a .figures) (a .rates)
+first-at c = c .eligible-rules .ensures ∙ eligible-legal _ _ (legal-at (c .before .before))
 
 returns-2 : tie.Need-returns-2
 returns-2 c =
-    let a = c .before .before .args in
-    let e = c .before .eligible .ensures in
-    judge-first (a .figures) (a .rates) e (λ z.
-    let same : c .before .eligible .result ≡ Eligible = decision-only e (eligible-zero _ _ (sym (number-is e) ∙ z)) in
-    miss others 1 tt (rw same at (c .match .keys2)))
+    let asked = c .before .before in
+    let six = floored-six _ _ (ap saidOfFloored (sym (c .enum-told .given .1)) ∙ asked .floored-charge .ensures) in
+    judge-first _ _ (eligible-prices _ _ (level-at (asked .before)) six) (omega arith)
+
+returns-3 : tie.Need-returns-3
+returns-3 c =
+    let first = c .before .before .before in
+    let e = first .before .before in
+    let z = number-is (sym (first-at first) ∙ ap saidOf (c .before .enum-told2 .given .1)) in
+    judge-second _ _ z (c .charge-rules .ensures _ (cents-at e .1) ∙ charge-legal _ _ (legal-at e .legal-prices))
+
+returns-4 : tie.Need-returns-4
+returns-4 c =
+    let said = first-at (c .before) in
+    judge-first _ _ said (λ z.
+    let same : c .before .eligible-rules .result ≡ Eligible = decision-only said (eligible-zero _ _ (sym (number-is said) ∙ z)) in
+    miss others 1 tt (rw same at (c .match2 .keys2)))
 
 pub judge-spec : {M : Type 1} → statement M
 judge-spec =
     tie.close
     (tie.spec
-    (λ c κs. search needs)  -- eligible-requires
+    (λ c κs. search needs)  -- level-out-requires
+    (λ c. judge-first _ _ (eligible-level _ _ (sym (c .before .level-out .ensures) ∙ c .if1 .taken)) (omega arith))  -- returns
+    (λ c κs. search needs)  -- floored-charge-requires
+    (λ c. search needs)  -- enum-known-asked
     (λ c. search needs)  -- enum-told
-    (λ c κs. search needs)  -- charge-requires
-    returns
-    returns-2)
+    returns-2
+    (λ c κs. (legal-at (c .before) .legal-level, ap (λ (b : TwoCharges). b .general) (cents-at (c .before) .1)))  -- eligible-rules-requires
+    (λ c. search needs)  -- enum-told-2
+    (λ c κs. search needs)  -- charge-rules-requires
+    returns-3
+    returns-4)
