@@ -1,5 +1,5 @@
-// The module's long calls on a grid series for a caller in Rust or C, as the benchmark makes them: windows, whole and by days.
-// Each is the called function and no more; its promise is that function's, through the same definitions.
+// The module's long calls on a grid series for a caller in Rust or C, as the benchmark makes them: windows, whole and
+// by days. Each is the called function and no more; its promise is that function's, through the same definitions.
 ghost use mathlib.Core.Path.{_≡_};
 ghost use lib.ListN.{length};
 ghost use Rattle.periods.specs.Period.{periodDays};
@@ -12,7 +12,8 @@ use grid::Grid;
 // The windows of a whole grid series.
 #[no_mangle]
 pub extern "C" fn bench_windows(year: u16, level: u8, series: &[u32], out: &mut [u8]) -> Flat
-    ensures { λ r. ⌜ (r ≡ flatOf (windowsAnswer year level (now (series .entry)) (length (now (out .entry))))) × (now (out .exit) ≡ windowsBuffer year level (now (series .entry)) (now (out .entry))) ⌝ }
+    ensures { λ r. ⌜ (r ≡ flatOf (windowsAnswer year level (now (series .entry)) (length (now (out .entry)))))
+        × (now (out .exit) ≡ windowsBuffer year level (now (series .entry)) (now (out .entry))) ⌝ }
 {
     grid_flat::of_answer(grid::windows(year, level, series, out))
 }
@@ -31,7 +32,8 @@ fn all_grid_days(year: u16, level: u8, series: &[u32]) -> Grid
 // The windows of a grid series that is given day by day.
 #[no_mangle]
 pub extern "C" fn bench_grid_days(year: u16, level: u8, series: &[u32], out: &mut [u8]) -> Flat
-    ensures { λ r. ⌜ (r ≡ flatOf (gridDaysAnswer year level (now (series .entry)) (length (now (out .entry))))) × (now (out .exit) ≡ gridDaysBuffer year level (now (series .entry)) (now (out .entry))) ⌝ }
+    ensures { λ r. ⌜ (r ≡ flatOf (gridDaysAnswer year level (now (series .entry)) (length (now (out .entry)))))
+        × (now (out .exit) ≡ gridDaysBuffer year level (now (series .entry)) (now (out .entry))) ⌝ }
 {
     grid_flat::of_answer(all_grid_days(year, level, series).close(out))
 }

@@ -1,5 +1,6 @@
-// Reads each file that the arguments name as the two programs read their input, and prints its name in a line and then its text. A file whose
-// name begins with g goes to the window program's machine, any other one to the statement program's; nothing here is decided or proved of them.
+// Reads each file that the arguments name as the two programs read their input, and prints its name in a line and then
+// its text. A file whose name begins with g goes to the window program's machine, any other one to the statement
+// program's; nothing here is decided or proved of them.
 // tests/file_cases.py makes the files, and what must come of them from document 01.
 use customer_file::CustomerFile;
 use grid_file::GridFile;

@@ -1,5 +1,6 @@
-// The window program: reads a grid file from standard input and prints its high-load windows, or the refusal. Document 01, Two programs.
-// The machine of grid_file says how much is read next, tests it, and makes the text; nothing is decided here.
+// The window program: reads a grid file from standard input and prints its high-load windows, or the refusal. Document
+// 01, Two programs. The machine of grid_file says how much is read next and tests it, and grid_text makes the text;
+// nothing is decided here.
 use grid_file::GridFile;
 use libc::STDIN_FILENO;
 use libc::STDOUT_FILENO;

@@ -1,5 +1,6 @@
-// The statement program: reads a customer file from standard input and prints the decision, or the refusal. Document 01, Two programs.
-// The machine of customer_file says how much is read next, tests it, and makes the text; nothing is decided here.
+// The statement program: reads a customer file from standard input and prints the decision, or the refusal. Document
+// 01, Two programs. The machine of customer_file says how much is read next and tests it, and customer_text makes the
+// text; nothing is decided here.
 use customer_file::CustomerFile;
 use libc::STDIN_FILENO;
 use libc::STDOUT_FILENO;

@@ -1,4 +1,5 @@
--- `bench_grid::all_grid_days` meets its contract. The loop's invariant: the state is that after the first d days of the series.
+-- `bench_grid::all_grid_days` meets its contract. The loop's invariant: the state is that after the first d days of the
+-- series.
 -- Assumes nothing.
 use mathlib.Core.Path.{_≡_, sym, ap, _∙_}
 use Prim.Native.Nat.{_≤_, _-_, _+_}
@@ -25,8 +26,9 @@ loop-holds c = (c .period-days .ensures, omega arith, sym (days-none dayGrid _ _
 
 loop-again : tie.Need-loop-again Inv-loop μ-loop
 loop-again c =
-    let at = c .before .before .before .before .loop in
-    let series = c .before .before .before .before .before .before .before .before .before .args .series .now in (
+    let turn = c .before .before .before .before in
+    let at = turn .loop in
+    let series = turn .before .before .before .before .before .args .series .now in (
       at .inv .0,
       omega arith,
       c .before .day .ensures .1
@@ -37,11 +39,12 @@ loop-again c =
 
 returns : tie.Need-returns Inv-loop μ-loop
 returns c =
-    let a = c .before .before .before .before .before .before .args in
-    let at = c .before .loop in
+    let ended = c .before in
+    let at = ended .loop in
+    let a = ended .before .before .before .before .before .args in
     let all : at .d ≡ periodDays (a .year) = omega arith in
     at .inv .2
-    ∙ ap (λ (s : Grid). offered dayGrid s (daysOf (a .series .now) (at .d))) (c .before .before .before .before .«open» .ensures .1)
+    ∙ ap (λ (s : Grid). offered dayGrid s (daysOf (a .series .now) (at .d))) (ended .before .before .before .«open» .ensures .1)
     ∙ ap (gridAfter (a .year) (a .level) (a .series .now)) all
 
 pub all-grid-days-spec : {M : Type 1} → statement M

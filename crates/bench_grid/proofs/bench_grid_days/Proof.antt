@@ -11,10 +11,13 @@ use Rattle.bench_grid.proofs.bench_grid_days.Tie as tie
 
 returns : tie.Need-returns
 returns c =
-    let called = c .before .before .before .close .ensures in
-    let state = c .before .before .before .before .before .all-grid-days .ensures in
-    let out = c .before .before .before .before .before .before .before .before .args .out .now in
-    (c .of-answer .ensures ∙ ap flatOf (called .0 ∙ ap (λ (g : Grid). closeAnswer g (length out)) state), called .1 ∙ ap (λ (g : Grid). closeBuffer g out) state)
+    let closed = c .before .before .before in
+    let called = closed .close .ensures in
+    let state = closed .before .before .all-grid-days .ensures in
+    let out = closed .before .before .before .before .before .args .out .now in (
+      c .of-answer .ensures ∙ ap flatOf (called .0 ∙ ap (λ (g : Grid). closeAnswer g (length out)) state),
+      called .1 ∙ ap (λ (g : Grid). closeBuffer g out) state,
+    )
 
 pub bench-grid-days-spec : {M : Type 1} → statement M
 bench-grid-days-spec =
