@@ -1,27 +1,26 @@
 -- A lent series that is given to a machine day by day, from its opening to its closing: each day as it is handed out, and where one is
 -- refused the next ones all the same.
-use mathlib.Core.Bool.{Bool}
 use mathlib.Core.List.{List}
 use Prim.Native.Nat.{ℕ}
 use Rattle.answers.specs.Said.{Said}
 use Rattle.dates.specs.Dates.{yearDays}
 use Rattle.readings.specs.Days.{offered, daysOf}
-use Rattle.tariff.specs.declared.Row.{Row}
 use Rattle.tariff.specs.declared.Prices.{Prices}
+use Rattle.terms.specs.Basis.{Basis}
 use Rattle.customer.specs.declared.Customer.{Customer}
 use Rattle.customer.specs.Answers.{openCustomer, dayCustomer, closeAnswer}
 
 -- a customer's year after the first n days of a series
-abbrev pub customerAfter : List ℕ → List ℕ → Prices → Bool → List ℕ → ℕ → Customer
-customerAfter b hs p option xs n = offered dayCustomer (openCustomer b hs p option) (daysOf xs n)
+abbrev pub customerAfter : Basis → List ℕ → ℕ → Customer
+customerAfter k xs n = offered dayCustomer (openCustomer k) (daysOf xs n)
 
 -- the days are those of the year that the opened state has
-abbrev pub openDays : List ℕ → List ℕ → Prices → Bool → ℕ
-openDays b hs p option = yearDays (openCustomer b hs p option .terms .year)
+abbrev pub openDays : Basis → ℕ
+openDays k = yearDays (openCustomer k .terms .year)
 
 -- what closing answers after as many days as that year has
-abbrev pub customerDaysAnswer : List ℕ → List ℕ → Prices → Bool → List ℕ → Said
-customerDaysAnswer b hs p option xs = closeAnswer (customerAfter b hs p option xs (openDays b hs p option))
+abbrev pub customerDaysAnswer : Basis → List ℕ → Said
+customerDaysAnswer k xs = closeAnswer (customerAfter k xs (openDays k))
 
 -- a price list of four numbers
 abbrev pub pricesOf : ℕ → ℕ → ℕ → ℕ → Prices

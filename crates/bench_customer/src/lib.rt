@@ -1,6 +1,7 @@
 // The module's long calls on a customer's year for a caller in Rust or C, as the benchmark makes them: the decision, whole and by days.
 // Each is the called function and no more; its promise is that function's, through the same definitions.
 ghost use mathlib.Core.Path.{_≡_};
+ghost use Rattle.terms.specs.Basis.{basis};
 ghost use Rattle.customer.specs.Answers.{decideAnswer};
 ghost use Rattle.flat.specs.Flat.{flatOf};
 ghost use Rattle.bench_customer.specs.Days.{customerAfter, openDays, customerDaysAnswer, pricesOf};
@@ -37,7 +38,9 @@ pub extern "C" fn bench_decide(
     option: bool,
     series: &[u32],
 ) -> Flat
-    ensures { λ r. ⌜ r ≡ flatOf (decideAnswer (now (sheet .entry)) (now (holidays .entry)) (pricesOf lowcapacity lowenergy highcapacity highenergy) option (now (series .entry))) ⌝ }
+    ensures { λ r. ⌜ (let prices = pricesOf lowcapacity lowenergy highcapacity highenergy in
+        let k = basis (now (sheet .entry)) (now (holidays .entry)) prices option in
+        r ≡ flatOf (decideAnswer k (now (series .entry)))) ⌝ }
 {
     let prices = prices_of(lowcapacity, lowenergy, highcapacity, highenergy);
     figured::of_decision(customer::decide(sheet, holidays, prices, option, series))
@@ -51,7 +54,8 @@ fn all_customer_days(
     option: bool,
     series: &[u32],
 ) -> Customer
-    ensures { λ r. ⌜ r ≡ customerAfter (now (sheet .entry)) (now (holidays .entry)) prices option (now (series .entry)) (openDays (now (sheet .entry)) (now (holidays .entry)) prices option) ⌝ }
+    ensures { λ r. ⌜ (let k = basis (now (sheet .entry)) (now (holidays .entry)) prices option in
+        r ≡ customerAfter k (now (series .entry)) (openDays k)) ⌝ }
 {
     let mut state = Customer::open(sheet, holidays, prices, option).customer;
     for d in 0..dates::year_days(state.terms.year) {
@@ -74,7 +78,9 @@ pub extern "C" fn bench_customer_days(
     option: bool,
     series: &[u32],
 ) -> Flat
-    ensures { λ r. ⌜ r ≡ flatOf (customerDaysAnswer (now (sheet .entry)) (now (holidays .entry)) (pricesOf lowcapacity lowenergy highcapacity highenergy) option (now (series .entry))) ⌝ }
+    ensures { λ r. ⌜ (let prices = pricesOf lowcapacity lowenergy highcapacity highenergy in
+        let k = basis (now (sheet .entry)) (now (holidays .entry)) prices option in
+        r ≡ flatOf (customerDaysAnswer k (now (series .entry)))) ⌝ }
 {
     let prices = prices_of(lowcapacity, lowenergy, highcapacity, highenergy);
     figured::of_decision(all_customer_days(sheet, holidays, prices, option, series).close())

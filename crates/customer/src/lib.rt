@@ -2,41 +2,25 @@
 // Main theorems: days given one by one, refused ones among them, close as the whole series of the taken days (proofs/Whole); two years
 // that agree in every in-window quarter, with one peak and one energy, are answered the same (proofs/Demand).
 ghost use mathlib.Core.Path.{_≡_};
-ghost use Prim.Native.Nat.{_≤_, _<_};
-ghost use lib.ListN.{length};
-ghost use Rattle.answers.specs.Said.{orElse};
-ghost use Rattle.dates.specs.Dates.{yearDays};
-ghost use Rattle.readings.specs.declared.Run.the-variants.{Year};
-ghost use Rattle.readings.specs.Runs.{dayLen, runReadings};
-ghost use Rattle.sheet.specs.Answers.{saidOfSheet};
 ghost use Rattle.tariff.specs.Answers.{saidOf};
-ghost use Rattle.customer.specs.Answers.{termsOf, listsAnswer, openAnswer, opened, shut, openCustomer, sumMost, dayUnder, dayAnswer, taken, dayCustomer, closeAnswer, figuresUnder, wholeAnswer, decideAnswer};
+ghost use Rattle.terms.specs.Basis.{basis};
+ghost use Rattle.terms.specs.Opening.{openAnswer};
+ghost use Rattle.customer.specs.Answers.{openCustomer, dayUnder, dayAnswer, taken, dayCustomer, closeAnswer, decideAnswer, Steps};
+ghost use Rattle.customer.specs.Rows.{DayFits};
 use answers::Place;
 use day_figures::YearFigures;
 use readings::Run;
-use sheet::Sheet;
-use sheet::SheetAnswer;
 use tariff::Decision;
 use tariff::Figures;
 use tariff::Prices;
 use tariff::Rates;
-use tariff::Row;
+use terms::Terms;
 
 // The highest legal reading of a customer, W.
 const CUSTOMER_MOST: u32 = 1_000_000_000;
 
 // What a day of legal readings can add to the sum: at most 100 of them.
 const DAY_SUM_MOST: u64 = 100_000_000_000;
-
-// What a year is judged under: the sheet's year, level and windows, the days that carry windows (day 1 first), prices and option.
-pub struct Terms {
-    pub year: u16,
-    pub level: u8,
-    pub option: bool,
-    pub prices: Prices,
-    pub windows: [bool; sheet::PLACES],
-    pub carrying: [bool; dates::MOST_DAYS],
-}
 
 // A year that is given day by day: the days taken so far, and their figures.
 pub struct Customer {
@@ -51,38 +35,6 @@ pub struct Stepped {
     pub customer: Customer,
 }
 
-// What reading the sheet answers, as the decision's: reading never answers 14.
-fn told(answer: SheetAnswer) -> Decision
-    requires { ⌜ (saidOfSheet answer .number ≡ 14 → ⊥) ⌝ }
-    ensures { λ r. ⌜ saidOf r ≡ saidOfSheet answer ⌝ }
-{
-    match answer {
-        SheetAnswer::Accepted => Decision::Taken,
-        SheetAnswer::Short => Decision::Malformed,
-        SheetAnswer::YearOut => Decision::YearOut,
-        SheetAnswer::LevelOut => Decision::LevelOut,
-        SheetAnswer::Malformed => Decision::Malformed,
-    }
-}
-
-// What needs no readings: what reading the sheet answered, then 3 and 6.
-fn open_answer(read: SheetAnswer, year: u16, holidays: &[u16], prices: Prices) -> Decision
-    requires { ⌜ (saidOfSheet read .number ≡ 14 → ⊥) ⌝ }
-    ensures { λ r. ⌜ saidOf r ≡ orElse (saidOfSheet read) (listsAnswer year (now (holidays .entry)) prices) ⌝ }
-{
-    let answer = told(read);
-    let Decision::Taken = answer else {
-        return answer;
-    };
-    if holidays::bad_holidays(year, holidays) {
-        return Decision::BadHolidays;
-    }
-    if charges::prices_out(prices) {
-        return Decision::PriceOut;
-    }
-    Decision::Taken
-}
-
 // The decision over a whole series. Refuses 12, 1, 2, 12, 3, 6, 4, 5, 8, 9, 10, 11 in this order; else 0 with the charge.
 pub fn decide(
     sheet: &[u8],
@@ -91,18 +43,19 @@ pub fn decide(
     option: bool,
     series: &[u32],
 ) -> Decision
-    ensures { λ r. ⌜ saidOf r ≡ decideAnswer (now (sheet .entry)) (now (holidays .entry)) prices option (now (series .entry)) ⌝ }
+    ensures { λ r. ⌜ saidOf r
+        ≡ decideAnswer (basis (now (sheet .entry)) (now (holidays .entry)) prices option) (now (series .entry)) ⌝ }
 {
-    let opened = Customer::open(sheet, holidays, prices, option);
-    let answer = opened.answer;
+    let opening = terms::open(sheet, holidays, prices, option);
+    let answer = opening.answer;
     let Decision::Taken = answer else {
         return answer;
     };
-    let year = opened.customer.terms.year;
+    let year = opening.terms.year;
     let collected = day_figures::year_figures(
         year,
-        &opened.customer.terms.carrying,
-        &opened.customer.terms.windows,
+        &opening.terms.carrying,
+        &opening.terms.windows,
         series,
     );
     let YearFigures::All(figures) = collected else {
@@ -112,11 +65,11 @@ pub fn decide(
         let run = Run::Year(year);
         return Decision::BadReading(legal::first_illegal(run, series, CUSTOMER_MOST));
     }
-    let list = opened.customer.terms.prices;
+    let list = opening.terms.prices;
     let rates = Rates {
         year,
-        level: opened.customer.terms.level,
-        option: opened.customer.terms.option,
+        level: opening.terms.level,
+        option: opening.terms.option,
         prices: list,
     };
     decision::judge(figures, rates)
@@ -150,70 +103,35 @@ impl Customer {
     // Opens a year that comes day by day. Refuses 12, 1, 2, 12, 3, 6 in this order; a refusal hands back one fixed state, on which
     // every day and every closing is 13.
     pub fn open(sheet: &[u8], holidays: &[u16], prices: Prices, option: bool) -> Stepped
-        ensures { λ r. ⌜ (saidOf (r .answer) ≡ openAnswer (now (sheet .entry)) (now (holidays .entry)) prices) × (r .customer ≡ openCustomer (now (sheet .entry)) (now (holidays .entry)) prices option) ⌝ }
+        ensures { λ r. ⌜ (let k = basis (now (sheet .entry)) (now (holidays .entry)) prices option in
+            Steps (openAnswer k) (openCustomer k) r) ⌝ }
     {
-        let read = sheet_read::read(sheet);
-        let said = read.answer;
-        let meaning = read.sheet;
-        let answer = open_answer(said, meaning.year, holidays, prices);
+        let opening = terms::open(sheet, holidays, prices, option);
+        let answer = opening.answer;
+        let terms = opening.terms;
         let Decision::Taken = answer else {
             return Stepped {
                 answer,
-                customer: Customer::shut(),
+                customer: Customer {
+                    terms,
+                    seen: 65535,
+                    figures: tariff::NO_FIGURES,
+                },
             };
         };
-        let customer = Customer::opened(meaning, holidays, prices, option);
-        Stepped { answer, customer }
-    }
-
-    // The state that an accepted opening hands over: no day is taken yet.
-    fn opened(meaning: Sheet, holidays: &[u16], prices: Prices, option: bool) -> Customer
-        ensures { λ r. ⌜ r ≡ opened (termsOf meaning (now (holidays .entry)) prices option) ⌝ }
-    {
-        let windows = meaning.windows;
-        Customer {
-            terms: Terms {
-                year: meaning.year,
-                level: meaning.level,
-                option,
-                prices,
-                windows,
-                carrying: calendar::window_days(meaning.year, holidays),
+        Stepped {
+            answer,
+            customer: Customer {
+                terms,
+                seen: 0,
+                figures: tariff::NO_FIGURES,
             },
-            seen: 0,
-            figures: tariff::NO_FIGURES,
-        }
-    }
-
-    fn shut() -> Customer
-        ensures { λ r. ⌜ r ≡ shut ⌝ }
-    {
-        Customer {
-            terms: Terms {
-                year: 0,
-                level: 0,
-                option: false,
-                prices: Prices {
-                    low: Row {
-                        capacity: 0,
-                        energy: 0,
-                    },
-                    high: Row {
-                        capacity: 0,
-                        energy: 0,
-                    },
-                },
-                windows: [false; sheet::PLACES],
-                carrying: [false; dates::MOST_DAYS],
-            },
-            seen: 65535,
-            figures: tariff::NO_FIGURES,
         }
     }
 
     // A legal day is taken in.
     fn add(self, day: &[u32]) -> Customer
-        requires { ⌜ (self .seen < yearDays (self .terms .year)) × (length (now day) ≡ dayLen (Year (self .terms .year)) (self .seen)) × (self .figures .sum ≤ sumMost (self .seen)) ⌝ }
+        requires { ⌜ DayFits self (now day) ⌝ }
         ensures { λ r. ⌜ r ≡ taken self (now (day .entry)) ⌝ }
     {
         let terms = self.terms;
@@ -235,7 +153,7 @@ impl Customer {
 
     // One day more. Refuses 13, 4, 5 in this order, and then hands back the state as it was.
     pub fn day(self, day: &[u32]) -> Stepped
-        ensures { λ r. ⌜ (saidOf (r .answer) ≡ dayAnswer self (now (day .entry))) × (r .customer ≡ dayCustomer self (now (day .entry))) ⌝ }
+        ensures { λ r. ⌜ Steps (dayAnswer self (now (day .entry))) (dayCustomer self (now (day .entry))) r ⌝ }
     {
         let answer = day_answer(self.terms.year, self.seen, self.figures.sum, day);
         let Decision::Taken = answer else {

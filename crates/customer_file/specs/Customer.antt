@@ -9,11 +9,11 @@ use Rattle.customer.specs.Answers.{decideAnswer}
 use Rattle.fields.specs.Layout.{headSize}
 use Rattle.fields.specs.Series.{seriesIn}
 use Rattle.fields.specs.File.{fileAnswer}
-use Rattle.customer_head.specs.Header.{sheetPart, customerYear, optionOf, holidaysOf, pricesOf, customerLayout}
+use Rattle.customer_head.specs.Header.{customerYear, customerLayout, basisIn}
 
 -- what a customer file is answered: its header, then its days, then what the decision over its whole series is
 unfoldable pub customerAnswer : List ℕ → Said
 customerAnswer b =
     fileAnswer (customerLayout b) (Year (customerYear b)) customerMost
-    (decideAnswer (sheetPart b) (holidaysOf b) (pricesOf b) (optionOf b) (seriesIn b (headSize (customerLayout b))))
+    (decideAnswer (basisIn b) (seriesIn b (headSize (customerLayout b))))
     b

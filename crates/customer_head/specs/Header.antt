@@ -12,6 +12,7 @@ use Rattle.holidays.specs.Holidays.{badEntry}
 use Rattle.packed.specs.Bytes.{twoAt, fourAt, markSize}
 use Rattle.sheet.specs.Bytes.{mark, yearAt, sheetSize, seasonBytes, seasonFull}
 use Rattle.tariff.specs.declared.Prices.{Prices}
+use Rattle.terms.specs.Basis.{Basis, basis}
 use Rattle.customer.specs.declared.Customer.{Customer}
 use Rattle.customer.specs.Answers.{openCustomer}
 use Rattle.fields.specs.Layout.{Field, Layout, layoutOf, startOf}
@@ -121,6 +122,9 @@ customerLayout b = layoutOf (customerFields b)
 abbrev pub spanOf : List ℕ → ℕ → Span
 spanOf b k = record { start = startOf (customerLayout b) k; width = customerLayout b .width k }
 
--- the year that the header opens
+-- the basis that the header states, and the year that it opens
+abbrev pub basisIn : List ℕ → Basis
+basisIn b = basis (sheetPart b) (holidaysOf b) (pricesOf b) (optionOf b)
+
 unfoldable pub openedIn : List ℕ → Customer
-openedIn b = openCustomer (sheetPart b) (holidaysOf b) (pricesOf b) (optionOf b)
+openedIn b = openCustomer (basisIn b)

@@ -37,7 +37,8 @@ use Rattle.grid.proofs.Exactly.{open-exactly, close-exactly, windows-exactly}
 use Rattle.grid.proofs.Whole.{days-whole as grid-days, same-place as grid-place}
 use Rattle.tariff.proofs.Answered.{number-is}
 use Rattle.tariff.proofs.Exactly.{eligible-exactly, charge-exactly, judge-exactly}
-use Rattle.customer.proofs.Exactly.{customer-open-exactly, customer-day-exactly, customer-close-exactly, decide-exactly}
+use Rattle.terms.proofs.Exactly.{customer-open-exactly}
+use Rattle.customer.proofs.Exactly.{customer-day-exactly, customer-close-exactly, decide-exactly}
 use Rattle.customer.proofs.Whole.{days-whole as customer-days, same-place as customer-place}
 use Rattle.demands.specs.Module.{ours}
 use Rattle.demands.specs.Answers.{ExactlyWhen, ToTheQuarterHour, DaysAsWhole}
@@ -57,8 +58,8 @@ exactly-when =
       eligible = eligible-exactly;
       charge = charge-exactly;
       judge = judge-exactly;
-      decide = λ k xs. decide-exactly (k .sheet) (k .holidays) (k .prices) (k .option) xs;
-      customer-open = λ k. customer-open-exactly (k .sheet) (k .holidays) (k .prices);
+      decide = decide-exactly;
+      customer-open = customer-open-exactly;
       customer-day = customer-day-exactly;
       customer-close = customer-close-exactly;
     }
@@ -68,8 +69,8 @@ days-as-whole =
     record {
       grid = λ y level buffer o. grid-days y level o buffer;
       grid-place = λ y level xs buffer d q e. grid-place y level xs buffer d q e;
-      customer = λ k o. customer-days (k .sheet) (k .holidays) (k .prices) (k .option) o;
-      customer-place = λ k xs d q o e. customer-place (k .sheet) (k .holidays) (k .prices) (k .option) o xs d q e;
+      customer = customer-days;
+      customer-place = λ k xs d q o e. customer-place k o xs d q e;
     }
 
 -- where a second answer behind a first is 0, it is the second

@@ -32,7 +32,7 @@ use Rattle.readings.proofs.Days.{next-exactly}
 use Rattle.sheet.specs.declared.Sheet.{Sheet}
 use Rattle.sheet.specs.Windows.{tooFull}
 use Rattle.packed.specs.Bytes.{twoAt, versionOut}
-use Rattle.sheet.specs.Bytes.{versionAt, yearAt, levelAt, sheetSize, windowsIn, sheetIn, unmarked}
+use Rattle.sheet.specs.Bytes.{versionAt, yearAt, levelAt, sheetSize, windowsIn, unmarked}
 use Rattle.sheet.specs.Answers.{readAnswer, writeAnswer}
 use Rattle.sheet.specs.Rows.{ReadRow}
 use Rattle.sheet.specs.Rows.ReadRow.{malformed, one, two, full, zero}
@@ -42,23 +42,25 @@ use Rattle.grid.specs.Rows.{WindowsRow}
 use Rattle.grid.specs.Rows.WindowsRow.{five}
 use Rattle.grid.specs.declared.Grid.{Grid}
 use Rattle.grid.proofs.Exactly.{windows-exactly}
-use Rattle.tariff.specs.declared.Prices.{Prices}
 use Rattle.tariff.specs.declared.Rates.{Rates}
 use Rattle.tariff.specs.declared.Figures.{Figures}
 use Rattle.tariff.specs.Prices.{pricesOut}
 use Rattle.tariff.specs.Charges.{general, charge}
 use Rattle.tariff.specs.Decision.{noWindow, shareShort, moveShort, reductionShort, eligibleRules, chargeRules, judgeRules, eligibleAnswer, chargeAnswer, judgeAnswer}
-use Rattle.customer.specs.Answers.{termsOf, ratesOf, wholeAnswer, decideAnswer, openAnswer as customerOpens, overfull, dayAnswer as customerDay, closeAnswer as customerCloses}
+use Rattle.terms.specs.Basis.{Basis, basisYear}
+use Rattle.terms.specs.Opening.{termsOf, openAnswer as customerOpens}
+use Rattle.terms.specs.Rows.{CustomerOpenRow}
+use Rattle.terms.specs.Rows.CustomerOpenRow.{sheet, three, six, zero}
+use Rattle.terms.proofs.Exactly.{open-zero}
 use Rattle.customer.specs.declared.Customer.{Customer}
-use Rattle.customer.specs.Rows.{CustomerOpenRow, CustomerDayRow, SeriesRow, DecideRow}
-use Rattle.customer.specs.Rows.CustomerOpenRow.{sheet, three, six, zero}
+use Rattle.customer.specs.Answers.{ratesOf, wholeAnswer, decideAnswer, overfull, dayAnswer as customerDay, closeAnswer as customerCloses}
+use Rattle.customer.specs.Rows.{CustomerDayRow, SeriesRow, DecideRow}
 use Rattle.customer.specs.Rows.CustomerDayRow.{over, next}
 use Rattle.customer.specs.Rows.SeriesRow.{four, five, judged}
 use Rattle.customer.specs.Rows.DecideRow.{refused, series}
-use Rattle.customer.specs.Demand.{Basis, basisRun, basisRates}
-use Rattle.customer.proofs.Exactly.{open-zero, customer-day-exactly, decide-exactly}
+use Rattle.customer.specs.Demand.{basisRun, basisRates, basisFigures}
+use Rattle.customer.proofs.Exactly.{customer-day-exactly, decide-exactly}
 use Rattle.customer.proofs.Whole.{judge-five}
-use Rattle.demands.specs.Year.{decideFor, figuresIn}
 use Rattle.demands.specs.Module.{ours, Refused}
 use Rattle.demands.specs.Refusals.{bare, withFigures, yearColumn, Carries, CarriesPlace, FirstToday, Carried}
 
@@ -96,14 +98,14 @@ module _ (column : ℕ → List ℕ) (one : column 1 ≡ []) (two : column 2 ≡
       (choice (Refusing column) (tooFull (windowsIn b)) (λ r. leaf (sym twelve))
       (λ r. absurd (r refl)))))))
 
-  opens : (b hs : List ℕ) (p : Prices) → Refusing column (customerOpens b hs p)
+  opens : (k : Basis) → Refusing column (customerOpens k)
   unfolding customerOpens
-  opens b hs p =
-      choice (Refusing column) (eqb (readAnswer b .number) 0)
-      (choice (Refusing column) (badHolidays (sheetIn b .year) hs) (λ r. leaf (sym three))
-      (choice (Refusing column) (pricesOut p) (λ r. leaf (sym six))
+  opens k =
+      choice (Refusing column) (eqb (readAnswer (k .sheet) .number) 0)
+      (choice (Refusing column) (badHolidays (basisYear k) (k .holidays)) (λ r. leaf (sym three))
+      (choice (Refusing column) (pricesOut (k .prices)) (λ r. leaf (sym six))
       (λ r. absurd (r refl))))
-      (reads b)
+      (reads (k .sheet))
 
 -- an answer whose refusals and whose 0 carry nothing
 bare-all : (a : Said) → (Refused a → Carries a (bare [])) → (a .number ≡ 0 → only 0 ≡ a) → Carries a (bare [])
@@ -223,14 +225,14 @@ judged-listed f r = judge-listed f r (yearColumn f r) _ (λ n e. refl) refl
 
 decides :
     (k : Basis) (xs : List ℕ)
-    → Carries (decideFor k xs) (withPlace (firstIllegal (basisRun k) customerMost xs) (yearColumn (figuresIn k xs) (basisRates k)))
+    → Carries (decideAnswer k xs) (withPlace (firstIllegal (basisRun k) customerMost xs) (yearColumn (basisFigures k xs) (basisRates k)))
 unfolding decideAnswer wholeAnswer
 decides k xs =
     let place = firstIllegal (basisRun k) customerMost xs in
-    let others = yearColumn (figuresIn k xs) (basisRates k) in
-    behind (customerOpens (k .sheet) (k .holidays) (k .prices)) (opens (withPlace place others) refl refl refl refl refl (k .sheet) (k .holidays) (k .prices))
+    let others = yearColumn (basisFigures k xs) (basisRates k) in
+    behind (customerOpens k) (opens (withPlace place others) refl refl refl refl refl k)
     (behind (seriesAnswer (basisRun k) customerMost xs) (series-listed (basisRun k) customerMost xs others refl)
-    (judge-listed (figuresIn k xs) (basisRates k) (withPlace place others) _ (before place others) refl))
+    (judge-listed (basisFigures k xs) (basisRates k) (withPlace place others) _ (before place others) refl))
 
 customer-days : (c : Customer) (day : List ℕ) → Carries (customerDay c day) (withPlace (record { day = c .seen + 1; position = firstAbove customerMost day }) (bare []))
 unfolding customerDay
@@ -292,21 +294,21 @@ read-five (two f y l) e = omega arith
 read-five (full f y l w) e = omega arith
 read-five (zero f y l w) e = omega arith
 
-open-five : {b hs : List ℕ} {p : Prices} {n : ℕ} → CustomerOpenRow b hs p n → n ≡ 5 → ⊥
+open-five : {k : Basis} {n : ℕ} → CustomerOpenRow k n → n ≡ 5 → ⊥
 open-five (sheet r z) e = read-five r e
 open-five (three r h) e = omega arith
 open-five (six r h q) e = omega arith
-open-five (zero r h q) e = omega arith
+open-five (zero l) e = omega arith
 
-decide-place : (k : Basis) (xs : List ℕ) → decideFor k xs .number ≡ 5 → Found (firstIllegal (basisRun k) customerMost xs) (FirstIllegalIn (basisRun k) customerMost xs)
-decide-place k xs e = go (decide-exactly (k .sheet) (k .holidays) (k .prices) (k .option) xs 5 .0 e) refl
+decide-place : (k : Basis) (xs : List ℕ) → decideAnswer k xs .number ≡ 5 → Found (firstIllegal (basisRun k) customerMost xs) (FirstIllegalIn (basisRun k) customerMost xs)
+decide-place k xs e = go (decide-exactly k xs 5 .0 e) refl
   where
-    from-series : {n : ℕ} → SeriesRow (termsOf (sheetIn (k .sheet)) (k .holidays) (k .prices) (k .option)) xs n → n ≡ 5 → Found (firstIllegal (basisRun k) customerMost xs) (FirstIllegalIn (basisRun k) customerMost xs)
+    from-series : {n : ℕ} → SeriesRow (termsOf k) xs n → n ≡ 5 → Found (firstIllegal (basisRun k) customerMost xs) (FirstIllegalIn (basisRun k) customerMost xs)
     from-series (four l) e = absurd (omega arith)
     from-series (five l v) e = found-in (basisRun k) customerMost xs v
-    from-series (judged l r) e = absurd (judge-five (termsOf (sheetIn (k .sheet)) (k .holidays) (k .prices) (k .option)) r e)
+    from-series (judged l r) e = absurd (judge-five (termsOf k) r e)
 
-    go : {n : ℕ} → DecideRow (k .sheet) (k .holidays) (k .prices) (k .option) xs n → n ≡ 5 → Found (firstIllegal (basisRun k) customerMost xs) (FirstIllegalIn (basisRun k) customerMost xs)
+    go : {n : ℕ} → DecideRow k xs n → n ≡ 5 → Found (firstIllegal (basisRun k) customerMost xs) (FirstIllegalIn (basisRun k) customerMost xs)
     go (refused r z) e = absurd (open-five r e)
     go (series o r) e = from-series r e
 
@@ -339,7 +341,7 @@ carried =
       charge = charged;
       judge = judged-listed;
       decide = λ k xs. placed (decides k xs) (decide-place k xs);
-      customer-open = λ k. let b = k .sheet in bare-all (customerOpens b (k .holidays) (k .prices)) (opens (bare []) refl refl refl refl refl b (k .holidays) (k .prices)) (open-zero b (k .holidays) (k .prices));
+      customer-open = λ k. bare-all (customerOpens k) (opens (bare []) refl refl refl refl refl k) (open-zero k);
       customer-day = λ c day. placed (customer-days c day) (customer-today c day);
       customer-close = customer-closes;
     }

@@ -16,7 +16,6 @@ use Rattle.over.proofs.Tests.{any-at, any-fails}
 use Rattle.answers.specs.Ruling.{ChargeYear}
 use Rattle.answers.specs.Said.{only}
 use Rattle.dates.specs.Dates.{seasonOf}
-use Rattle.holidays.specs.Holidays.{LegalHolidays}
 use Rattle.calendar.specs.Free.{carries}
 use Rattle.calendar.specs.Answer.{dayAnswer}
 use Rattle.calendar.specs.Answer.DayRow.{zero}
@@ -39,15 +38,15 @@ use Rattle.figures.specs.Figures.{anyOn, figuresOf, FirstPlace}
 use Rattle.figures.proofs.Sum.{sum-flat}
 use Rattle.figures.proofs.Peak.{first-place, nowhere-in}
 use Rattle.day_figures.specs.Counts.{setOn}
-use Rattle.customer.specs.declared.Terms.{Terms}
+use Rattle.terms.specs.declared.Terms.{Terms}
+use Rattle.terms.specs.Basis.{Basis, basisYear}
+use Rattle.terms.specs.Opening.{termsOf, openAnswer}
+use Rattle.terms.specs.Rows.{LegalBasis}
+use Rattle.terms.proofs.Exactly.{open-legal}
 use Rattle.customer.specs.Counts.{counts}
-use Rattle.customer.specs.Answers.{termsOf}
-use Rattle.customer.specs.Rows.{CustomerOpenRow}
-use Rattle.customer.specs.Rows.CustomerOpenRow.{sheet, three, six, zero}
-use Rattle.customer.specs.Demand.{Basis, basisYear, basisRun, basisDays, basisRates, inWindow, LegalYear}
-use Rattle.customer.proofs.Exactly.{customer-open-exactly}
+use Rattle.customer.specs.Answers.{decideAnswer}
+use Rattle.customer.specs.Demand.{basisRun, basisDays, basisRates, inWindow, LegalYear, basisFigures}
 use Rattle.customer.proofs.Demand.{counts-window, whole-one}
-use Rattle.demands.specs.Year.{opensFor, decideFor, figuresIn}
 use Rattle.demands.specs.Module.{ours}
 use Rattle.demands.specs.Answers.{Eligibility}
 use Rattle.demands.proofs.Carried.{carried}
@@ -57,27 +56,27 @@ use Rattle.demands.proofs.Fair.{legal-basis}
 
 module _ (k : Basis) (xs : List ℕ) where
   abbrev terms : Terms
-  terms = termsOf (sheetIn (k .sheet)) (k .holidays) (k .prices) (k .option)
+  terms = termsOf k
 
   -- some quarter is in a window, or none
-  some-in : (d p : ℕ) → d < basisDays k → p < dayLen (basisRun k) d → inWindow k d p ≡ true → figuresIn k xs .any ≡ true
+  some-in : (d p : ℕ) → d < basisDays k → p < dayLen (basisRun k) d → inWindow k d p ≡ true → basisFigures k xs .any ≡ true
   unfolding figuresOf anyOn
   some-in d p l h t = any-at _ (basisDays k) d l (any-at (counts terms d) (dayLen (basisRun k) d) p h (counts-window k d p l ∙ t))
 
-  none-in : ((d p : ℕ) → d < basisDays k → p < dayLen (basisRun k) d → inWindow k d p ≡ false) → figuresIn k xs .any ≡ false
+  none-in : ((d p : ℕ) → d < basisDays k → p < dayLen (basisRun k) d → inWindow k d p ≡ false) → basisFigures k xs .any ≡ false
   unfolding figuresOf anyOn
   none-in none =
       any-fails _ (basisDays k) (λ d l. any-fails (counts terms d) (dayLen (basisRun k) d) (λ p h. counts-window k d p l ∙ none d p l h))
 
-  in-none : figuresIn k xs .any ≡ false → (d p : ℕ) → d < basisDays k → p < dayLen (basisRun k) d → inWindow k d p ≡ false
+  in-none : basisFigures k xs .any ≡ false → (d p : ℕ) → d < basisDays k → p < dayLen (basisRun k) d → inWindow k d p ≡ false
   in-none f d p l h = sym (counts-window k d p l) ∙ nowhere-in (basisRun k) (counts terms) xs (basisDays k) f d p l h
 
   -- the decision over the figures is 8 exactly when none is
   module _ (l : LegalYear k xs) where
     abbrev Row : ℕ → Type 0
-    Row n = JudgeRow (figuresIn k xs) (basisRates k) n
+    Row n = JudgeRow (basisFigures k xs) (basisRates k) n
 
-    eight-none : {n : ℕ} → Row n → n ≡ 8 → figuresIn k xs .any ≡ false
+    eight-none : {n : ℕ} → Row n → n ≡ 8 → basisFigures k xs .any ≡ false
     eight-none (two a) e = absurd (omega arith)
     eight-none (six a b) e = absurd (omega arith)
     eight-none (eight h a) e = a
@@ -86,16 +85,16 @@ module _ (k : Basis) (xs : List ℕ) where
     eight-none (eleven h s m cut) e = absurd (omega arith)
     eight-none (zero h s m cut) e = absurd (omega arith)
 
-    told : (n : ℕ) → (decideFor k xs .number ≡ n) ↔ Row n
+    told : (n : ℕ) → (decideAnswer k xs .number ≡ n) ↔ Row n
     told n =
-        let j = judge-exactly (figuresIn k xs) (basisRates k) n in
+        let j = judge-exactly (basisFigures k xs) (basisRates k) n in
         (λ e. j .0 (sym (number-is (whole-one k l)) ∙ e), λ r. number-is (whole-one k l) ∙ j .1 r)
 
-    eight-when : (decideFor k xs .number ≡ 8) ↔ ((d p : ℕ) → d < basisDays k → p < dayLen (basisRun k) d → inWindow k d p ≡ false)
+    eight-when : (decideAnswer k xs .number ≡ 8) ↔ ((d p : ℕ) → d < basisDays k → p < dayLen (basisRun k) d → inWindow k d p ≡ false)
     eight-when = (λ e. in-none (eight-none (told 8 .0 e) refl), λ none. told 8 .1 (eight (legal-basis k xs l) (none-in none)))
 
   -- H's place by the sheet and the calendar, and not by the table of days
-  by-calendar : FirstPlace (basisRun k) (counts terms) xs (basisDays k) (figuresIn k xs) → FirstPlace (basisRun k) (inWindow k) xs (basisDays k) (figuresIn k xs)
+  by-calendar : FirstPlace (basisRun k) (counts terms) xs (basisDays k) (basisFigures k xs) → FirstPlace (basisRun k) (inWindow k) xs (basisDays k) (basisFigures k xs)
   by-calendar f =
       record {
         on = f .on;
@@ -112,18 +111,12 @@ module _ (k : Basis) (xs : List ℕ) where
       }
 
 -- on an opened basis the calendar answers 0 for every day of the year, and the sheet that reading shows is the basis's
-module _ (k : Basis) (o : opensFor k ≡ only 0) where
+module _ (k : Basis) (o : openAnswer k ≡ only 0) where
   abbrev hs : List ℕ
   hs = k .holidays
 
-  legal-lists : {n : ℕ} → CustomerOpenRow (k .sheet) hs (k .prices) n → n ≡ 0 → ReadRow (k .sheet) 0 × LegalHolidays (basisYear k) hs
-  legal-lists (sheet r z) e = absurd (z e)
-  legal-lists (three r h) e = absurd (omega arith)
-  legal-lists (six r h p) e = absurd (omega arith)
-  legal-lists (zero r h p) e = (r, h)
-
-  lists : ReadRow (k .sheet) 0 × LegalHolidays (basisYear k) hs
-  lists = legal-lists (customer-open-exactly (k .sheet) hs (k .prices) 0 .0 (number-is o)) refl
+  legal : LegalBasis k
+  legal = open-legal k (number-is o)
 
   legal-year : {n : ℕ} → ReadRow (k .sheet) n → n ≡ 0 → ChargeYear (basisYear k)
   legal-year (malformed f) e = absurd (omega arith)
@@ -134,11 +127,11 @@ module _ (k : Basis) (o : opensFor k ≡ only 0) where
 
   shown : readSheet (k .sheet) ≡ sheetIn (k .sheet)
   unfolding readSheet
-  shown = handed (readAnswer (k .sheet)) (sheetIn (k .sheet)) _ (read-exactly (k .sheet) 0 .1 (lists .0))
+  shown = handed (readAnswer (k .sheet)) (sheetIn (k .sheet)) _ (read-exactly (k .sheet) 0 .1 (legal .read))
 
   module _ (d p : ℕ) (l : d < basisDays k) where
     answered : dayAnswer (basisYear k) hs (d + 1) .number ≡ 0
-    answered = exactly (basisYear k) hs (d + 1) 0 .1 (zero (legal-year (lists .0) refl) (lists .1) (record { from = omega arith; to = omega arith }))
+    answered = exactly (basisYear k) hs (d + 1) 0 .1 (zero (legal-year (legal .read) refl) (legal .holidays) (record { from = omega arith; to = omega arith }))
 
     yes-is : dayAnswer (basisYear k) hs (d + 1) .carries ≡ bit (carries (basisYear k) hs (d + 1)) ∷ []
     yes-is = carried .calendar (basisYear k) hs (d + 1) .listed ∙ simp (eq-eqb _ _ answered)
@@ -156,14 +149,14 @@ module _ (k : Basis) (o : opensFor k ≡ only 0) where
 
 -- M and S, by the readings
 module _ (k : Basis) (xs : List ℕ) where
-  peak-when : (b : ℕ) → (figuresIn k xs .peak ≤ b) ↔ ((d p : ℕ) → d < basisDays k → p < dayLen (basisRun k) d → reading (basisRun k) xs d p ≤ b)
+  peak-when : (b : ℕ) → (basisFigures k xs .peak ≤ b) ↔ ((d p : ℕ) → d < basisDays k → p < dayLen (basisRun k) d → reading (basisRun k) xs d p ≤ b)
   unfolding figuresOf peakOf dayPeak
   peak-when b = (
     λ h d p l m. le-trans (reading-le (basisRun k) xs (basisDays k) d p l m) h,
     λ low. largest-le (dayPeak (basisRun k) xs) (basisDays k) b (λ d l. largest-le (reading (basisRun k) xs d) (dayLen (basisRun k) d) b (λ p m. low d p l m)),
   )
 
-  sum-is : LegalYear k xs → figuresIn k xs .sum ≡ sumOver (λ i. getD xs i 0) (length xs)
+  sum-is : LegalYear k xs → basisFigures k xs .sum ≡ sumOver (λ i. getD xs i 0) (length xs)
   unfolding figuresOf
   sum-is l =
       sum-flat (basisRun k) xs (basisDays k)

@@ -20,38 +20,29 @@ use Rattle.tariff.specs.Rows.JudgeRow.{two, six, eight, nine, ten, eleven, zero
 use Rattle.tariff.proofs.Answered.{number-is}
 use Rattle.tariff.proofs.Exactly.{judge-exactly}
 use Rattle.tariff.proofs.Demand.{pays-is}
-use Rattle.customer.specs.Rows.{CustomerOpenRow}
-use Rattle.customer.specs.Rows.CustomerOpenRow.{sheet, three, six, zero}
-use Rattle.customer.specs.declared.Terms.{Terms}
-use Rattle.customer.specs.Answers.{termsOf, judged}
-use Rattle.customer.specs.Demand.{Basis, basisYear, basisRates, LegalYear}
-use Rattle.sheet.specs.Rows.{ReadRow}
-use Rattle.sheet.specs.Rows.ReadRow.{zero}
-use Rattle.customer.proofs.Exactly.{customer-open-exactly}
+use Rattle.terms.specs.Basis.{Basis, basisYear}
+use Rattle.terms.specs.Opening.{termsOf, openAnswer}
+use Rattle.terms.proofs.Exactly.{open-legal}
+use Rattle.customer.specs.Answers.{judged, decideAnswer}
+use Rattle.customer.specs.Demand.{basisRates, LegalYear, basisFigures}
 use Rattle.customer.proofs.Whole.{days-whole}
 use Rattle.customer.proofs.Demand.{whole-one, same-answer, pays-no-more, stays-accepted, accepted-fair}
-use Rattle.demands.specs.Year.{opensFor, decideFor, figuresIn}
+use Rattle.sheet.specs.Rows.{ReadRow}
+use Rattle.sheet.specs.Rows.ReadRow.{zero}
 use Rattle.demands.specs.Module.{ours}
 use Rattle.demands.specs.Refusals.{yearColumn}
 use Rattle.demands.specs.Fair.{Given, FairCharge, Fairness}
 use Rattle.demands.specs.Fair.Given.{whole, days}
 use Rattle.demands.proofs.Carried.{carried, said-is}
 
-abbrev terms : Basis → Terms
-terms k = termsOf (sheetIn (k .sheet)) (k .holidays) (k .prices) (k .option)
-
 -- a legal year's level and prices are legal
 legal-read : {b : List ℕ} → ReadRow b 0 → Level (sheetIn b .level)
 legal-read (zero f y l w) = l
 
-pub legal-opening : (k : Basis) → opensFor k ≡ only 0 → LegalRates (basisRates k)
-legal-opening k o = go (customer-open-exactly (k .sheet) (k .holidays) (k .prices) 0 .0 (ap (λ (s : Said). s .number) o)) refl
-  where
-    go : {n : ℕ} → CustomerOpenRow (k .sheet) (k .holidays) (k .prices) n → n ≡ 0 → LegalRates (basisRates k)
-    go (sheet r z) e = absurd (z e)
-    go (three r h) e = absurd (omega arith)
-    go (six r h p) e = absurd (omega arith)
-    go (zero r h p) e = record { legal-level = legal-read r; legal-prices = p }
+pub legal-opening : (k : Basis) → openAnswer k ≡ only 0 → LegalRates (basisRates k)
+legal-opening k o =
+    let legal = open-legal k (number-is o) in
+    record { legal-level = legal-read (legal .read); legal-prices = legal .prices }
 
 pub legal-basis : (k : Basis) (xs : List ℕ) → LegalYear k xs → LegalRates (basisRates k)
 legal-basis k xs l = legal-opening k (l .opens)
@@ -73,17 +64,17 @@ judged-numbers f r l = go (judge-exactly f r _ .0 refl)
     go (zero h s m cut) = inl refl
 
 -- whole or by days, a legal year has one answer
-pub given-one : (k : Basis) {xs : List ℕ} {a : Said} → LegalYear k xs → Given ours k xs a → a ≡ judged (terms k) (figuresIn k xs)
+pub given-one : (k : Basis) {xs : List ℕ} {a : Said} → LegalYear k xs → Given ours k xs a → a ≡ judged (termsOf k) (basisFigures k xs)
 given-one k l whole = whole-one k l
 given-one k l (days ds e full) =
-    days-whole (k .sheet) (k .holidays) (k .prices) (k .option) (l .opens) .taken ds (full ∙ sym (year-run (basisYear k)))
-    ∙ ap (decideFor k) e
+    days-whole k (l .opens) .taken ds (full ∙ sym (year-run (basisYear k)))
+    ∙ ap (decideAnswer k) e
     ∙ whole-one k l
 
 fair : (k : Basis) (xs : List ℕ) (a : Said) → LegalYear k xs → Given ours k xs a → a .number ≡ 0 → FairCharge a
 fair k xs a l g z =
     let one = given-one k l g in
-    let f = figuresIn k xs in
+    let f = basisFigures k xs in
     let c = chargedOf f (general f (basisRates k)) (charge f (basisRates k)) in
     let is : a ≡ withCharge c = one ∙ said-is _ (yearColumn f (basisRates k)) 0 (carried .judge f (basisRates k)) (sym (number-is one) ∙ z) in
     let fair = accepted-fair k xs c (sym is ∙ one) in
@@ -98,7 +89,7 @@ fairness =
       stays-accepted = λ k xs ys a b t none z.
           number-is (given-one k (t .second) (t .second-given))
           ∙ stays-accepted k (t .alike) none (sym (number-is (given-one k (t .first) (t .first-given))) ∙ z);
-      answered = λ k xs a l g. rw (given-one k l g) (judged-numbers (figuresIn k xs) _ (legal-basis k xs l));
-      pays = λ k xs a l g. rw (given-one k l g) (pays-is _ (legal-basis k xs l) (figuresIn k xs));
+      answered = λ k xs a l g. rw (given-one k l g) (judged-numbers (basisFigures k xs) _ (legal-basis k xs l));
+      pays = λ k xs a l g. rw (given-one k l g) (pays-is _ (legal-basis k xs l) (basisFigures k xs));
       accepted-fair = fair;
     }

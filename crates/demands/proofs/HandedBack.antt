@@ -14,7 +14,7 @@ use Rattle.readings.specs.Days.{offered, takenDays, takenReadings}
 use Rattle.readings.proofs.Runs.{period-run, year-run}
 use Rattle.readings.proofs.Given.{offered-stays}
 use Rattle.readings.proofs.Machines.{Holds, holds-taken, thirteen-full}
-use Rattle.sheet.specs.Bytes.{sheetSize, sheetIn}
+use Rattle.sheet.specs.Bytes.{sheetSize}
 use Rattle.grid.specs.declared.Grid.{Grid}
 use Rattle.grid.specs.Answers.{openAnswer as gridOpens, openGrid, shut as gridShut, dayAnswer as gridDay, dayGrid, closeAnswer as gridCloses}
 use Rattle.grid.specs.Rows.{OpenRow, CloseRow}
@@ -27,16 +27,17 @@ use Rattle.tariff.specs.Rows.JudgeRow.{two, six, eight, nine, ten, eleven, zero
 use Rattle.tariff.proofs.Answered.{number-is}
 use Rattle.tariff.specs.declared.Figures.{Figures}
 use Rattle.figures.specs.Figures.{figuresOf}
-use Rattle.customer.specs.declared.Terms.{Terms}
+use Rattle.terms.specs.declared.Terms.{Terms}
+use Rattle.terms.specs.Basis.{Basis}
+use Rattle.terms.specs.Opening.{termsOf, openAnswer}
+use Rattle.customer.proofs.Answered.{opened-state}
 use Rattle.customer.specs.declared.Customer.{Customer}
-use Rattle.customer.specs.Answers.{termsOf, ratesOf, shut as customerShut, sumMost, dayAnswer as customerDay, dayCustomer, closeAnswer as customerCloses}
+use Rattle.customer.specs.Answers.{ratesOf, shut as customerShut, sumMost, dayAnswer as customerDay, dayCustomer, closeAnswer as customerCloses, openCustomer}
 use Rattle.customer.specs.Rows.{CustomerCloseRow}
 use Rattle.customer.specs.Rows.CustomerCloseRow.{early, judged}
-use Rattle.customer.specs.Demand.{Basis, basisRun, basisDays}
+use Rattle.customer.specs.Demand.{basisRun, basisDays}
 use Rattle.customer.proofs.Exactly.{customer-close-exactly}
-use Rattle.customer.proofs.Answered.{open-taken}
 use Rattle.customer.proofs.Whole.{holding as customerHolding, machine as customerMachine, opens-holding, legal-sum}
-use Rattle.demands.specs.Year.{opensFor, openFor}
 use Rattle.demands.specs.Module.{ours, gridAfter, customerAfter, Refused}
 use Rattle.demands.specs.Refusals.{bare, HandedBack}
 use Rattle.demands.proofs.Refusals.{left-as-before, fixed-state}
@@ -105,20 +106,20 @@ module _ (k : Basis) (days : List (List ℕ)) where
   customer = customerAfter ours k days
 
   abbrev terms : Terms
-  terms = termsOf (sheetIn (k .sheet)) (k .holidays) (k .prices) (k .option)
+  terms = termsOf k
 
-  customer-shut : Refused (opensFor k) → customer ≡ customerShut
+  customer-shut : Refused (openAnswer k) → customer ≡ customerShut
   customer-shut r =
       ap (λ (c : Customer). offered dayCustomer c days) (fixed-state .customer-open k r)
       ∙ offered-stays dayCustomer customerShut (λ day. left-as-before .customer-day customerShut day (λ z. omega (arith, number-is (fixed-state .customer-day day)))) days
 
-  module _ (z : opensFor k .number ≡ 0) where
-    opens : opensFor k ≡ only 0
+  module _ (z : openAnswer k .number ≡ 0) where
+    opens : openAnswer k ≡ only 0
     opens = bare-zero z (carried .customer-open k .listed)
 
-    customer-holds : Holds (customerMachine terms) (takenReadings customerDay dayCustomer (openFor k) days) (length (takenDays customerDay dayCustomer (openFor k) days)) customer
+    customer-holds : Holds (customerMachine terms) (takenReadings customerDay dayCustomer (openCustomer k) days) (length (takenDays customerDay dayCustomer (openCustomer k) days)) customer
     customer-holds =
-        holds-taken (customerMachine terms) (openFor k) (sym (open-taken (k .sheet) (k .holidays) (k .prices) (k .option) (sym opens)) ∙ opens-holding terms) days
+        holds-taken (customerMachine terms) (openCustomer k) (sym (opened-state k (sym opens)) ∙ opens-holding terms) days
 
     judge-row : {n : ℕ} {f : Figures} → JudgeRow f (ratesOf terms) n → (n ≡ 2 → ⊥) × (n ≡ 6 → ⊥)
     judge-row (two a) = absurd (a (legal-opening k opens .legal-level))
@@ -135,23 +136,23 @@ module _ (k : Basis) (days : List (List ℕ)) where
 
   customer-sum : customer .figures .sum ≤ sumMost (customer .seen)
   unfolding figuresOf
-  customer-sum = go (ℕ-discrete (opensFor k .number) 0)
+  customer-sum = go (ℕ-discrete (openAnswer k .number) 0)
     where
-      go : Dec (opensFor k .number ≡ 0) → customer .figures .sum ≤ sumMost (customer .seen)
+      go : Dec (openAnswer k .number ≡ 0) → customer .figures .sum ≤ sumMost (customer .seen)
       go (no r) = rw (customer-shut r) (omega arith)
       go (yes z) = let h = customer-holds z in rw (h .is) (legal-sum (basisRun k) _ _ (h .read))
 
-  customer-thirteen : (day : List ℕ) → customerDay customer day .number ≡ 13 → Refused (opensFor k) ⊎ (length (takenDays customerDay dayCustomer (openFor k) days) ≡ basisDays k)
-  customer-thirteen day e = go (ℕ-discrete (opensFor k .number) 0)
+  customer-thirteen : (day : List ℕ) → customerDay customer day .number ≡ 13 → Refused (openAnswer k) ⊎ (length (takenDays customerDay dayCustomer (openCustomer k) days) ≡ basisDays k)
+  customer-thirteen day e = go (ℕ-discrete (openAnswer k .number) 0)
     where
-      go : Dec (opensFor k .number ≡ 0) → Refused (opensFor k) ⊎ (length (takenDays customerDay dayCustomer (openFor k) days) ≡ basisDays k)
+      go : Dec (openAnswer k .number ≡ 0) → Refused (openAnswer k) ⊎ (length (takenDays customerDay dayCustomer (openCustomer k) days) ≡ basisDays k)
       go (no r) = inl r
       go (yes z) = inr (thirteen-full (customerMachine terms) (customer-holds z) day e ∙ year-run (terms .year))
 
   customer-never : (customerCloses customer .number ≡ 2 → ⊥) × (customerCloses customer .number ≡ 6 → ⊥)
-  customer-never = go (ℕ-discrete (opensFor k .number) 0)
+  customer-never = go (ℕ-discrete (openAnswer k .number) 0)
     where
-      go : Dec (opensFor k .number ≡ 0) → (customerCloses customer .number ≡ 2 → ⊥) × (customerCloses customer .number ≡ 6 → ⊥)
+      go : Dec (openAnswer k .number ≡ 0) → (customerCloses customer .number ≡ 2 → ⊥) × (customerCloses customer .number ≡ 6 → ⊥)
       go (no r) =
           let f = number-is (ap customerCloses (customer-shut r) ∙ fixed-state .customer-close) in
           ((λ e. omega (arith, f)), (λ e. omega (arith, f)))

@@ -17,21 +17,22 @@ use Rattle.readings.specs.Rows.NextRow.{thirteen, four, five, zero}
 use Rattle.readings.proofs.Runs.{period-run, year-run}
 use Rattle.readings.proofs.Legal.{reading-le}
 use Rattle.readings.proofs.Days.{next-exactly}
-use Rattle.sheet.specs.Bytes.{sheetIn}
 use Rattle.grid.specs.Rows.{WindowsRow}
 use Rattle.grid.specs.Rows.WindowsRow.{seven, zero}
 use Rattle.grid.proofs.Exactly.{windows-exactly}
+use Rattle.terms.specs.Basis.{Basis, basisYear}
+use Rattle.terms.specs.Opening.{termsOf}
+use Rattle.terms.specs.Rows.{CustomerOpenRow}
+use Rattle.terms.specs.Rows.CustomerOpenRow.{sheet, three, six, zero}
 use Rattle.customer.specs.declared.Customer.{Customer}
-use Rattle.customer.specs.Answers.{termsOf}
-use Rattle.customer.specs.Rows.{CustomerOpenRow, CustomerDayRow, SeriesRow, DecideRow}
-use Rattle.customer.specs.Rows.CustomerOpenRow.{sheet, three, six, zero}
+use Rattle.customer.specs.Rows.{CustomerDayRow, SeriesRow, DecideRow}
 use Rattle.customer.specs.Rows.CustomerDayRow.{over, next}
 use Rattle.customer.specs.Rows.SeriesRow.{four, five, judged}
 use Rattle.customer.specs.Rows.DecideRow.{refused, series}
+use Rattle.customer.specs.Demand.{basisRun, basisDays}
+use Rattle.customer.proofs.Exactly.{customer-day-exactly, decide-exactly}
 use Rattle.sheet.specs.Rows.{ReadRow}
 use Rattle.sheet.specs.Rows.ReadRow.{malformed, one, two, full, zero}
-use Rattle.customer.specs.Demand.{Basis, basisYear, basisRun, basisDays}
-use Rattle.customer.proofs.Exactly.{customer-day-exactly, decide-exactly}
 use Rattle.demands.specs.Module.{ours}
 use Rattle.demands.specs.Answers.{NeverLegal}
 
@@ -69,18 +70,18 @@ read-other (full f y l r) z = refuted z (λ (w : Within 8 11 12). omega (arith, 
 read-other (zero f y l r) z = absurd (z refl)
 
 module _ (k : Basis) (xs : List ℕ) (d p : ℕ) (l : d < basisDays k) (h : p < dayLen (basisRun k) d) (e : reading (basisRun k) xs d p ≡ missing) where
-  open-other : {n : ℕ} → CustomerOpenRow (k .sheet) (k .holidays) (k .prices) n → (n ≡ 0 → ⊥) → Decided n → ⊥
+  open-other : {n : ℕ} → CustomerOpenRow k n → (n ≡ 0 → ⊥) → Decided n → ⊥
   open-other (sheet r z) y = read-other r y
   open-other (three r a) y = refuted y (λ (w : Within 8 11 3). omega (arith, w .from))
   open-other (six r a b) y = refuted y (λ (w : Within 8 11 6). omega (arith, w .from))
-  open-other (zero r a b) y = absurd (y refl)
+  open-other (zero b) y = absurd (y refl)
 
-  series-other : {n : ℕ} → SeriesRow (termsOf (sheetIn (k .sheet)) (k .holidays) (k .prices) (k .option)) xs n → Decided n → ⊥
+  series-other : {n : ℕ} → SeriesRow (termsOf k) xs n → Decided n → ⊥
   series-other (four a) = refuted (λ z. omega arith) (λ (w : Within 8 11 4). omega (arith, w .from))
   series-other (five a v) = refuted (λ z. omega arith) (λ (w : Within 8 11 5). omega (arith, w .from))
   series-other (judged s r) = absurd (omega (arith, e, s .legal d p (omega (arith, year-run (basisYear k))) h))
 
-  decide-other : {n : ℕ} → DecideRow (k .sheet) (k .holidays) (k .prices) (k .option) xs n → Decided n → ⊥
+  decide-other : {n : ℕ} → DecideRow k xs n → Decided n → ⊥
   decide-other (refused r z) = open-other r z
   decide-other (series o r) = series-other r
 
@@ -92,6 +93,6 @@ never-legal =
           (λ z. not-none y level xs buffer d p l h e (windows-exactly y level xs buffer 7 .0 z));
       grid-day = λ g day p l e z.
           next-taken (Period (g .year)) gridMost (g .seen) day p (omega arith) l e (next-exactly (Period (g .year)) gridMost (g .seen) day 0 .0 z) refl;
-      customer = λ k xs d p l h e. decide-other k xs d p l h e (decide-exactly (k .sheet) (k .holidays) (k .prices) (k .option) xs _ .0 refl);
+      customer = λ k xs d p l h e. decide-other k xs d p l h e (decide-exactly k xs _ .0 refl);
       customer-day = λ c day p l e z. customer-taken c day p l e (customer-day-exactly c day 0 .0 z) refl;
     }

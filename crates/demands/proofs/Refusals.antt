@@ -8,7 +8,8 @@ use Rattle.sheet.specs.Answers.{readAnswer, readSheet, writeAnswer, written}
 use Rattle.grid.specs.Answers.{windowsAnswer, windowsBuffer, openAnswer as gridOpens, shut as gridShut, dayAnswer as gridDay, dayGrid, closeAnswer as gridCloses, closeBuffer}
 use Rattle.grid.proofs.Steps.{close-short}
 use Rattle.grid.proofs.Only.{shut-day as grid-shut-day, shut-close as grid-shut-close}
-use Rattle.customer.specs.Answers.{openAnswer as customerOpens, openCustomer, dayAnswer as customerDay, dayCustomer}
+use Rattle.terms.specs.Opening.{openAnswer as customerOpens}
+use Rattle.customer.specs.Answers.{openCustomer, dayAnswer as customerDay, dayCustomer}
 use Rattle.customer.proofs.Only.{shut-day as customer-shut-day, shut-close as customer-shut-close}
 use Rattle.demands.specs.Module.{ours, Refused}
 use Rattle.demands.specs.Refusals.{LeftAsBefore, FixedState}
@@ -37,7 +38,7 @@ fixed-state =
       grid-day = grid-shut-day;
       grid-close = grid-shut-close;
       grid-short = λ buffer l. sym (close-short gridShut buffer l .0);
-      customer-open = λ k r. stays (customerOpens (k .sheet) (k .holidays) (k .prices)) _ _ r;
+      customer-open = λ k r. stays (customerOpens k) _ _ r;
       customer-day = customer-shut-day;
       customer-close = customer-shut-close;
     }

@@ -34,9 +34,9 @@ use Rattle.tariff.specs.Rows.ChargeRow.{zero}
 use Rattle.tariff.specs.Rows.JudgeRow.{two, six, eight, nine, ten, eleven, zero}
 use Rattle.tariff.proofs.Answered.{number-is}
 use Rattle.tariff.specs.declared.Figures.{Figures}
+use Rattle.terms.specs.Basis.{Basis}
 use Rattle.customer.specs.declared.Customer.{Customer}
-use Rattle.customer.specs.Demand.{Basis, basisRun, basisRates, LegalYear}
-use Rattle.demands.specs.Year.{figuresIn}
+use Rattle.customer.specs.Demand.{basisRun, basisRates, LegalYear, basisFigures}
 use Rattle.demands.specs.Module.{Module, gridEnd, gridWhole}
 use Rattle.demands.specs.Refusals.{bare}
 use Rattle.demands.specs.Demands.{Demands}
@@ -49,7 +49,7 @@ use Rattle.demands.proofs.Answers.{exactly-when}
 use Rattle.demands.proofs.Series.{everywhere-long}
 use Rattle.demands.proofs.WrongWindows.{blankBuffer, some-2025, same, same-peak, same-accepted, same-laid, not-blank}
 use Rattle.demands.proofs.Example.{example, example-read}
-use Rattle.demands.proofs.WrongYears.{basis, xs, legal, row, opened, accepted, pays, some-days}
+use Rattle.demands.proofs.WrongYears.{pricedBasis, xs, legal, row, opened, accepted, pays, some-days}
 use Rattle.demands.proofs.WrongDays.{wrong-grid-days, wrong-customer-days}
 
 -- 2 January 2025 without holidays is answered
@@ -96,13 +96,13 @@ same-legal =
 
 -- the year that is accepted, and what it is eligible for
 abbrev k : Basis
-k = basis 100
+k = pricedBasis 100
 
 abbrev year : List ℕ
 year = xs 100 (omega arith) (omega arith)
 
 abbrev figures : Figures
-figures = figuresIn k year
+figures = basisFigures k year
 
 lawful : LegalYear k year
 lawful = legal 100 (omega arith) (omega arith)
@@ -186,8 +186,8 @@ module _ (m : Module) (d : Demands m) where
     where
       at : (price : ℕ) → 100 ≤ price → price ≤ 100000 → payable (m .customerClose (offered (m .customerNext) c (daysOf year (runDays (basisRun k))))) ≡ 200 * price
       at price least most =
-          ap (λ (s : Customer). payable (m .customerClose (offered (m .customerNext) s (daysOf year (runDays (basisRun k)))))) (sym (fixed (basis price)))
-          ∙ ap payable (d .days-as-whole .customer (basis price) (opened price least most m d) .all-days (xs price least most) (legal price least most .series))
+          ap (λ (s : Customer). payable (m .customerClose (offered (m .customerNext) s (daysOf year (runDays (basisRun k)))))) (sym (fixed (pricedBasis price)))
+          ∙ ap payable (d .days-as-whole .customer (pricedBasis price) (opened price least most m d) .all-days (xs price least most) (legal price least most .series))
           ∙ pays price least most m d
 
   pub doing-nothing : DoesNothing m → ⊥

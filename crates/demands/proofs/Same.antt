@@ -14,8 +14,9 @@ use Rattle.answers.specs.Said.{Said}
 use Rattle.tariff.specs.declared.Rates.{Rates}
 use Rattle.tariff.specs.declared.Figures.{Figures}
 use Rattle.tariff.proofs.Answered.{number-is}
-use Rattle.customer.specs.Demand.{Basis, basisRates, LegalYear}
-use Rattle.demands.specs.Year.{decideFor, figuresIn}
+use Rattle.terms.specs.Basis.{Basis}
+use Rattle.customer.specs.Answers.{decideAnswer}
+use Rattle.customer.specs.Demand.{basisRates, LegalYear, basisFigures}
 use Rattle.demands.specs.Module.{Module, ours}
 use Rattle.demands.specs.Refusals.{yearColumn}
 use Rattle.demands.specs.Demands.{Demands}
@@ -48,18 +49,18 @@ module _ (f : Figures) (r : Rates) where
   column-said = by-number (λ n. (sumSaid (listed n) ≡ f .sum) × (peakSaid (listed n) ≡ f .peak)) (refl, refl) (refl, refl) (refl, refl) (refl, refl) (refl, refl)
 
 module _ (m : Module) (d : Demands m) (k : Basis) (xs : List ℕ) (l : LegalYear k xs) where
-  ours-number : (decideFor k xs .number ≡ 0) ⊎ Within 8 11 (decideFor k xs .number)
-  ours-number = fairness .answered k xs (decideFor k xs) l whole
+  ours-number : (decideAnswer k xs .number ≡ 0) ⊎ Within 8 11 (decideAnswer k xs .number)
+  ours-number = fairness .answered k xs (decideAnswer k xs) l whole
 
   -- it is the number with what the column lists
-  pub year-said : m .decide k xs ≡ listed (figuresIn k xs) (basisRates k) (decideFor k xs .number)
+  pub year-said : m .decide k xs ≡ listed (basisFigures k xs) (basisRates k) (decideAnswer k xs .number)
   year-said =
-      let f = figuresIn k xs in
+      let f = basisFigures k xs in
       let judged = given-one k l whole in
       nothing-else m ours d met .decide k xs ∙ judged ∙ said-is _ _ _ (carried .judge f (basisRates k)) (sym (number-is judged))
 
-  pub sum-said : sumSaid (m .decide k xs) ≡ figuresIn k xs .sum
-  sum-said = ap sumSaid year-said ∙ column-said (figuresIn k xs) (basisRates k) _ ours-number .0
+  pub sum-said : sumSaid (m .decide k xs) ≡ basisFigures k xs .sum
+  sum-said = ap sumSaid year-said ∙ column-said (basisFigures k xs) (basisRates k) _ ours-number .0
 
-  pub peak-said : peakSaid (m .decide k xs) ≡ figuresIn k xs .peak
-  peak-said = ap peakSaid year-said ∙ column-said (figuresIn k xs) (basisRates k) _ ours-number .1
+  pub peak-said : peakSaid (m .decide k xs) ≡ basisFigures k xs .peak
+  peak-said = ap peakSaid year-said ∙ column-said (basisFigures k xs) (basisRates k) _ ours-number .1

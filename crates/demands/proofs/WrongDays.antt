@@ -25,10 +25,11 @@ use Rattle.grid.specs.Rows.OpenRow.{one, two, zero}
 use Rattle.grid.specs.Rows.WindowsRow.{seven, zero}
 use Rattle.tariff.proofs.Answered.{number-is}
 use Rattle.figures.specs.Figures.{sumOf, figuresOf}
+use Rattle.terms.specs.Basis.{Basis, basisYear}
+use Rattle.terms.specs.Opening.{openAnswer}
 use Rattle.customer.specs.declared.Customer.{Customer}
 use Rattle.customer.specs.Answers.{ratesOf}
-use Rattle.customer.specs.Demand.{Basis, basisYear, basisRun, LegalYear}
-use Rattle.demands.specs.Year.{opensFor}
+use Rattle.customer.specs.Demand.{basisRun, LegalYear}
 use Rattle.demands.specs.Module.{Module, customerAfter}
 use Rattle.demands.specs.Refusals.{bare}
 use Rattle.demands.specs.Demands.{Demands}
@@ -40,7 +41,7 @@ use Rattle.demands.proofs.Same.{peakSaid, column-said, sum-said, peak-s
 use Rattle.demands.proofs.Series.{start-at}
 use Rattle.demands.proofs.Ends.{ends, ends-legal, ends-peak, same-whole}
 use Rattle.demands.proofs.WrongWindows.{blankBuffer}
-use Rattle.demands.proofs.WrongYears.{basis, xs, legal, opened, some-days}
+use Rattle.demands.proofs.WrongYears.{pricedBasis, xs, legal, opened, some-days}
 
 module _ (m : Module) (d : Demands m) where
   -- the grid, in any year and at any level
@@ -84,9 +85,9 @@ module _ (m : Module) (d : Demands m) where
     year-many : 1 < runDays year
     year-many = omega (arith, year-run (basisYear k))
 
-    opens : opensFor k ≡ only 0
+    opens : openAnswer k ≡ only 0
     opens =
-        said-is (opensFor k) (bare []) 0 (carried .customer-open k) (exactly-when .customer-open k 0 .1 (d .exactly-when .customer-open k 0 .0 (number-is o)))
+        said-is (openAnswer k) (bare []) 0 (carried .customer-open k) (exactly-when .customer-open k 0 .1 (d .exactly-when .customer-open k 0 .0 (number-is o)))
 
     ends-year : (v : ℕ) → v ≤ customerMost → LegalYear k (ends year year-many v)
     ends-year v l = record { opens = opens; series = ends-legal year year-many v customerMost l }
@@ -103,7 +104,7 @@ module _ (m : Module) (d : Demands m) where
 -- a day taken twice, in the year that is accepted
 module _ (m : Module) (d : Demands m) (twice : DayTwice m) where
   abbrev k : Basis
-  k = basis 100
+  k = pricedBasis 100
 
   abbrev series : List ℕ
   series = xs 100 (omega arith) (omega arith)

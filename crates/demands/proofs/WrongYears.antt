@@ -16,6 +16,7 @@ use Rattle.readings.proofs.Runs.{len-is, year-run}
 use Rattle.readings.proofs.Illegal.{all-legal-in}
 use Rattle.sheet.specs.Bytes.{sheetIn}
 use Rattle.tariff.specs.declared.Prices.{Prices}
+use Rattle.tariff.specs.Prices.{LegalRow}
 use Rattle.tariff.specs.Charges.{rowOf, chargeFor, general, reduced, floorOf, charge}
 use Rattle.tariff.specs.Answers.{payable}
 use Rattle.tariff.specs.Rows.{JudgeRow}
@@ -23,15 +24,16 @@ use Rattle.tariff.specs.Rows.JudgeRow.{zero}
 use Rattle.tariff.proofs.Answered.{number-is}
 use Rattle.tariff.proofs.Exactly.{judge-exactly}
 use Rattle.tariff.proofs.Limits.{prices-legal}
-use Rattle.customer.specs.declared.Terms.{Terms}
+use Rattle.terms.specs.declared.Terms.{Terms}
+use Rattle.terms.specs.Basis.{Basis, basis}
+use Rattle.terms.specs.Opening.{termsOf, openAnswer}
+use Rattle.terms.proofs.Answered.{open-done}
 use Rattle.customer.specs.Counts.{counts}
-use Rattle.customer.specs.Answers.{termsOf, openAnswer}
-use Rattle.customer.specs.Demand.{Basis, basisRun, basisDays, basisRates, LegalYear}
-use Rattle.customer.proofs.Answered.{open-done}
+use Rattle.customer.specs.Answers.{decideAnswer}
+use Rattle.customer.specs.Demand.{basisRun, basisDays, basisRates, LegalYear, basisFigures}
 use Rattle.figures.specs.Figures.{anyOn, figuresOf, FirstPlace}
 use Rattle.figures.proofs.Peak.{first-place}
 use Rattle.demands.specs.Cases.{priced}
-use Rattle.demands.specs.Year.{decideFor, figuresIn}
 use Rattle.demands.specs.Module.{Module}
 use Rattle.demands.specs.Refusals.{bare}
 use Rattle.demands.specs.Fair.Given.{whole}
@@ -48,20 +50,20 @@ use Rattle.demands.proofs.Series.{atStart, start-later, start-long, sta
 abbrev pub capacityOnly : ℕ → Prices
 capacityOnly price = record { low = priced price 0; high = priced price 0 }
 
-abbrev pub basis : ℕ → Basis
-basis price = record { sheet = example; holidays = []; prices = capacityOnly price; option = false }
+abbrev pub pricedBasis : ℕ → Basis
+pricedBasis price = basis example [] (capacityOnly price) false
 
 module _ (price : ℕ) (least : 100 ≤ price) (most : price ≤ capacityMost) where
   abbrev k : Basis
-  k = basis price
+  k = pricedBasis price
 
   abbrev terms : Terms
-  terms = termsOf (sheetIn example) [] (capacityOnly price) false
+  terms = termsOf k
 
-  pub opens : openAnswer example [] (capacityOnly price) ≡ only 0
+  pub opens : openAnswer k ≡ only 0
   opens =
-      sym (open-done example [] (capacityOnly price) (sym example-read) no-holidays
-      (prices-legal (capacityOnly price) .1 (record { low = record { capacity = most; energy = omega arith }; high = record { capacity = most; energy = omega arith } })))
+      let row : LegalRow (priced price 0) = record { capacity = most; energy = omega arith } in
+      sym (open-done k (sym example-read) no-holidays (prices-legal (capacityOnly price) .1 (record { low = row; high = row })))
 
   pub some-days : 0 < runDays (basisRun k)
   some-days = omega (arith, year-run (sheetIn example .year))
@@ -87,22 +89,22 @@ module _ (price : ℕ) (least : 100 ≤ price) (most : price ≤ capacityMost) w
   there : counts terms 1 72 ≡ true
   there = pair (carrying 1 (omega arith) ∙ day-two) (rw example-year set-there)
 
-  any-there : figuresIn k xs .any ≡ true
+  any-there : basisFigures k xs .any ≡ true
   unfolding figuresOf anyOn
   any-there =
       any-at _ (basisDays k) 1 (omega arith) (any-at (counts terms 1) (dayLen (basisRun k) 1) 72 (omega (arith, len-is (basisRun k) 1)) there)
 
-  peak-is : figuresIn k xs .peak ≡ 1000000
+  peak-is : basisFigures k xs .peak ≡ 1000000
   unfolding figuresOf
   peak-is = rw (← year-run (sheetIn example .year)) (start-peak (basisRun k) 1000000 some-days)
 
-  high-is : figuresIn k xs .high ≡ 0
+  high-is : basisFigures k xs .high ≡ 0
   high-is = go (first-place (basisRun k) (counts terms) xs (basisDays k) any-there)
     where
-      go : FirstPlace (basisRun k) (counts terms) xs (basisDays k) (figuresIn k xs) → figuresIn k xs .high ≡ 0
+      go : FirstPlace (basisRun k) (counts terms) xs (basisDays k) (basisFigures k xs) → basisFigures k xs .high ≡ 0
       go f = at (decLt 0 (f .on))
         where
-          at : Dec (0 < f .on) → figuresIn k xs .high ≡ 0
+          at : Dec (0 < f .on) → basisFigures k xs .high ≡ 0
           at (yes l) = sym (f .has) ∙ start-later (basisRun k) 1000000 (f .on) (f .at) l
           at (no l) =
               let e : f .on ≡ 0 = omega arith in
@@ -113,20 +115,20 @@ module _ (price : ℕ) (least : 100 ≤ price) (most : price ≤ capacityMost) w
   row-is true = refl
   row-is false = refl
 
-  general-is : general (figuresIn k xs) (basisRates k) ≡ 1000 * price
+  general-is : general (basisFigures k xs) (basisRates k) ≡ 1000 * price
   unfolding general chargeFor
   general-is = rw (row-is _, peak-is) (omega arith)
 
-  charge-is : charge (figuresIn k xs) (basisRates k) ≡ 200 * price
+  charge-is : charge (basisFigures k xs) (basisRates k) ≡ 200 * price
   unfolding charge reduced floorOf chargeFor
   charge-is = rw (general-is, row-is _, high-is) (omega arith)
 
-  pub row : JudgeRow (figuresIn k xs) (basisRates k) 0
+  pub row : JudgeRow (basisFigures k xs) (basisRates k) 0
   row =
       zero (legal-basis k xs legal) (record { some = any-there; share = rw (example-share, peak-is, high-is) (omega arith) }) (omega (arith, peak-is, high-is)) (omega (arith, general-is, charge-is))
 
-  ours-accepted : decideFor k xs .number ≡ 0
-  ours-accepted = number-is (given-one k legal whole) ∙ judge-exactly (figuresIn k xs) (basisRates k) 0 .1 row
+  ours-accepted : decideAnswer k xs .number ≡ 0
+  ours-accepted = number-is (given-one k legal whole) ∙ judge-exactly (basisFigures k xs) (basisRates k) 0 .1 row
 
   -- what a module that meets the demands answers
   module _ (m : Module) (d : Demands m) where
@@ -147,7 +149,7 @@ module _ (m : Module) (d : Demands m) where
   one-charge o = omega (arith, at 100 (omega arith) (omega arith), at 200 (omega arith) (omega arith))
     where
       at : (price : ℕ) → 100 ≤ price → price ≤ capacityMost → 200 * price ≡ o .charge
-      at price least most = sym (pays price least most m d) ∙ o .fixed (basis price) (xs price least most) (accepted price least most m d)
+      at price least most = sym (pays price least most m d) ∙ o .fixed (pricedBasis price) (xs price least most) (accepted price least most m d)
 
   pub made-up-sum : MadeUpSum m → ⊥
   unfolding figuresOf

@@ -27,10 +27,11 @@ use Rattle.tariff.specs.declared.Rates.{Rates}
 use Rattle.tariff.specs.declared.Figures.{Figures}
 use Rattle.tariff.specs.Rows.{EligibleRow, ChargeRow, JudgeRow}
 use Rattle.figures.specs.Figures.{FirstPlace}
+use Rattle.terms.specs.Basis.{Basis, basisYear}
+use Rattle.terms.specs.Rows.{CustomerOpenRow}
 use Rattle.customer.specs.declared.Customer.{Customer}
-use Rattle.customer.specs.Rows.{CustomerOpenRow, CustomerDayRow, CustomerCloseRow, DecideRow}
-use Rattle.customer.specs.Demand.{Basis, basisYear, basisRun, basisDays, inWindow, LegalYear}
-use Rattle.demands.specs.Year.{figuresIn}
+use Rattle.customer.specs.Rows.{CustomerDayRow, CustomerCloseRow, DecideRow}
+use Rattle.customer.specs.Demand.{basisRun, basisDays, inWindow, LegalYear, basisFigures}
 use Rattle.demands.specs.Windows.{IsPeak, IsCurve, Kept}
 use Rattle.demands.specs.Module.{Module, gridEnd, gridWhole}
 
@@ -57,9 +58,9 @@ pub record ExactlyWhen (m : Module) : Type 0 where
   -- 0 to 6, 8 to 12
   pub decide :
       (k : Basis) (xs : List ℕ) (n : ℕ)
-      → (m .decide k xs .number ≡ n) ↔ DecideRow (k .sheet) (k .holidays) (k .prices) (k .option) xs n
+      → (m .decide k xs .number ≡ n) ↔ DecideRow k xs n
   -- 0, 1, 2, 3, 6, 12; 0, 4, 5, 13; 0, 8 to 11, 13, and 2 or 6 only on a state that no opening handed back
-  pub customer-open : (k : Basis) (n : ℕ) → (m .customerOpen k .number ≡ n) ↔ CustomerOpenRow (k .sheet) (k .holidays) (k .prices) n
+  pub customer-open : (k : Basis) (n : ℕ) → (m .customerOpen k .number ≡ n) ↔ CustomerOpenRow k n
   pub customer-day : (c : Customer) (day : List ℕ) (n : ℕ) → (m .customerDay c day .number ≡ n) ↔ CustomerDayRow c day n
   pub customer-close : (c : Customer) (n : ℕ) → (m .customerClose c .number ≡ n) ↔ CustomerCloseRow c n
 
@@ -128,8 +129,8 @@ pub record Eligibility (m : Module) : Type 0 where
   -- M is the highest reading and S the sum of all readings
   pub peak :
       (k : Basis) (xs : List ℕ) (b : ℕ)
-      → (figuresIn k xs .peak ≤ b) ↔ ((d p : ℕ) → d < basisDays k → p < dayLen (basisRun k) d → reading (basisRun k) xs d p ≤ b)
-  pub sum : (k : Basis) (xs : List ℕ) → LegalYear k xs → figuresIn k xs .sum ≡ sumOver (λ i. getD xs i 0) (length xs)
+      → (basisFigures k xs .peak ≤ b) ↔ ((d p : ℕ) → d < basisDays k → p < dayLen (basisRun k) d → reading (basisRun k) xs d p ≤ b)
+  pub sum : (k : Basis) (xs : List ℕ) → LegalYear k xs → basisFigures k xs .sum ≡ sumOver (λ i. getD xs i 0) (length xs)
   pub eight :
       (k : Basis) (xs : List ℕ)
       → LegalYear k xs
@@ -140,7 +141,7 @@ pub record Eligibility (m : Module) : Type 0 where
       → d < basisDays k
       → p < dayLen (basisRun k) d
       → inWindow k d p ≡ true
-      → FirstPlace (basisRun k) (inWindow k) xs (basisDays k) (figuresIn k xs)
+      → FirstPlace (basisRun k) (inWindow k) xs (basisDays k) (basisFigures k xs)
 
 -- Numbered answers: "Closing after all days answers as the whole series does." By what the caller sees (`AsWhole`, readings, specs/Days): answer and buffer
 -- for the grid, the answer for a customer

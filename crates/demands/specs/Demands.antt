@@ -7,8 +7,8 @@ use Rattle.sheet.specs.declared.Sheet.{Sheet}
 use Rattle.grid.specs.declared.Grid.{Grid}
 use Rattle.tariff.specs.declared.Rates.{Rates}
 use Rattle.tariff.specs.declared.Figures.{Figures}
+use Rattle.terms.specs.Basis.{Basis}
 use Rattle.customer.specs.declared.Customer.{Customer}
-use Rattle.customer.specs.Demand.{Basis}
 use Rattle.demands.specs.Module.{Module}
 use Rattle.demands.specs.Refusals.{LeftAsBefore, FixedState, HandedBack, Carried}
 use Rattle.demands.specs.Calendar.{Calendar}

@@ -13,8 +13,8 @@ use Rattle.answers.specs.Said.{Said}
 use Rattle.readings.specs.Days.{takenDays, takenReadings}
 use Rattle.tariff.specs.Charges.{general, charge}
 use Rattle.tariff.specs.Answers.{payable}
-use Rattle.customer.specs.Demand.{Basis, basisDays, basisRates, LegalYear, Alike, Agree, NoneHigher}
-use Rattle.demands.specs.Year.{figuresIn}
+use Rattle.terms.specs.Basis.{Basis}
+use Rattle.customer.specs.Demand.{basisDays, basisRates, LegalYear, Alike, Agree, NoneHigher, basisFigures}
 use Rattle.demands.specs.Module.{Module, customerAfter}
 
 module _ (m : Module) where
@@ -63,6 +63,6 @@ pub record Fairness (m : Module) : Type 0 where
       (k : Basis) (xs : List ℕ) (a : Said)
       → LegalYear k xs
       → Given m k xs a
-      → payable a ≡ cond (eqb (a .number) 0) (charge (figuresIn k xs) (basisRates k)) (general (figuresIn k xs) (basisRates k))
+      → payable a ≡ cond (eqb (a .number) 0) (charge (basisFigures k xs) (basisRates k)) (general (basisFigures k xs) (basisRates k))
   -- "An accepted charge is at least a fifth of the general charge and at least 500 euro below it."
   pub accepted-fair : (k : Basis) (xs : List ℕ) (a : Said) → LegalYear k xs → Given m k xs a → a .number ≡ 0 → FairCharge a

@@ -1,4 +1,3 @@
-pub mod Year
 pub mod Module
 pub mod Refusals
 pub mod Calendar

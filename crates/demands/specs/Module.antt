@@ -16,10 +16,10 @@ use Rattle.grid.specs.Answers.{windowsAnswer, windowsBuffer, openAnswer as grid
 use Rattle.tariff.specs.declared.Rates.{Rates}
 use Rattle.tariff.specs.declared.Figures.{Figures}
 use Rattle.tariff.specs.Decision.{eligibleAnswer, chargeAnswer, judgeAnswer}
+use Rattle.terms.specs.Basis.{Basis}
+use Rattle.terms.specs.Opening.{openAnswer}
 use Rattle.customer.specs.declared.Customer.{Customer}
-use Rattle.customer.specs.Answers.{dayAnswer as customerDayAnswer, dayCustomer, closeAnswer as customerCloses}
-use Rattle.customer.specs.Demand.{Basis}
-use Rattle.demands.specs.Year.{opensFor, openFor, decideFor}
+use Rattle.customer.specs.Answers.{dayAnswer as customerDayAnswer, dayCustomer, closeAnswer as customerCloses, openCustomer, decideAnswer}
 
 pub record Module : Type 0 where
   -- a calendar day: year, holiday list, day
@@ -74,9 +74,9 @@ ours =
       eligible = eligibleAnswer;
       charge = chargeAnswer;
       judge = judgeAnswer;
-      decide = decideFor;
-      customerOpen = opensFor;
-      customerOpened = openFor;
+      decide = decideAnswer;
+      customerOpen = openAnswer;
+      customerOpened = openCustomer;
       customerDay = customerDayAnswer;
       customerNext = dayCustomer;
       customerClose = customerCloses;

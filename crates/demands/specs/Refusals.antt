@@ -25,10 +25,10 @@ use Rattle.grid.specs.Answers.{shut as gridShut}
 use Rattle.tariff.specs.declared.Rates.{Rates}
 use Rattle.tariff.specs.declared.Figures.{Figures}
 use Rattle.tariff.specs.Charges.{general, charge}
+use Rattle.terms.specs.Basis.{Basis}
 use Rattle.customer.specs.declared.Customer.{Customer}
 use Rattle.customer.specs.Answers.{ratesOf, shut as customerShut, sumMost}
-use Rattle.customer.specs.Demand.{Basis, basisRun, basisDays, basisRates}
-use Rattle.demands.specs.Year.{figuresIn}
+use Rattle.customer.specs.Demand.{basisRun, basisDays, basisRates, basisFigures}
 use Rattle.demands.specs.Module.{Module, gridAfter, customerAfter, Refused}
 
 -- "and writes nothing into a lent buffer"; Numbered answers: "like all refusals, leave every state and buffer as before". (A closing has no state beside
@@ -130,7 +130,7 @@ pub record Carried (m : Module) : Type 0 where
   pub judge : (f : Figures) (r : Rates) → Carries (m .judge f r) (yearColumn f r)
   pub decide :
       (k : Basis) (xs : List ℕ)
-      → CarriesPlace (m .decide k xs) (FirstIllegalIn (basisRun k) customerMost xs) (yearColumn (figuresIn k xs) (basisRates k))
+      → CarriesPlace (m .decide k xs) (FirstIllegalIn (basisRun k) customerMost xs) (yearColumn (basisFigures k xs) (basisRates k))
   pub customer-open : (k : Basis) → Carries (m .customerOpen k) (bare [])
   pub customer-day : (c : Customer) (day : List ℕ) → CarriesPlace (m .customerDay c day) (FirstToday customerMost (c .seen) day) (bare [])
   pub customer-close : (c : Customer) → Carries (m .customerClose c) (yearColumn (c .figures) (ratesOf (c .terms)))

@@ -23,8 +23,9 @@ use Rattle.tariff.specs.declared.Rates.{Rates}
 use Rattle.tariff.specs.declared.Figures.{Figures}
 use Rattle.tariff.specs.Answers.{payable}
 use Rattle.figures.specs.Figures.{sumOf}
+use Rattle.terms.specs.Basis.{Basis}
 use Rattle.customer.specs.declared.Customer.{Customer}
-use Rattle.customer.specs.Demand.{Basis, basisRun, basisDays, LegalYear}
+use Rattle.customer.specs.Demand.{basisRun, basisDays, LegalYear}
 use Rattle.demands.specs.Module.{Module, Refused}
 use Rattle.demands.specs.Answers.{sheetShown}
 use Rattle.demands.specs.Demands.{Demands}

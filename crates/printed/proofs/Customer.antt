@@ -20,11 +20,11 @@ use Rattle.readings.specs.Legal.{badIn}
 use Rattle.readings.proofs.Runs.{start-none, days-most, year-run}
 use Rattle.readings.proofs.Legal.{bad-run}
 use Rattle.readings.proofs.Days.{series-legal}
-use Rattle.sheet.specs.Bytes.{sheetIn}
-use Rattle.customer.specs.declared.Terms.{Terms}
+use Rattle.terms.specs.declared.Terms.{Terms}
+use Rattle.terms.specs.Opening.{termsOf}
 use Rattle.customer.specs.declared.Customer.{Customer}
-use Rattle.customer.specs.Answers.{termsOf, opened, shut, dayAnswer, dayCustomer, closeAnswer, decideAnswer}
-use Rattle.customer.proofs.Answered.{open-taken, decide-whole}
+use Rattle.customer.specs.Answers.{opened, shut, dayAnswer, dayCustomer, closeAnswer, decideAnswer}
+use Rattle.customer.proofs.Answered.{opened-state, decide-whole}
 use Rattle.customer.proofs.Whole.{holding, opens-holding, machine, closes-holding}
 use Rattle.fields.specs.Layout.{Layout, startOf, headSize, stops}
 use Rattle.fields.specs.Series.{readingsOf, seriesIn, daySize, fileSize}
@@ -38,7 +38,7 @@ use Rattle.lines.specs.Figures.{statementLine}
 use Rattle.fields.specs.declared.Stage.the-variants.{Going, Refused, Complete}
 use Rattle.customer_file.specs.declared.CustomerFile.{CustomerFile}
 use Rattle.fields.specs.Stages.{going, stageOf, saidOfStage}
-use Rattle.customer_head.specs.Header.{sheetPart, optionOf, holidaysOf, pricesOf, customerLayout, openedIn}
+use Rattle.customer_head.specs.Header.{customerLayout, basisIn, openedIn}
 use Rattle.customer_file.specs.Customer.{customerAnswer}
 use Rattle.customer_file.specs.CustomerMachine.{openedWith, customerHead, customerStart, customerEnded, customerReader, customerWants, customerFed, answerOf}
 use Rattle.customer_text.specs.Text.{customerText}
@@ -102,13 +102,13 @@ module _ (bytes : List ℕ) where
   xs = seriesIn bytes h
 
   abbrev terms : Terms
-  terms = termsOf (sheetIn (sheetPart bytes)) (holidaysOf bytes) (pricesOf bytes) (optionOf bytes)
+  terms = termsOf (basisIn bytes)
 
   abbrev run : Run
   run = Year (terms .year)
 
   abbrev done : Said
-  done = decideAnswer (sheetPart bytes) (holidaysOf bytes) (pricesOf bytes) (optionOf bytes) xs
+  done = decideAnswer (basisIn bytes) xs
 
   abbrev inHead : ℕ → CustomerFile
   inHead k = customerHead shut k (held k)
@@ -133,7 +133,7 @@ module _ (bytes : List ℕ) where
     -- the header's end opens the year
     year-opened : openedIn bytes ≡ opened terms
     unfolding openedIn
-    year-opened = sym (open-taken (sheetPart bytes) (holidaysOf bytes) (pricesOf bytes) (optionOf bytes) (sym (opens bytes passed)))
+    year-opened = sym (opened-state (basisIn bytes) (sym (opens bytes passed)))
 
     inside-file : h ≤ length bytes
     inside-file = fields-held l bytes (l .count) passed
@@ -184,7 +184,7 @@ module _ (bytes : List ℕ) where
         ∙ closes-holding terms xs
         (series-legal run customerMost xs (series-long run h bytes z)
         (ltb-false _ _ (sym (bad-run run customerMost xs) ∙ passed-all (badIn run customerMost xs) (runDays run) c)))
-        ∙ decide-whole (sheetPart bytes) (holidaysOf bytes) (pricesOf bytes) (optionOf bytes) xs (sym (opens bytes passed))
+        ∙ decide-whole (basisIn bytes) xs (sym (opens bytes passed))
 
     takes-end : Passed (badIn run customerMost xs) (runDays run) → TakesEnd customerWants customerFed customerText statementLine bytes run customerMost h inDays done
     takes-end c =

@@ -19,6 +19,7 @@ use Rattle.holidays.specs.Holidays.{before, unfit, badEntry}
 use Rattle.sheet.specs.Windows.{tooMany}
 use Rattle.sheet.specs.Bytes.{mark, yearAt, sheetSize, seasonBytes}
 use Rattle.sheet.proofs.Bytes.{set-same}
+use Rattle.terms.specs.Basis.{basis}
 use Rattle.customer.specs.Answers.{openCustomer}
 use Rattle.fields.specs.Layout.{Layout, fieldAt, startOf, headSize}
 use Rattle.fields.proofs.Bytes.{part-long, part-at, Same}
@@ -195,4 +196,4 @@ module _ (b bytes : List ℕ) (h : Same (headSize (customerLayout bytes)) b byte
 
   pub opened-same : openedIn b ≡ openedIn bytes
   unfolding openedIn
-  opened-same = λ i. openCustomer (sheet-same i) (holidays-same i) (prices-same i) (option-same i)
+  opened-same = λ i. openCustomer (basis (sheet-same i) (holidays-same i) (prices-same i) (option-same i))

@@ -24,13 +24,13 @@ use Rattle.sheet.specs.Answers.{readAnswer}
 use Rattle.sheet.proofs.Bytes.{season-set, set-same}
 use Rattle.sheet.proofs.Answered.{marked, read-accepted}
 use Rattle.tariff.specs.Prices.{rowOut, pricesOut}
-use Rattle.customer.specs.Answers.{openAnswer}
-use Rattle.customer.proofs.Answered.{open-done}
+use Rattle.terms.specs.Opening.{openAnswer}
+use Rattle.terms.proofs.Answered.{open-done}
 use Rattle.fields.specs.Layout.{Layout, fieldAt, headSize, stops}
 use Rattle.fields.proofs.Bytes.{part-long, part-at}
 use Rattle.fields.proofs.Common.{mark-no, version-no, year-no, level-no, unrefused}
 use Rattle.fields.proofs.Header.{field-held, fields-held}
-use Rattle.customer_head.specs.Header.{sheetPlace, sheetPart, customerYear, holidaysPlace, holidayCount, holidaysOf, pricesPlace, priceOf, pricesOf, priceFields, customerLayout}
+use Rattle.customer_head.specs.Header.{sheetPlace, sheetPart, customerYear, holidaysPlace, holidayCount, holidaysOf, pricesPlace, priceOf, pricesOf, priceFields, customerLayout, basisIn}
 use Rattle.customer_head.proofs.CustomerLayout.{count-few, count-is, refusal-first, season-refused, holiday-refused, price-refused, size-is}
 use Rattle.customer_head.proofs.Refusals.{season-no, capacity-no, energy-no}
 
@@ -137,11 +137,11 @@ module _ (bytes : List ℕ) where
     prices-in o = rw (price-in o 0 (omega arith), price-in o 1 (omega arith), price-in o 2 (omega arith), price-in o 3 (omega arith))
 
   -- a file whose fields all pass
-  pub opens : Passed (stops l bytes) (l .count) → openAnswer sheet hs (pricesOf bytes) ≡ only 0
+  pub opens : Passed (stops l bytes) (l .count) → openAnswer (basisIn bytes) ≡ only 0
   opens p =
       let passed : (k : ℕ) → k < l .count → l .refusal k ≡ 0 = λ k m. field-held l bytes k (p .fails k m) .1 in
       let all = count-is bytes in
-      sym (open-done sheet hs (pricesOf bytes)
+      sym (open-done (basisIn bytes)
       (sheet-in (l .count) passed (fields-held l bytes (l .count) p) (omega arith))
       (holidays-in (l .count) passed (omega arith))
       (prices-in (l .count) passed (omega arith)))

@@ -18,19 +18,21 @@ use Rattle.readings.specs.Runs.{runDays, dayLen, runReadings, reading}
 use Rattle.readings.specs.Days.{seriesAnswer}
 use Rattle.readings.proofs.Runs.{len-is, quarter-is, run-all, year-run}
 use Rattle.readings.proofs.Days.{series-legal}
-use Rattle.sheet.specs.Bytes.{sheetIn}
 use Rattle.tariff.specs.declared.Figures.{Figures}
 use Rattle.tariff.specs.Prices.{rowOut, pricesOut}
 use Rattle.tariff.specs.Charges.{chargeFor, general, reduced, floorOf, charge}
 use Rattle.tariff.specs.Decision.{eligibleRules, chargeRules, judgeRules, judgeAnswer}
 use Rattle.figures.specs.Figures.{figuresOf}
-use Rattle.customer.specs.declared.Terms.{Terms}
+use Rattle.terms.specs.declared.Terms.{Terms}
+use Rattle.terms.specs.Basis.{Basis, basis}
+use Rattle.terms.specs.Opening.{openAnswer, termsOf}
+use Rattle.terms.proofs.Answered.{open-done}
 use Rattle.customer.specs.Counts.{counts}
-use Rattle.customer.specs.Answers.{termsOf, openAnswer, judged, figuresUnder, decideAnswer}
-use Rattle.customer.proofs.Answered.{open-done, whole-judged, decide-whole}
-use Rattle.demands.specs.Cases.{prices, exampleSheet}
+use Rattle.customer.specs.Answers.{judged, figuresUnder, decideAnswer}
+use Rattle.customer.proofs.Answered.{whole-judged, decide-whole}
+use Rattle.demands.specs.Cases.{prices}
 use Rattle.demands.proofs.Example.{example, example-read, example-year, no-holidays, carrying, day-two, set-there}
-use Rattle.printed.specs.Examples.{isAt, customerRun, saturdayDay, thursdayDay, customerReading, customerSeries, customerSaid}
+use Rattle.printed.specs.Examples.{isAt, customerRun, saturdayDay, thursdayDay, customerReading, customerSeries, exampleBasis, customerSaid}
 use Rattle.printed.proofs.Series.{at-there, at-other, series-long, series-reads}
 use Rattle.figures.proofs.TwoReadings.{TwoOthers, two-peak, two-figures}
 
@@ -92,11 +94,14 @@ prices-in : pricesOut prices ≡ false
 unfolding pricesOut rowOut
 prices-in = refl
 
-opens : only 0 ≡ openAnswer example [] prices
-opens = open-done example [] prices (sym example-read) no-holidays prices-in
+abbrev given : Basis
+given = basis example [] prices false
+
+opens : only 0 ≡ openAnswer given
+opens = open-done given (sym example-read) no-holidays prices-in
 
 abbrev terms : Terms
-terms = termsOf (sheetIn example) [] prices false
+terms = termsOf given
 
 -- 2 January carries windows, and quarter 72 is one; 4 January carries none
 saturday-free : carries 2025 [] 4 ≡ false
@@ -127,10 +132,10 @@ judged-is = refl
 legal : only 0 ≡ seriesAnswer (Year (terms .year)) customerMost customerSeries
 legal = rw example-year customer-legal
 
-pub decided : decideAnswer exampleSheet [] prices false customerSeries ≡ customerSaid
+pub decided : decideAnswer exampleBasis customerSeries ≡ customerSaid
 unfolding example
 decided =
-    sym (decide-whole example [] prices false customerSeries opens)
+    sym (decide-whole given customerSeries opens)
     ∙ sym (whole-judged terms customerSeries legal)
     ∙ ap (judged terms) figures-are
     ∙ judged-is

@@ -30,7 +30,7 @@ use Rattle.customer_file.specs.Customer.{customerAnswer}
 use Rattle.customer_file.specs.CustomerMachine.{customerStart, customerWants, customerFed}
 use Rattle.customer_text.specs.Text.{statementPrinted, customerText}
 use Rattle.demands.specs.Cases.{prices, exampleSheet}
-use Rattle.printed.specs.Examples.{isAt, customerRun, saturdayDay, thursdayDay, customerReading, customerSeries, fourBytes, seriesBytes, customerHeader, customerBytes, customerSaid, exampleStatement, Prints}
+use Rattle.printed.specs.Examples.{isAt, customerRun, saturdayDay, thursdayDay, customerReading, customerSeries, fourBytes, seriesBytes, customerHeader, customerBytes, exampleBasis, customerSaid, exampleStatement, Prints}
 use Rattle.printed.proofs.Customer.{statement-printed}
 use Rattle.printed.proofs.Series.{series-low}
 use Rattle.printed.proofs.FileBytes.{wordEnd, bytes-long, readings-back, file-whole}
@@ -103,7 +103,7 @@ legal : only 0 ≡ seriesAnswer (Year (customerYear customerBytes)) customerMost
 unfolding customerBytes
 legal = rw (year-is readings, series-back) customer-legal
 
-answer-is : customerAnswer customerBytes ≡ decideAnswer exampleSheet [] prices false customerSeries
+answer-is : customerAnswer customerBytes ≡ decideAnswer exampleBasis customerSeries
 unfolding customerAnswer customerBytes
 answer-is =
     sym (file-whole (customerLayout customerBytes) customerBytes (taken readings) (Year (customerYear customerBytes)) customerMost _ file-long legal)

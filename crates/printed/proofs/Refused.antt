@@ -20,15 +20,15 @@ use Rattle.sheet.proofs.Windows.{full-season}
 use Rattle.sheet.proofs.Answered.{marked, read-form, read-year, read-level, read-full}
 use Rattle.tariff.specs.declared.Prices.{Prices}
 use Rattle.tariff.specs.Prices.{rowOut, pricesOut}
-use Rattle.customer.specs.Answers as Customer
-use Rattle.customer.proofs.Answered.{open-read, open-holidays, open-prices}
+use Rattle.terms.specs.Opening as Customer
+use Rattle.terms.proofs.Answered.{open-read, open-holidays, open-prices}
 use Rattle.grid.specs.Answers as Grid
 use Rattle.grid.proofs.Steps.{open-year, open-level}
 use Rattle.fields.specs.Layout.{Layout, headSize}
 use Rattle.fields.proofs.Common.{refused-as}
 use Rattle.grid_file.specs.Grid.{gridLayout, gridYear, gridLevel}
 use Rattle.grid_file.proofs.GridLayout.{grid-count}
-use Rattle.customer_head.specs.Header.{sheetPart, holidayCount, holidaysOf, pricesOf, customerLayout}
+use Rattle.customer_head.specs.Header.{sheetPart, holidayCount, holidaysOf, pricesOf, customerLayout, basisIn}
 use Rattle.customer_head.proofs.CustomerLayout.{count-is}
 use Rattle.printed.proofs.Grid as GridFields
 use Rattle.printed.proofs.CustomerOpening.{mark-tested, version-tested, year-tested, level-tested, season-tested, holiday-tested, holidays-long, priceOut, price-tested, formed, year-in, level-in, sheet-in, holidays-in}
@@ -74,7 +74,7 @@ module _ (bytes : List ℕ) where
   p = pricesOf bytes
 
   abbrev Once : ℕ → Type 0
-  Once k = DecidedOnce (Customer.openAnswer b hs p) l k
+  Once k = DecidedOnce (Customer.openAnswer (basisIn bytes)) l k
 
   -- a field by its place in its row
   placed : {i k : ℕ} → i ≡ k → Once i → Once k
@@ -82,8 +82,8 @@ module _ (bytes : List ℕ) where
 
   module _ (whole : headSize l ≤ length bytes) where
     -- the sheet
-    read-once : {c : ℕ} → only (suc c) ≡ readAnswer b → only (suc c) ≡ Customer.openAnswer b hs p
-    read-once {c} e = open-read b hs p (only (suc c)) (ne-eqb (suc c) 0 (omega arith)) e
+    read-once : {c : ℕ} → only (suc c) ≡ readAnswer b → only (suc c) ≡ Customer.openAnswer (basisIn bytes)
+    read-once {c} e = open-read (basisIn bytes) (only (suc c)) (ne-eqb (suc c) 0 (omega arith)) e
 
     season-once : (j : ℕ) → j < seasons → Once (6 + j)
     season-once j m r =
@@ -111,7 +111,7 @@ module _ (bytes : List ℕ) where
     holiday-once j m r =
         let read = sheet-in bytes (12 + j) (r .before) whole (omega arith) in
         refused-as _ 2 (holiday-tested bytes j m) (r .refused)
-        (λ t. open-holidays b hs p read (sym (bad-at (sheetIn b .year) hs j t (omega (arith, holidays-long bytes)))))
+        (λ t. open-holidays (basisIn bytes) read (sym (bad-at (sheetIn b .year) hs j t (omega (arith, holidays-long bytes)))))
 
     -- the prices
     prices-out : (j : ℕ) → priceOut bytes j ≡ true → pricesOut p ≡ true
@@ -126,13 +126,13 @@ module _ (bytes : List ℕ) where
     price-once j m r =
         let read = sheet-in bytes (12 + (n + j)) (r .before) whole (omega arith) in
         let list = holidays-in bytes (12 + (n + j)) (r .before) (omega arith) in
-        refused-as _ 5 (price-tested bytes j m) (r .refused) (λ t. open-prices b hs p read list (prices-out j t))
+        refused-as _ 5 (price-tested bytes j m) (r .refused) (λ t. open-prices (basisIn bytes) read list (prices-out j t))
 
     -- a customer file whose header is whole
-    pub customer-once : (k : ℕ) → Seen k → DecidedOnce (Customer.openAnswer b hs p) l k
+    pub customer-once : (k : ℕ) → Seen k → DecidedOnce (Customer.openAnswer (basisIn bytes)) l k
     customer-once k (sheet f g) r = sheet-once k f g r
     customer-once k (lists f) r = go (decLt k (12 + n))
       where
-        go : Dec (k < 12 + n) → Customer.openAnswer b hs p ≡ only (l .refusal k)
+        go : Dec (k < 12 + n) → Customer.openAnswer (basisIn bytes) ≡ only (l .refusal k)
         go (yes m) = placed (omega arith) (holiday-once (k - 12) (omega arith)) r
         go (no m) = placed (omega arith) (price-once (k - 12 - n) (omega (arith, r .field, count-is bytes))) r

@@ -15,6 +15,7 @@ use Rattle.readings.specs.declared.Run.the-variants.{Year, Period}
 use Rattle.readings.specs.Runs.{runDays, dayLen, quarterOf}
 use Rattle.sheet.specs.Bytes.{sheetSize}
 use Rattle.grid.specs.Answers.{windowsAnswer, windowsBuffer}
+use Rattle.terms.specs.Basis.{Basis, basis}
 use Rattle.customer.specs.Answers.{decideAnswer}
 use Rattle.fields.specs.Series.{readingBytes}
 use Rattle.fields.specs.File.{driven}
@@ -102,6 +103,10 @@ exampleWindows =
     -- `4 none`
     ++ (52 ∷ 32 ∷ 110 ∷ 111 ∷ 110 ∷ 101 ∷ 10 ∷ []))))
 
+-- the customer's basis: that sheet, no holidays, the prices of the cases, and no option
+abbrev pub exampleBasis : Basis
+exampleBasis = basis exampleSheet [] prices false
+
 -- what the year is answered, and the statement program's line: `0 1001500 2001500 1000000 1500000 500000 2 72`
 abbrev pub customerSaid : Said
 customerSaid = record { number = 0; carries = 1001500 ∷ 2001500 ∷ 1000000 ∷ 1500000 ∷ 500000 ∷ 2 ∷ 72 ∷ [] }
@@ -132,6 +137,6 @@ pub record Examples : Type 0 where
   -- the window program's example, from the file's bytes to its lines
   pub windows : Prints (windowsPrinted gridBytes) (λ turns. gridText (driven gridWants gridFed turns gridStart gridBytes)) 371 exampleWindows
   -- the statement program's example, from the series to what the decision answers
-  pub decision : decideAnswer exampleSheet [] prices false customerSeries ≡ customerSaid
+  pub decision : decideAnswer exampleBasis customerSeries ≡ customerSaid
   -- and from the file's bytes to its line
   pub statement : Prints (statementPrinted customerBytes) (λ turns. customerText (driven customerWants customerFed turns customerStart customerBytes)) 423 exampleStatement

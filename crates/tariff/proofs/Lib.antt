@@ -3,5 +3,6 @@ pub mod Shares
 pub mod Charges
 pub mod Answered
 pub mod Only
+pub mod Taken
 pub mod Exactly
 pub mod Demand

@@ -7,6 +7,7 @@ use borrow.Author.Needs.{needs}
 use Rattle.dates.specs.Dates.{yearDays}
 use Rattle.readings.specs.Days.{offered, daysOf}
 use Rattle.readings.specs.Part.{dayPart}
+use Rattle.terms.specs.Basis.{basis}
 use Rattle.customer.specs.declared.Customer.{Customer}
 use Rattle.customer.specs.Answers.{dayCustomer}
 use Rattle.bench_customer.specs.Days.{customerAfter}
@@ -15,7 +16,8 @@ use Rattle.bench_customer.proofs.all_customer_days.Statement.{statement
 use Rattle.bench_customer.proofs.all_customer_days.Tie as tie
 
 abbrev Inv-loop : tie.InvT-loop
-Inv-loop sheet holidays option series state₀ d₀ d-end state d = (d-end ≡ yearDays (state₀ .terms .year)) × (d ≤ d-end) × (state ≡ offered dayCustomer state₀ (daysOf series d))
+Inv-loop sheet holidays option series state₀ d₀ d-end state d =
+    (d-end ≡ yearDays (state₀ .terms .year)) × (d ≤ d-end) × (state ≡ offered dayCustomer state₀ (daysOf series d))
 
 abbrev μ-loop : tie.MeasureT-loop
 μ-loop sheet holidays option series state₀ d₀ d-end state d = d-end - d
@@ -25,11 +27,13 @@ loop-holds c = (c .year-days .ensures, omega arith, sym (days-none dayCustomer _
 
 loop-again : tie.Need-loop-again Inv-loop μ-loop
 loop-again c =
-    let at = c .before .before .before .before .loop in
-    let series = c .before .before .before .before .before .before .before .before .before .before .before .args .series .now in (
+    let turn = c .before .before .before .before in
+    let at = turn .loop in
+    let first = turn .before .before .before in
+    let series = first .before .before .before .before .args .series .now in (
       at .inv .0,
       omega arith,
-      c .before .day .ensures .1
+      c .before .day .ensures .state
           ∙ ap (dayCustomer (at .state)) (c .before .before .day-part .ensures)
           ∙ ap (λ (s : Customer). dayCustomer s (dayPart series (at .d + 1))) (at .inv .2)
           ∙ sym (days-more dayCustomer _ series (at .d)),
@@ -37,13 +41,15 @@ loop-again c =
 
 returns : tie.Need-returns Inv-loop μ-loop
 returns c =
-    let a = c .before .before .before .before .before .before .before .before .args in
     let at = c .before .loop in
-    let opened = c .before .before .before .before .«open» in
+    let first = c .before .before .before .before in
+    let opened = first .«open» in
+    let a = first .before .before .before .before .args in
     let all : at .d ≡ yearDays (opened .result .customer .terms .year) = omega arith in
     at .inv .2
-    ∙ ap (λ (s : Customer). offered dayCustomer s (daysOf (a .series .now) (at .d))) (opened .ensures .1)
-    ∙ ap (customerAfter (a .sheet .now) (a .holidays .now) (a .prices) (a .option) (a .series .now)) (all ∙ ap (λ (s : Customer). yearDays (s .terms .year)) (opened .ensures .1))
+    ∙ ap (λ (s : Customer). offered dayCustomer s (daysOf (a .series .now) (at .d))) (opened .ensures .state)
+    ∙ ap (customerAfter (basis (a .sheet .now) (a .holidays .now) (a .prices) (a .option)) (a .series .now))
+    (all ∙ ap (λ (s : Customer). yearDays (s .terms .year)) (opened .ensures .state))
 
 pub all-customer-days-spec : {M : Type 1} → statement M
 all-customer-days-spec =

@@ -3,6 +3,7 @@
 use mathlib.Core.Path.{ap, _∙_}
 use borrow.Author.Needs.{needs}
 use Rattle.tariff.specs.declared.Prices.{Prices}
+use Rattle.terms.specs.Basis.{basis}
 use Rattle.customer.specs.Answers.{closeAnswer}
 use Rattle.flat.specs.Flat.{flatOf}
 use Rattle.bench_customer.specs.Days.{customerDaysAnswer}
@@ -11,11 +12,13 @@ use Rattle.bench_customer.proofs.bench_customer_days.Tie as tie
 
 returns : tie.Need-returns
 returns c =
-    let a = c .before .before .before .before .before .before .before .args in
+    let prices = c .before .before .before in
+    let a = prices .before .before .before .before .args in
     c .of-decision .ensures
     ∙ ap flatOf (c .before .close .ensures
     ∙ ap closeAnswer (c .before .before .all-customer-days .ensures)
-    ∙ ap (λ (p : Prices). customerDaysAnswer (a .sheet .now) (a .holidays .now) p (a .option) (a .series .now)) (c .before .before .before .prices-of .ensures))
+    ∙ ap (λ (p : Prices). customerDaysAnswer (basis (a .sheet .now) (a .holidays .now) p (a .option)) (a .series .now))
+    (prices .prices-of .ensures))
 
 pub bench-customer-days-spec : {M : Type 1} → statement M
 bench-customer-days-spec =

@@ -3,6 +3,7 @@
 use mathlib.Core.Path.{ap, _∙_}
 use borrow.Author.Needs.{needs}
 use Rattle.tariff.specs.declared.Prices.{Prices}
+use Rattle.terms.specs.Basis.{basis}
 use Rattle.customer.specs.Answers.{decideAnswer}
 use Rattle.flat.specs.Flat.{flatOf}
 use Rattle.bench_customer.proofs.bench_decide.Statement.{statement}
@@ -10,10 +11,11 @@ use Rattle.bench_customer.proofs.bench_decide.Tie as tie
 
 returns : tie.Need-returns
 returns c =
-    let a = c .before .before .before .before .before .before .args in
+    let prices = c .before .before in
+    let a = prices .before .before .before .before .args in
     c .of-decision .ensures
     ∙ ap flatOf (c .before .decide .ensures
-    ∙ ap (λ (p : Prices). decideAnswer (a .sheet .now) (a .holidays .now) p (a .option) (a .series .now)) (c .before .before .prices-of .ensures))
+    ∙ ap (λ (p : Prices). decideAnswer (basis (a .sheet .now) (a .holidays .now) p (a .option)) (a .series .now)) (prices .prices-of .ensures))
 
 pub bench-decide-spec : {M : Type 1} → statement M
 bench-decide-spec =

@@ -7,6 +7,7 @@ use borrow.Author.Needs.{needs}
 use lib.Dec.{eqb}
 use lib.ListN.{length, take, drop}
 use lib.Seq.{length-take-le}
+use Rattle.terms.specs.Basis.{basis}
 use Rattle.customer.specs.Answers.{openCustomer}
 use Rattle.customer_head.specs.Header.{holidaysOf, openedIn}
 use Rattle.customer_head.proofs.CustomerLayout.{sheet-held}
@@ -36,7 +37,7 @@ returns c =
     let sheet = (λ i. take (to i - from i) (drop (from i) b)) ∙ sheet-held b in
     let prices = asked .before .prices-of .ensures in
     let option = asked .byte-at .ensures in
-    c .before .«open» .ensures .1 ∙ (λ i. openCustomer (sheet i) (listed-are listed i) (prices i) (eqb (option i) 1))
+    c .before .«open» .ensures .state ∙ (λ i. openCustomer (basis (sheet i) (listed-are listed i) (prices i) (eqb (option i) 1)))
 
 pub opened-spec : {M : Type 1} → statement M
 opened-spec =

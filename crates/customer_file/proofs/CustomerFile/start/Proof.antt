@@ -6,7 +6,8 @@ use lib.ListN.{replicate}
 use Rattle.over.specs.Over.{joined, anyOver}
 use Rattle.packed.specs.Bytes.{unlike}
 use Rattle.sheet.specs.Answers.{readAnswer}
-use Rattle.customer.specs.Answers.{shut, openAnswer, openCustomer}
+use Rattle.terms.specs.Opening.{openAnswer}
+use Rattle.customer.specs.Answers.{shut, openCustomer}
 use Rattle.customer_head.specs.Header.{openedIn}
 use Rattle.fields.specs.declared.Stage.the-variants.{Going}
 use Rattle.customer_file.proofs.CustomerFile.start.Statement.{statement}

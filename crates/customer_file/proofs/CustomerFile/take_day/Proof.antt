@@ -47,8 +47,8 @@ returns-2 c =
     ∙ readings-held (a .b .now) (len .result) (omega (arith, len .ensures, few)) (omega arith)
     ∙ ap (λ (n : ℕ). readingsOf (take (4 * n) (a .b .now))) (len .ensures) in
     let step = c .before .before .before .day .ensures in
-    let stage = c .stage-of .ensures ∙ ap dayStage (step .0) in
-    (λ i. record { field = a .self .field; head = a .self .head; customer = step .1 i; stage = stage i })
+    let stage = c .stage-of .ensures ∙ ap dayStage (step .said) in
+    (λ i. record { field = a .self .field; head = a .self .head; customer = step .state i; stage = stage i })
     ∙ day-given (a .self) (take (len .result) (all .result))
     ∙ ap (dayGiven customerReader (a .self)) day
     ∙ day-held customerReader (a .self) (a .b .now) (omega (arith, len .ensures))

@@ -1,0 +1,72 @@
+-- `terms::open` meets its contract: a refusal stands beside the fixed terms, 0 beside those of the basis.
+-- Assumes nothing.
+use mathlib.Core.Path.{_≡_, sym, ap, _∙_}
+use borrow.Author.Needs.{needs}
+use types.Run.{miss}
+use Rattle.calendar.specs.Free.{windowDays}
+use Rattle.sheet.specs.declared.Sheet.{Sheet}
+use Rattle.sheet.specs.Answers.{SheetRead}
+use Rattle.sheet.proofs.Exactly.{read-never}
+use Rattle.tariff.specs.Answers.{saidOf}
+use Rattle.tariff.proofs.Taken.{others, untaken}
+use Rattle.terms.specs.Basis.{Basis, basis}
+use Rattle.terms.specs.Opening.{openAnswer}
+use Rattle.terms.proofs.Exactly.{open-zero, open-meaning}
+use Rattle.terms.proofs.Answered.{open-said, open-refused, open-taken}
+use Rattle.terms.proofs.open.Statement.{statement}
+use Rattle.terms.proofs.open.Tie as tie
+
+open-answer-requires : tie.Need-open-answer-requires
+open-answer-requires c κs =
+    let read = c .before in
+    λ e. read-never (read .before .before .before .args .sheet .now) (sym (ap (λ (r : SheetRead). r .answer .number) (read .read .ensures)) ∙ e)
+
+-- the basis that is opened, and what is answered
+abbrev given : tie.After-open-answer → Basis
+given e =
+    let a = e .before .before .before .before .before .args in
+    basis (a .sheet .now) (a .holidays .now) (a .prices) (a .option)
+
+answer-at : (e : tie.After-open-answer) → saidOf (e .open-answer .result) ≡ openAnswer (given e)
+answer-at e = e .open-answer .ensures ∙ open-said (given e) (e .before .before .read .ensures)
+
+returns : tie.Need-returns
+returns c =
+    let e = c .before .before in
+    let k = given e in
+    let z = untaken {d = e .open-answer .result} (answer-at e) (open-zero k) (λ t. miss others 2 tt (rw t at (c .before .match .keys2))) in
+    record { said = answer-at e; terms = c .no-terms .ensures ∙ open-refused k _ z (answer-at e) }
+
+returns-2 : tie.Need-returns-2
+returns-2 c =
+    let told = c .before .before in
+    let e = told .before .before in
+    let k = given e in
+    let opens = ap saidOf (sym (told .enum-told .given .1)) ∙ answer-at e in
+    let meaning = open-meaning k (e .before .before .read .ensures) opens in
+    let carrying = c .window-days .ensures ∙ ap (λ (s : Sheet). windowDays (s .year) (k .holidays)) meaning in
+    record {
+      said = answer-at e;
+      terms =
+          (λ i. record {
+            year = meaning i .year;
+            level = meaning i .level;
+            option = k .option;
+            prices = k .prices;
+            windows = meaning i .windows;
+            carrying = carrying i;
+          })
+          ∙ open-taken k opens;
+    }
+
+pub open-spec : {M : Type 1} → statement M
+open-spec =
+    tie.close
+    (tie.spec
+    (λ c κs. search needs)  -- read-requires
+    open-answer-requires
+    (λ c. search needs)  -- enum-told
+    (λ c κs. search needs)  -- no-terms-requires
+    returns
+    (λ c κs. search needs)  -- window-days-requires
+    returns-2)

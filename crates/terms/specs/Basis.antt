@@ -1,0 +1,25 @@
+-- Demand 3: "one sheet, holiday list, price list and option". What a customer's year is decided on, as one argument: a definition that only
+-- hands it on does not look inside.
+use mathlib.Core.Bool.{Bool}
+use mathlib.Core.List.{List}
+use Prim.Native.Nat.{ℕ}
+use Rattle.sheet.specs.declared.Sheet.{Sheet}
+use Rattle.sheet.specs.Bytes.{sheetIn}
+use Rattle.tariff.specs.declared.Prices.{Prices}
+
+-- the sheet by its bytes, the listed days, the prices, the customer's option
+pub record Basis : Type 0 where
+  pub sheet : List ℕ
+  pub holidays : List ℕ
+  pub prices : Prices
+  pub option : Bool
+
+abbrev pub basis : List ℕ → List ℕ → Prices → Bool → Basis
+basis b hs p option = record { sheet = b; holidays = hs; prices = p; option = option }
+
+-- what the sheet says, and the year that it is for
+abbrev pub basisSheet : Basis → Sheet
+basisSheet k = sheetIn (k .sheet)
+
+abbrev pub basisYear : Basis → ℕ
+basisYear k = basisSheet k .year

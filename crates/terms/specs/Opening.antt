@@ -1,0 +1,66 @@
+-- Document 01, Numbered answers: "For the decision .. sheet length, mark, version (12), year (1), level (2), set bits (12), then 3, 6";
+-- "opening does the checks that need no readings". What an opening on the basis k answers, and the terms that it hands over.
+use mathlib.Core.Path.{_≡_}
+use mathlib.Core.Bool.{false, cond}
+use mathlib.Core.List.{List}
+use Prim.Native.Nat.{ℕ}
+use lib.ListN.{replicate}
+use Rattle.answers.specs.Said.{Said, only, after, orElse}
+use Rattle.dates.specs.Dates.{mostDays}
+use Rattle.holidays.specs.Holidays.{badHolidays}
+use Rattle.calendar.specs.Free.{windowDays}
+use Rattle.sheet.specs.Windows.{places}
+use Rattle.sheet.specs.Answers.{readAnswer}
+use Rattle.tariff.specs.declared.Row.{Row}
+use Rattle.tariff.specs.declared.Prices.{Prices}
+use Rattle.tariff.specs.Prices.{pricesOut}
+use Rattle.tariff.specs.Answers.{saidOf}
+use Rattle.terms.specs.declared.Terms.{Terms}
+use Rattle.terms.specs.declared.Opening.{Opening}
+use Rattle.terms.specs.Basis.{Basis, basisSheet, basisYear}
+
+-- the lists beside the sheet, for the year y: 3, then 6
+abbrev pub listsAnswer : ℕ → List ℕ → Prices → Said
+listsAnswer y hs p =
+    cond (badHolidays y hs) (only 3)
+    (cond (pricesOut p) (only 6)
+    (only 0))
+
+-- what needs no readings: what reading the sheet refuses, then what the lists are refused for
+unfoldable pub openAnswer : Basis → Said
+openAnswer k = orElse (readAnswer (k .sheet)) (listsAnswer (basisYear k) (k .holidays) (k .prices))
+
+-- what a year is judged under: the sheet's year, level and windows, the days that carry windows, prices and option
+abbrev pub termsOf : Basis → Terms
+termsOf k =
+    record {
+      year = basisYear k;
+      level = basisSheet k .level;
+      option = k .option;
+      prices = k .prices;
+      windows = basisSheet k .windows;
+      carrying = windowDays (basisYear k) (k .holidays);
+    }
+
+-- beside a refusal: year and level 0, no price, no window
+abbrev pub noRow : Row
+noRow = record { capacity = 0; energy = 0 }
+
+abbrev pub noTerms : Terms
+noTerms =
+    record {
+      year = 0;
+      level = 0;
+      option = false;
+      prices = record { low = noRow; high = noRow };
+      windows = replicate places false;
+      carrying = replicate mostDays false;
+    }
+
+unfoldable pub openTerms : Basis → Terms
+openTerms k = after (openAnswer k) (termsOf k) noTerms
+
+-- what is promised of opening: its answer, and the terms beside it
+pub record Opens (k : Basis) (r : Opening) : Type 0 where
+  pub said : saidOf (r .answer) ≡ openAnswer k
+  pub terms : r .terms ≡ openTerms k

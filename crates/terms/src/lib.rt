@@ -1,0 +1,112 @@
+// The terms of a customer's year: what it is judged under, and the opening that makes them of a sheet, a holiday list, prices and option.
+// Main theorem: each number of the opening is given exactly when its row holds (proofs/Exactly).
+ghost use mathlib.Core.Path.{_≡_};
+ghost use Rattle.answers.specs.Said.{orElse};
+ghost use Rattle.sheet.specs.Answers.{saidOfSheet};
+ghost use Rattle.tariff.specs.Answers.{saidOf};
+ghost use Rattle.terms.specs.Basis.{basis};
+ghost use Rattle.terms.specs.Opening.{listsAnswer, noTerms, Opens};
+use sheet::SheetAnswer;
+use tariff::Decision;
+use tariff::Prices;
+use tariff::Row;
+
+// What a year is judged under: the sheet's year, level and windows, the days that carry windows (day 1 first), prices and option.
+pub struct Terms {
+    pub year: u16,
+    pub level: u8,
+    pub option: bool,
+    pub prices: Prices,
+    pub windows: [bool; sheet::PLACES],
+    pub carrying: [bool; dates::MOST_DAYS],
+}
+
+// What opening answers, and the terms beside it.
+pub struct Opening {
+    pub answer: Decision,
+    pub terms: Terms,
+}
+
+// What reading the sheet answers, as the decision's: reading never answers 14.
+fn told(answer: SheetAnswer) -> Decision
+    requires { ⌜ (saidOfSheet answer .number ≡ 14 → ⊥) ⌝ }
+    ensures { λ r. ⌜ saidOf r ≡ saidOfSheet answer ⌝ }
+{
+    match answer {
+        SheetAnswer::Accepted => Decision::Taken,
+        SheetAnswer::Short => Decision::Malformed,
+        SheetAnswer::YearOut => Decision::YearOut,
+        SheetAnswer::LevelOut => Decision::LevelOut,
+        SheetAnswer::Malformed => Decision::Malformed,
+    }
+}
+
+// What needs no readings: what reading the sheet answered, then 3 and 6.
+fn open_answer(read: SheetAnswer, year: u16, holidays: &[u16], prices: Prices) -> Decision
+    requires { ⌜ (saidOfSheet read .number ≡ 14 → ⊥) ⌝ }
+    ensures { λ r. ⌜ saidOf r ≡ orElse (saidOfSheet read) (listsAnswer year (now (holidays .entry)) prices) ⌝ }
+{
+    let answer = told(read);
+    let Decision::Taken = answer else {
+        return answer;
+    };
+    if holidays::bad_holidays(year, holidays) {
+        return Decision::BadHolidays;
+    }
+    if charges::prices_out(prices) {
+        return Decision::PriceOut;
+    }
+    Decision::Taken
+}
+
+// The terms beside a refusal.
+fn no_terms() -> Terms
+    ensures { λ r. ⌜ r ≡ noTerms ⌝ }
+{
+    Terms {
+        year: 0,
+        level: 0,
+        option: false,
+        prices: Prices {
+            low: Row {
+                capacity: 0,
+                energy: 0,
+            },
+            high: Row {
+                capacity: 0,
+                energy: 0,
+            },
+        },
+        windows: [false; sheet::PLACES],
+        carrying: [false; dates::MOST_DAYS],
+    }
+}
+
+// Opens a customer's year. Refuses 12, 1, 2, 12, 3, 6 in this order; beside a refusal stand the same terms always.
+pub fn open(sheet: &[u8], holidays: &[u16], prices: Prices, option: bool) -> Opening
+    ensures { λ r. ⌜ Opens (basis (now (sheet .entry)) (now (holidays .entry)) prices option) r ⌝ }
+{
+    let read = sheet_read::read(sheet);
+    let said = read.answer;
+    let meaning = read.sheet;
+    let answer = open_answer(said, meaning.year, holidays, prices);
+    let Decision::Taken = answer else {
+        return Opening {
+            answer,
+            terms: no_terms(),
+        };
+    };
+    let windows = meaning.windows;
+    let carrying = calendar::window_days(meaning.year, holidays);
+    Opening {
+        answer,
+        terms: Terms {
+            year: meaning.year,
+            level: meaning.level,
+            option,
+            prices,
+            windows,
+            carrying,
+        },
+    }
+}
