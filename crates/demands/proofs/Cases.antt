@@ -7,7 +7,7 @@ use Rattle.dates.specs.Dates.{leap, leapDay, daysTo, weekdayOf}
 use Rattle.holidays.specs.Holidays.{listed}
 use Rattle.calendar.specs.Free.{christmas, free, candidate, bridge}
 use Rattle.readings.specs.Legal.{highestOf}
-use Rattle.sheet.specs.Windows.{flatOf}
+use Rattle.sheet.specs.Windows.{flatWindows}
 use Rattle.sheet.specs.Bytes.{windowByte, bytesOf, sheetBytes}
 use Rattle.windows.specs.Chosen.{aboveLine, comesBefore, rank, kept, keptOf, chosenOf, curveOf, curvesOf}
 use Rattle.windows.proofs.Equal.{first-forty}
@@ -19,9 +19,9 @@ use Rattle.demands.specs.Cases.{exampleCurves, exampleSheet, AllHold}
 
 -- case 12
 pub example-bytes : sheetBytes (sheetOf 2025 5 exampleCurves) ≡ exampleSheet
-unfolding joined largestOver sumOver countOver table inBase highestOf flatOf windowByte bytesOf aboveLine comesBefore rank kept keptOf chosenOf curveOf curvesOf sheetOf
+unfolding joined largestOver sumOver countOver table inBase highestOf flatWindows windowByte bytesOf aboveLine comesBefore rank kept keptOf chosenOf curveOf curvesOf sheetOf
 example-bytes = refl
 
 pub all-hold : AllHold
-unfolding joined largestOver sumOver countOver anyOver table inBase shareOf levelOut leap leapDay daysTo weekdayOf listed christmas free candidate bridge highestOf flatOf windowByte bytesOf aboveLine comesBefore rank kept keptOf chosenOf curveOf curvesOf sheetOf rowOut pricesOut chargeFor general reduced floorOf charge eligibleRules chargeRules judgeRules judgeAnswer
+unfolding joined largestOver sumOver countOver anyOver table inBase shareOf levelOut leap leapDay daysTo weekdayOf listed christmas free candidate bridge highestOf flatWindows windowByte bytesOf aboveLine comesBefore rank kept keptOf chosenOf curveOf curvesOf sheetOf rowOut pricesOut chargeFor general reduced floorOf charge eligibleRules chargeRules judgeRules judgeAnswer
 all-hold u = (refl, (refl, (refl, (refl, (refl, (refl, (refl, (refl, (refl, (refl, (refl, (refl, (refl, (refl, (refl, (refl, (first-forty (u .peak) (u .positive), (refl, (refl, (refl, (example-bytes, tt)))))))))))))))))))))

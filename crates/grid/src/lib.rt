@@ -8,6 +8,7 @@ ghost use Rattle.readings.specs.declared.Run.the-variants.{Period};
 ghost use Rattle.readings.specs.Legal.{highestOf};
 ghost use Rattle.readings.specs.Days.{nextAnswer};
 ghost use Rattle.sheet.specs.Answers.{saidOfSheet};
+ghost use Rattle.sheet.specs.Windows.{flatWindows};
 ghost use Rattle.grid.specs.Answers.{saidOfGrid, finishAnswer, finished, windowsAnswer, windowsBuffer, openAnswer, openGrid, shut, dayAnswer, dayGrid, dayCurves, closeAnswer, closeBuffer};
 use answers::Place;
 use readings::Run;
@@ -53,6 +54,17 @@ fn told(answer: SheetAnswer) -> GridAnswer
     }
 }
 
+// The chosen quarters of four seasons, one season after the other, as a sheet holds them.
+pub fn flat_windows(chosen: [[bool; 96]; 4]) -> [bool; sheet::PLACES]
+    ensures { λ r. ⌜ r ≡ flatWindows chosen ⌝ }
+{
+    let mut out = [false; sheet::PLACES];
+    for p in 0..sheet::PLACES {
+        out[p] = chosen[p / 96][p % 96];
+    }
+    out
+}
+
 // All days are in: 7 for a peak of zero, else the windows are chosen and their sheet is written.
 fn finish(year: u16, level: u8, curves: &[u32; 384], peak: u32, out: &mut [u8]) -> GridAnswer
     requires { ⌜ peak ≡ highestOf (now curves) ⌝ }
@@ -61,7 +73,7 @@ fn finish(year: u16, level: u8, curves: &[u32; 384], peak: u32, out: &mut [u8]) 
     if peak == 0 {
         return GridAnswer::NoPeak;
     }
-    let windows = quarters::flat(windows::chosen(peak, curves));
+    let windows = flat_windows(windows::chosen(peak, curves));
     told(sheet_write::write(
         Sheet {
             year,

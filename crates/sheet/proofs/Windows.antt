@@ -14,7 +14,7 @@ use Rattle.over.specs.Over.{joined, anyOver}
 use Rattle.over.proofs.Tests.{any-at, any-fails, all-passed}
 use Rattle.over.proofs.Tables.{length-table, getD-table}
 use Rattle.answers.specs.Ruling.{dayQuarters, windowsMost}
-use Rattle.sheet.specs.Windows.{seasons, places, placeOf, isSet, setIn, tooMany, tooFull, Roomy, flatOf}
+use Rattle.sheet.specs.Windows.{seasons, places, placeOf, isSet, setIn, tooMany, tooFull, Roomy, flatWindows}
 
 -- is a quarter inside the seasons and the day set
 pub set-at : (w : List Bool) (s q : ℕ) → Within 1 seasons s → q < dayQuarters → getD w (placeOf s q) false ≡ isSet w s q
@@ -48,12 +48,12 @@ unfolding tooFull
 full-season w k l t = any-at (λ j. tooMany (setIn w (j + 1))) seasons k l t
 
 -- the chosen quarters, laid flat
-pub length-flat : (chosen : List (List Bool)) → length (flatOf chosen) ≡ places
-unfolding flatOf
+pub length-flat : (chosen : List (List Bool)) → length (flatWindows chosen) ≡ places
+unfolding flatWindows
 length-flat chosen = length-table _ places
 
-pub flat-at : (chosen : List (List Bool)) (s q : ℕ) → Within 1 seasons s → q < dayQuarters → getD (flatOf chosen) (placeOf s q) false ≡ getD (getD chosen (s - 1) []) q false
-unfolding flatOf
+pub flat-at : (chosen : List (List Bool)) (s q : ℕ) → Within 1 seasons s → q < dayQuarters → getD (flatWindows chosen) (placeOf s q) false ≡ getD (getD chosen (s - 1) []) q false
+unfolding flatWindows
 flat-at chosen s q h l =
     let d : placeOf s q / dayQuarters ≡ s - 1 = omega arith in
     let m : placeOf s q % dayQuarters ≡ q = omega arith in

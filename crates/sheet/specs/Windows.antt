@@ -48,5 +48,5 @@ pub record Legal (s : Sheet) : Type 0 where
   pub room : Roomy (s .windows)
 
 -- the chosen quarters of four seasons, laid one after the other
-unfoldable pub flatOf : List (List Bool) → List Bool
-flatOf chosen = table (λ p. getD (getD chosen (p / dayQuarters) []) (p % dayQuarters) false) places
+unfoldable pub flatWindows : List (List Bool) → List Bool
+flatWindows chosen = table (λ p. getD (getD chosen (p / dayQuarters) []) (p % dayQuarters) false) places

@@ -55,17 +55,33 @@ fn add_line(buf: &mut [u8], at: usize, season: u8, from: usize, to: usize) -> us
     add_bytes(buf, d, b"\n")
 }
 
+// Is quarter `quarter` (from 0) of season `season` (from 1) set? False outside both.
+fn is_set(windows: &[bool; sheet::PLACES], season: u8, quarter: usize) -> bool
+    ensures { λ r. ⌜ r ≡ isSet (now (windows .entry)) season quarter ⌝ }
+{
+    if season < 1 {
+        return false;
+    }
+    if 4 < season {
+        return false;
+    }
+    if answers::DAY_QUARTERS <= quarter {
+        return false;
+    }
+    windows[answers::DAY_QUARTERS * (season as usize - 1) + quarter]
+}
+
 fn is_clear(windows: &[bool; sheet::PLACES], season: u8, q: usize) -> bool
     ensures { λ r. ⌜ r ≡ not (isSet (now (windows .entry)) season q) ⌝ }
 {
-    !quarters::is_set(windows, season, q)
+    !is_set(windows, season, q)
 }
 
 // Does a run begin at quarter q?
 fn begins(windows: &[bool; sheet::PLACES], season: u8, q: usize) -> bool
     ensures { λ r. ⌜ r ≡ beginsAt (isSet (now (windows .entry)) season) q ⌝ }
 {
-    let here = quarters::is_set(windows, season, q);
+    let here = is_set(windows, season, q);
     if q == 0 {
         return here;
     }
@@ -121,7 +137,7 @@ fn any_set(windows: &[bool; sheet::PLACES], season: u8) -> bool
 {
     let mut any = false;
     for q in 0..answers::DAY_QUARTERS {
-        any = any | quarters::is_set(windows, season, q);
+        any = any | is_set(windows, season, q);
     }
     any
 }

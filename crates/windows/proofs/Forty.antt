@@ -17,7 +17,7 @@ use Rattle.over.proofs.Tests.{count-mono, count-less, count-cong}
 use Rattle.over.proofs.Tables.{getD-table}
 use Rattle.over.proofs.Rank.{exact}
 use Rattle.answers.specs.Ruling.{windowsMost, dayQuarters}
-use Rattle.sheet.specs.Windows.{seasons, placeOf, setIn, Roomy, flatOf}
+use Rattle.sheet.specs.Windows.{seasons, placeOf, setIn, Roomy, flatWindows}
 use Rattle.sheet.proofs.Windows.{flat-at}
 use Rattle.windows.specs.Chosen.{aboveLine, aboveIn, comesBefore, rank, kept, keptOf, chosenOf}
 
@@ -116,14 +116,14 @@ module _ (curve : List ℕ) where
 
 -- the windows of any curves make a legal sheet
 module _ (peak : ℕ) (curves : List (List ℕ)) where
-  pub chosen-at : (s q : ℕ) → Within 1 seasons s → q < dayQuarters → getD (flatOf (chosenOf peak curves)) (placeOf s q) false ≡ kept peak (getD curves (s - 1) []) q
+  pub chosen-at : (s q : ℕ) → Within 1 seasons s → q < dayQuarters → getD (flatWindows (chosenOf peak curves)) (placeOf s q) false ≡ kept peak (getD curves (s - 1) []) q
   unfolding chosenOf keptOf
   chosen-at s q h l =
       flat-at (chosenOf peak curves) s q h l
       ∙ ap (λ (row : List Bool). getD row q false) (getD-table (λ k. keptOf peak (getD curves k [])) seasons (s - 1) [] (omega arith))
       ∙ getD-table (kept peak (getD curves (s - 1) [])) dayQuarters q false l
 
-  pub chosen-roomy : Roomy (flatOf (chosenOf peak curves))
+  pub chosen-roomy : Roomy (flatWindows (chosenOf peak curves))
   unfolding setIn
   chosen-roomy s h =
       let same = count-cong _ (kept peak (getD curves (s - 1) [])) dayQuarters (λ q l. chosen-at s q h l) in

@@ -1,4 +1,4 @@
--- `quarters::flat` meets its contract. The loop's invariant: the first p places are filled in.
+-- `grid::flat_windows` meets its contract. The loop's invariant: the first p places are filled in.
 -- Assumes nothing.
 use mathlib.Core.Path.{refl}
 use mathlib.Core.Bool.{false}
@@ -8,10 +8,10 @@ use native.Mathlib.Omega.{arith}
 use borrow.Author.Needs.{needs}
 use lib.ListN.{getD}
 use Rattle.answers.specs.Ruling.{dayQuarters}
-use Rattle.sheet.specs.Windows.{places, flatOf}
+use Rattle.sheet.specs.Windows.{places, flatWindows}
 use Rattle.over.proofs.Tables.{Filled, filled-none, filled-more, filled-all}
-use Rattle.quarters.proofs.flat.Statement.{statement}
-use Rattle.quarters.proofs.flat.Tie as tie
+use Rattle.grid.proofs.flat_windows.Statement.{statement}
+use Rattle.grid.proofs.flat_windows.Tie as tie
 
 abbrev Inv-loop : tie.InvT-loop
 Inv-loop chosen out₀ p₀ out p = Filled (λ (k : ℕ). getD (getD chosen (k / dayQuarters) []) (k % dayQuarters) false) places false p out
@@ -20,11 +20,11 @@ abbrev μ-loop : tie.MeasureT-loop
 μ-loop chosen out₀ p₀ out p = places - p
 
 returns : tie.Need-returns Inv-loop μ-loop
-unfolding flatOf
+unfolding flatWindows
 returns c = filled-all (c .before .loop .inv) (omega arith)
 
-pub flat-spec : {M : Type 1} → statement M
-flat-spec =
+pub flat-windows-spec : {M : Type 1} → statement M
+flat-windows-spec =
     tie.close
     (tie.spec
     Inv-loop

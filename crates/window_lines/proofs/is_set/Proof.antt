@@ -1,4 +1,4 @@
--- `quarters::is_set` meets its contract, a law for each return.
+-- `window_lines::is_set` meets its contract, a law for each return.
 -- Assumes nothing.
 use mathlib.Core.Path.{_≡_}
 use mathlib.Core.Bool.{Bool, false}
@@ -11,8 +11,8 @@ use Rattle.over.specs.Limits.{Within}
 use Rattle.answers.specs.Ruling.{dayQuarters}
 use Rattle.sheet.specs.Windows.{seasons, isSet}
 use Rattle.sheet.proofs.Windows.{set-at}
-use Rattle.quarters.proofs.is_set.Statement.{statement}
-use Rattle.quarters.proofs.is_set.Tie as tie
+use Rattle.window_lines.proofs.is_set.Statement.{statement}
+use Rattle.window_lines.proofs.is_set.Tie as tie
 
 -- outside the seasons and the day no quarter is set
 module _ (w : List Bool) (s q : ℕ) where
