@@ -5,13 +5,14 @@
 // Main theorem: driven over any bytes, the machine prints what the file's bytes are answered (room `printed`).
 ghost use mathlib.Core.Path.{_≡_};
 ghost use Prim.Native.Nat.{_≤_, _<_};
-ghost use Rattle.customer_head.specs.Header.{spanOf};
+ghost use Rattle.fields.specs.Layout.{fieldSpan};
+ghost use Rattle.customer_head.specs.Header.{customerLayout};
 ghost use Rattle.tariff.specs.Answers.{saidOf};
 ghost use Rattle.fields.specs.Stages.{dayStage};
 ghost use Rattle.fields.specs.Machine.{fieldFed, dayFed, endFed};
 ghost use Rattle.customer_file.specs.CustomerMachine.{openedWith, customerStart, customerEnded, customerReader, customerWants, customerFed};
 use customer::Customer;
-use customer_head::Span;
+use fields::Span;
 use fields::Stage;
 use readings::Run;
 use tariff::Decision;
@@ -81,7 +82,7 @@ impl CustomerFile {
         ensures { λ r. ⌜ (r ≡ customerWants self) × (r ≤ 400) ⌝ }
     {
         let stage = self.stage;
-        if field_steps::is_going(stage) {
+        if fields::is_going(stage) {
             let head = self.head;
             let size = customer_head::span_of(&head, self.field).width;
             if 0 < size {
@@ -90,7 +91,11 @@ impl CustomerFile {
             let year = self.customer.terms.year;
             let seen = self.customer.seen;
             if seen < dates::year_days(year) {
-                return field_steps::READING_BYTES * readings::day_len(Run::Year(year), seen);
+                return fields::READING_BYTES
+                    * readings::day_len(
+                        Run::Year(year),
+                        seen,
+                    );
             }
             return 1;
         }
@@ -99,7 +104,7 @@ impl CustomerFile {
 
     // Takes its next field, which stands there.
     fn take_field(self, span: Span, b: &[u8]) -> CustomerFile
-        requires { ⌜ (span ≡ spanOf (self .head) (self .field)) × (0 < span .width) ⌝ }
+        requires { ⌜ (span ≡ fieldSpan (customerLayout (self .head)) (self .field)) × (0 < span .width) ⌝ }
         ensures { λ r. ⌜ r ≡ fieldFed customerReader self (now (b .entry)) ⌝ }
     {
         if b.len() < span.width {
@@ -124,11 +129,14 @@ impl CustomerFile {
     fn take_day(self, b: &[u8]) -> CustomerFile
         ensures { λ r. ⌜ r ≡ dayFed customerReader self (now (b .entry)) ⌝ }
     {
-        let n = readings::day_len(Run::Year(self.customer.terms.year), self.customer.seen);
-        if b.len() < field_steps::READING_BYTES * n {
+        let n = readings::day_len(
+            Run::Year(self.customer.terms.year),
+            self.customer.seen,
+        );
+        if b.len() < fields::READING_BYTES * n {
             return self.ended(Stage::Refused(4));
         }
-        let readings = field_steps::readings_in(b);
+        let readings = fields::readings_in(b);
         let step = self.customer.day(&readings[..n]);
         let answer = step.answer;
         let head = self.head;
@@ -156,7 +164,7 @@ impl CustomerFile {
         ensures { λ r. ⌜ r ≡ customerFed self (now (b .entry)) ⌝ }
     {
         let stage = self.stage;
-        if field_steps::is_going(stage) {
+        if fields::is_going(stage) {
             let head = self.head;
             let span = customer_head::span_of(&head, self.field);
             if 0 < span.width {

@@ -15,10 +15,9 @@ use Rattle.tariff.specs.declared.Prices.{Prices}
 use Rattle.terms.specs.Basis.{Basis, basis}
 use Rattle.customer.specs.declared.Customer.{Customer}
 use Rattle.customer.specs.Answers.{openCustomer}
-use Rattle.fields.specs.Layout.{Field, Layout, layoutOf, startOf}
+use Rattle.fields.specs.Layout.{Field, Layout, layoutOf}
 use Rattle.fields.specs.File.{part}
 use Rattle.fields.specs.Common.{markField, versionField, yearField, levelField}
-use Rattle.customer_head.specs.declared.Span.{Span}
 
 -- "CUS"
 abbrev pub customerMark : List ℕ
@@ -117,10 +116,6 @@ customerFields b = firstFields b ++ (table (holidayField b) (holidayCount b) ++ 
 
 unfoldable pub customerLayout : List ℕ → Layout
 customerLayout b = layoutOf (customerFields b)
-
--- where field k stands; behind the last field it is no byte, at the header's end
-abbrev pub spanOf : List ℕ → ℕ → Span
-spanOf b k = record { start = startOf (customerLayout b) k; width = customerLayout b .width k }
 
 -- the basis that the header states, and the year that it opens
 abbrev pub basisIn : List ℕ → Basis

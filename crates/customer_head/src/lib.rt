@@ -8,9 +8,10 @@ ghost use lib.Dec.{eqb};
 ghost use lib.ListN.{take};
 ghost use Rattle.over.specs.Over.{counted};
 ghost use Rattle.holidays.specs.Holidays.{before};
-ghost use Rattle.fields.specs.Layout.{fieldAt};
-ghost use Rattle.customer_head.specs.Header.{holidayCount, holidaysOf, pricesOf, holidayOut, priceFields, customerLayout, spanOf, openedIn};
+ghost use Rattle.fields.specs.Layout.{fieldAt, fieldSpan};
+ghost use Rattle.customer_head.specs.Header.{holidayCount, holidaysOf, pricesOf, holidayOut, priceFields, customerLayout, openedIn};
 use customer::Customer;
+use fields::Span;
 use tariff::Prices;
 use tariff::Row;
 
@@ -54,12 +55,6 @@ const PRICES_SIZE: usize = 16;
 
 pub const HEAD_MOST: usize = 159;
 
-// Where a field starts, and how many bytes it takes.
-pub struct Span {
-    pub start: usize,
-    pub width: usize,
-}
-
 fn least(a: usize, b: usize) -> usize
     ensures { λ r. ⌜ r ≡ min a b ⌝ }
 {
@@ -78,7 +73,7 @@ fn count_of(head: &[u8]) -> usize
 
 // Where field k stands; behind the last field it is no byte, at the header's end.
 pub fn span_of(head: &[u8], k: usize) -> Span
-    ensures { λ r. ⌜ r ≡ spanOf (now (head .entry)) k ⌝ }
+    ensures { λ r. ⌜ r ≡ fieldSpan (customerLayout (now (head .entry))) k ⌝ }
 {
     if k < FIRST_FIELDS {
         return Span {
@@ -156,7 +151,7 @@ fn holiday_no(head: &[u8], j: usize) -> u8
 {
     let day = packed::two_at(head, HOLIDAYS_AT + HOLIDAY_BYTES * j);
     let last = holiday_before(head, j);
-    field_steps::number_if(holidays::unfit(packed::two_at(head, YEAR_AT), last, day), 3)
+    fields::number_if(holidays::unfit(packed::two_at(head, YEAR_AT), last, day), 3)
 }
 
 // Price j, at place i: in each row the capacity price, then the energy price. Behind the last price there is none.
@@ -168,9 +163,9 @@ fn price_no(head: &[u8], i: usize, j: usize) -> u8
     }
     let price = packed::four_at(head, i);
     if j % 2 == 0 {
-        return field_steps::number_if(answers::capacity_out(price), 6);
+        return fields::number_if(answers::capacity_out(price), 6);
     }
-    field_steps::number_if(answers::energy_out(price), 6)
+    fields::number_if(answers::energy_out(price), 6)
 }
 
 // The number that refuses field k; 0 where none does, and where there is no field.
@@ -178,7 +173,7 @@ pub fn refusal(head: &[u8], k: usize) -> u8
     ensures { λ r. ⌜ r ≡ customerLayout (now (head .entry)) .refusal k ⌝ }
 {
     if k < FIRST_FIELDS {
-        return field_steps::number_if(first_fails(head, k), NUMBERS[k]);
+        return fields::number_if(first_fails(head, k), NUMBERS[k]);
     }
     let n = count_of(head);
     if k < FIRST_FIELDS + n {

@@ -41,6 +41,30 @@ module _ (l : Layout) where
           rw e (omega arith)
       go (no m) ih = omega (arith, ih (omega arith), more)
 
+  -- behind the last of n fields that have bytes nothing is added
+  pub field-past : (n : ℕ) → ((k : ℕ) → n ≤ k → 0 ≡ l .width k) → (k : ℕ) → n ≤ k → startOf l n ≡ startOf l k
+  field-past n none zero h =
+      let e : n ≡ 0 = omega arith in
+      rw e
+  field-past n none (suc k) h = go (decLt k n) (field-past n none k)
+    where
+      more : startOf l (suc k) ≡ startOf l k + l .width k
+      more = rw add-one at (field-more k)
+
+      go : Dec (k < n) → (n ≤ k → startOf l n ≡ startOf l k) → startOf l n ≡ startOf l (suc k)
+      go (yes m) ih =
+          let e : n ≡ suc k = omega arith in
+          rw e
+      go (no m) ih = omega (arith, ih (omega arith), none k (omega arith), more)
+
+-- what a machine has of field k of a header: it takes at most `most` bytes, the header's `size` bytes have room for it, and it is a field
+-- exactly where it takes bytes
+pub record Fits (l : Layout) (most size k : ℕ) : Type 0 where
+  pub few : l .width k ≤ most
+  pub room : startOf l k + l .width k ≤ size
+  pub field : 0 < l .width k → k < l .count
+  pub none : l .width k ≡ 0 → l .count ≤ k
+
 -- fields of the same widths start at the same places
 pub field-cong : (l m : Layout) (k : ℕ) → ((j : ℕ) → j < k → l .width j ≡ m .width j) → startOf l k ≡ startOf m k
 unfolding startOf

@@ -7,6 +7,7 @@ use lib.Dec.{ltb, eqb}
 use lib.ListN.{length, getD}
 use Rattle.over.specs.Over.{sumOver, firstOver}
 use Rattle.answers.specs.Said.{Said, only}
+use Rattle.fields.specs.declared.Span.{Span}
 
 -- a field: the bytes that it takes, and the number that refuses it where it starts at a place, 0 where none does
 pub record Field : Type 0 where
@@ -40,6 +41,10 @@ layoutOf fs =
 -- a field starts where the ones before it end
 unfoldable pub startOf : Layout → ℕ → ℕ
 startOf l k = sumOver (l .width) k
+
+-- where field k stands; behind the last field it is no byte, at the header's end
+abbrev pub fieldSpan : Layout → ℕ → Span
+fieldSpan l k = record { start = startOf l k; width = l .width k }
 
 abbrev pub headSize : Layout → ℕ
 headSize l = startOf l (l .count)

@@ -1,6 +1,23 @@
-// A file that is read field by field and day by day, whatever its header: document 01, Two programs. What any file is answered by its bytes,
-// and that a machine which is handed them piece by piece computes it (proofs/Driven).
+// A file that is read field by field and day by day, whatever its header: document 01, Two programs. What any file is answered by its
+// bytes, that a machine which is handed them piece by piece computes it (proofs/Driven), and the small steps that such machines share.
+ghost use mathlib.Core.Path.{_≡_};
+ghost use Prim.Native.Nat.{ℕ, _*_};
+ghost use Rattle.over.specs.Over.{counted, table};
+ghost use Rattle.packed.specs.Bytes.{fourAt};
+ghost use Rattle.fields.specs.Series.{readingBytes, mostReadings};
+ghost use Rattle.fields.specs.Stages.{going};
 use answers::Place;
+
+// Readings that a day has at most, and the bytes of a reading.
+pub const DAY_MOST: usize = 100;
+
+pub const READING_BYTES: usize = 4;
+
+// Where a field of a header starts, and how many bytes it takes.
+pub struct Span {
+    pub start: usize,
+    pub width: usize,
+}
 
 // Where a machine stands: it goes on; it has ended with a number that carries nothing, or with 5; it has all days and no byte is left.
 pub enum Stage {
@@ -8,4 +25,33 @@ pub enum Stage {
     Refused(u8),
     BadReading(Place),
     Complete,
+}
+
+pub fn is_going(stage: Stage) -> bool
+    ensures { λ r. ⌜ r ≡ going stage ⌝ }
+{
+    match stage {
+        Stage::Going => true,
+        Stage::Refused(number) => false,
+        Stage::BadReading(place) => false,
+        Stage::Complete => false,
+    }
+}
+
+// The number that refuses a field which fails its test, and 0 for one that passes.
+pub fn number_if(fails: bool, number: u8) -> u8
+    ensures { λ r. ⌜ r ≡ counted fails number ⌝ }
+{
+    if fails { number } else { 0 }
+}
+
+// The readings in a day's bytes, 0 behind the last.
+pub fn readings_in(b: &[u8]) -> [u32; DAY_MOST]
+    ensures { λ r. ⌜ r ≡ table (λ (i : ℕ). fourAt (now (b .entry)) (readingBytes * i)) mostReadings ⌝ }
+{
+    let mut out = [0; DAY_MOST];
+    for i in 0..DAY_MOST {
+        out[i] = packed::four_at(b, READING_BYTES * i);
+    }
+    out
 }

@@ -1,66 +1,91 @@
--- Laws of the grid file's header: its fields' widths, where they start, and what refuses each.
+-- Laws of the grid file's header: its fields' widths, where they start, and what refuses each; behind the last field there is none.
 -- Assumes nothing.
-use mathlib.Core.Path.{_≡_, refl}
+use mathlib.Core.Path.{_≡_, refl, sym, ap, _∙_}
 use mathlib.Core.List.{List, [], _∷_}
 use Prim.Native.Nat.{ℕ, zero, suc, _+_, _≤_, _<_}
+use native.Mathlib.Decide.{decLt}
 use native.Mathlib.Omega.{arith}
-use lib.ListN.{getD}
-use Rattle.over.specs.Over.{joined, sumOver}
-use Rattle.fields.specs.Layout.{layoutOf, startOf}
-use Rattle.fields.proofs.Header.{field-more, field-rises}
+use borrow.Author.Tests.{eqb-true, leb-true}
+use lib.Dec.{leb, eqb}
+use lib.ListN.{getD, List·getD-eq-default}
+use Rattle.over.specs.Over.{joined, sumOver, allOver}
+use Rattle.over.proofs.Tests.{all-at}
+use Rattle.fields.specs.Layout.{Field, noField, fieldAt, widthAt, layoutOf, startOf}
 use Rattle.fields.specs.Common.{markField, versionField, yearField, levelField}
-use Rattle.grid_file.specs.Grid.{gridMark, gridLayout}
+use Rattle.fields.proofs.Header.{Fits, field-past}
+use Rattle.grid_file.specs.Grid.{gridFields, gridLayout}
+
+-- the widths of the fields, and the places where they start
+abbrev pub gridWidths : List ℕ
+gridWidths = 3 ∷ 2 ∷ 2 ∷ 1 ∷ []
+
+abbrev pub gridStarts : List ℕ
+gridStarts = 0 ∷ 3 ∷ 5 ∷ 7 ∷ []
+
+width-some : (k : ℕ) → k < 4 → 1 ≤ getD gridWidths k 0
+unfolding allOver joined
+width-some k l = leb-true _ _ (all-at (λ i. leb 1 (getD gridWidths i 0)) 4 refl k l)
+
+width-low : (k : ℕ) → k < 4 → getD gridWidths k 0 ≤ 3
+unfolding allOver joined
+width-low k l = leb-true _ _ (all-at (λ i. leb (getD gridWidths i 0) 3) 4 refl k l)
+
+start-low : (k : ℕ) → k < 4 → getD gridStarts k 0 + getD gridWidths k 0 ≤ 8
+unfolding allOver joined
+start-low k l = leb-true _ _ (all-at (λ i. leb (getD gridStarts i 0 + getD gridWidths i 0) 8) 4 refl k l)
 
 module _ (b : List ℕ) where
   pub grid-count : gridLayout b .count ≡ 4
   unfolding gridLayout layoutOf
   grid-count = refl
 
-  pub grid-width : (k : ℕ) → k < 4 → getD (3 ∷ 2 ∷ 2 ∷ 1 ∷ []) k 0 ≡ gridLayout b .width k
-  unfolding gridLayout layoutOf markField versionField yearField levelField
-  grid-width zero h = refl
-  grid-width (suc zero) h = refl
-  grid-width (suc (suc zero)) h = refl
-  grid-width (suc (suc (suc zero))) h = refl
-  grid-width (suc (suc (suc (suc k)))) h = absurd (omega arith)
+  pub grid-width : (k : ℕ) → k < 4 → getD gridWidths k 0 ≡ gridLayout b .width k
+  unfolding gridLayout layoutOf markField versionField yearField levelField allOver joined
+  grid-width k l = eqb-true _ _ (all-at (λ i. eqb (getD gridWidths i 0) (gridLayout b .width i)) 4 refl k l)
 
-  pub grid-start : (k : ℕ) → k < 4 → getD (0 ∷ 3 ∷ 5 ∷ 7 ∷ []) k 0 ≡ startOf (gridLayout b) k
-  unfolding gridLayout layoutOf markField versionField yearField levelField startOf sumOver joined
-  grid-start zero h = refl
-  grid-start (suc zero) h = refl
-  grid-start (suc (suc zero)) h = refl
-  grid-start (suc (suc (suc zero))) h = refl
-  grid-start (suc (suc (suc (suc k)))) h = absurd (omega arith)
+  pub grid-start : (k : ℕ) → k < 4 → getD gridStarts k 0 ≡ startOf (gridLayout b) k
+  unfolding gridLayout layoutOf markField versionField yearField levelField startOf sumOver allOver joined
+  grid-start k l = eqb-true _ _ (all-at (λ i. eqb (getD gridStarts i 0) (startOf (gridLayout b) i)) 4 refl k l)
 
   pub grid-size : startOf (gridLayout b) 4 ≡ 8
   unfolding gridLayout layoutOf markField versionField yearField levelField startOf sumOver joined
   grid-size = refl
 
-  -- what refuses each field
-  pub refuses-mark : markField gridMark b .refusal 0 ≡ gridLayout b .refusal 0
+  -- what refuses a field
+  pub grid-refusal : (k : ℕ) → k < 4 → fieldAt (gridFields b) k .refusal (getD gridStarts k 0) ≡ gridLayout b .refusal k
   unfolding gridLayout layoutOf markField versionField yearField levelField sumOver joined
-  refuses-mark = refl
+  grid-refusal zero l = refl
+  grid-refusal (suc zero) l = refl
+  grid-refusal (suc (suc zero)) l = refl
+  grid-refusal (suc (suc (suc zero))) l = refl
+  grid-refusal (suc (suc (suc (suc k)))) l = absurd (omega arith)
 
-  pub refuses-version : versionField b .refusal 3 ≡ gridLayout b .refusal 1
-  unfolding gridLayout layoutOf markField versionField yearField levelField sumOver joined
-  refuses-version = refl
+  -- behind the last field: no byte, at the header's end, and no number
+  module _ (k : ℕ) (m : 4 ≤ k) where
+    pub width-none : 0 ≡ gridLayout b .width k
+    unfolding gridLayout layoutOf
+    width-none = sym (ap (λ (f : Field). f .width) (List·getD-eq-default (gridFields b) noField {n = k} m))
 
-  pub refuses-year : yearField b .refusal 5 ≡ gridLayout b .refusal 2
-  unfolding gridLayout layoutOf markField versionField yearField levelField sumOver joined
-  refuses-year = refl
+    pub refusal-none : 0 ≡ gridLayout b .refusal k
+    unfolding gridLayout layoutOf
+    refusal-none =
+        sym (ap (λ (f : Field). f .refusal (sumOver (widthAt (gridFields b)) k)) (List·getD-eq-default (gridFields b) noField {n = k} m))
 
-  pub refuses-level : levelField b .refusal 7 ≡ gridLayout b .refusal 3
-  unfolding gridLayout layoutOf markField versionField yearField levelField sumOver joined
-  refuses-level = refl
+  pub start-none : (k : ℕ) → 4 ≤ k → 8 ≡ startOf (gridLayout b) k
+  start-none k m = sym grid-size ∙ field-past (gridLayout b) 4 width-none k m
 
-pub width-small : (k : ℕ) → getD (3 ∷ 2 ∷ 2 ∷ 1 ∷ []) k 0 ≤ 3
-width-small zero = omega arith
-width-small (suc zero) = omega arith
-width-small (suc (suc zero)) = omega arith
-width-small (suc (suc (suc zero))) = omega arith
-width-small (suc (suc (suc (suc k)))) = omega arith
+  pub grid-fits : (k : ℕ) → Fits (gridLayout b) 3 8 k
+  grid-fits k = go (decLt k 4)
+    where
+      known : {s w : ℕ} → s ≡ startOf (gridLayout b) k → w ≡ gridLayout b .width k → w ≤ 3 → s + w ≤ 8 → (0 < w → k < 4) → (w ≡ 0 → 4 ≤ k) → Fits (gridLayout b) 3 8 k
+      known s w few room field none =
+          let c = grid-count in
+          record { few = omega arith; room = omega arith; field = λ l. omega (arith, field (omega arith)); none = λ z. omega (arith, none (omega arith)) }
 
--- every field has room in the header's eight bytes
-pub grid-room : (b : List ℕ) (k : ℕ) → k < 4 → getD (0 ∷ 3 ∷ 5 ∷ 7 ∷ []) k 0 + gridLayout b .width k ≤ 8
-grid-room b k h =
-    omega (arith, grid-start b k h, field-more (gridLayout b) k, field-rises (gridLayout b) 4 (k + 1) (omega arith), grid-size b)
+      go : Dec (k < 4) → Fits (gridLayout b) 3 8 k
+      go (yes l) = known (grid-start k l) (grid-width k l) (width-low k l) (start-low k l) (λ z. l) (λ z. absurd (omega (arith, width-some k l)))
+      go (no m) = known (start-none k (omega arith)) (width-none k (omega arith)) (omega arith) (omega arith) (λ z. absurd (omega arith)) (λ z. omega arith)
+
+-- the number of field k, which is field i
+pub refusal-at : (b : List ℕ) (i : ℕ) {k : ℕ} → k ≡ i → i < 4 → fieldAt (gridFields b) i .refusal (getD gridStarts i 0) ≡ gridLayout b .refusal k
+refusal-at b i e l = grid-refusal b i l ∙ ap (gridLayout b .refusal) (sym e)

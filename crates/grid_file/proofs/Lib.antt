@@ -1,3 +1,2 @@
 pub mod GridLayout
-pub mod GridClosed
 pub mod GridDays

@@ -1,23 +1,18 @@
--- Document 01, Two programs: "The window program reads a grid file: "GRD", version 1, year, level (widths as in the sheet), then 32-bit readings." What
--- it prints, by the file's bytes b.
-use mathlib.Core.Bool.{cond}
+-- Document 01, Two programs: "The window program reads a grid file: "GRD", version 1, year, level (widths as in the sheet), then
+-- 32-bit readings." The header, and what the file is answered, by the file's bytes b.
 use mathlib.Core.List.{List, [], _∷_}
 use Prim.Native.Nat.{ℕ, _+_}
-use lib.Dec.{eqb}
 use lib.ListN.{getD, replicate}
 use Rattle.answers.specs.Ruling.{gridMost}
 use Rattle.answers.specs.Said.{Said, after}
-use Rattle.sheet.specs.declared.Sheet.{Sheet}
 use Rattle.packed.specs.Bytes.{twoAt, markSize}
 use Rattle.readings.specs.declared.Run.the-variants.{Period}
 use Rattle.sheet.specs.Bytes.{sheetSize}
-use Rattle.sheet.specs.Answers.{readSheet}
-use Rattle.grid.specs.Answers.{windowsAnswer, windowsBuffer}
+use Rattle.grid.specs.declared.Grid.{Grid}
+use Rattle.grid.specs.Answers.{openGrid, windowsAnswer, windowsBuffer}
 use Rattle.fields.specs.Layout.{Field, Layout, layoutOf, headSize}
 use Rattle.fields.specs.Series.{seriesIn}
 use Rattle.fields.specs.File.{fileAnswer}
-use Rattle.lines.specs.Figures.{figuresIn, refusedLine}
-use Rattle.window_lines.specs.Runs.{windowsText}
 use Rattle.fields.specs.Common.{markField, versionField, yearField, levelField}
 
 -- "GRD"
@@ -38,6 +33,10 @@ gridYear b = twoAt b (markSize + 2)
 abbrev pub gridLevel : List ℕ → ℕ
 gridLevel b = getD b (markSize + 2 + 2) 0
 
+-- the series that the header opens
+abbrev pub openedGrid : List ℕ → Grid
+openedGrid b = openGrid (gridYear b) (gridLevel b)
+
 -- 0 carries the sheet: what a call answers that lays one into a lent buffer, with the bytes there
 abbrev pub blankSheet : List ℕ
 blankSheet = replicate sheetSize 0
@@ -55,14 +54,3 @@ gridAnswer b =
     fileAnswer (gridLayout b) (Period (gridYear b)) gridMost
     (wholeGrid (gridYear b) (gridLevel b) (seriesIn b (headSize (gridLayout b))))
     b
-
--- the lines of an answer: the windows of the sheet that 0 carries, or the refusal
-abbrev pub sheetText : Sheet → List ℕ
-sheetText s = windowsText (s .year) (s .level) (s .windows)
-
-unfoldable pub windowLines : Said → List ℕ
-windowLines said = cond (eqb (said .number) 0) (sheetText (readSheet (said .carries))) (refusedLine (figuresIn said))
-
--- all that the window program prints
-abbrev pub windowsPrinted : List ℕ → List ℕ
-windowsPrinted b = windowLines (gridAnswer b)

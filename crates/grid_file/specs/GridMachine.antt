@@ -1,23 +1,23 @@
--- The machine that the window program drives, as a reader of a file (fields, Machine): what it holds, what it prints, and the names of its steps.
-use mathlib.Core.List.{List, [], _∷_}
+-- The machine that the window program drives, as a reader of a file (fields, Machine): what it holds, the names of its steps, and what
+-- closing it answers.
+use mathlib.Core.List.{List}
 use Prim.Native.Nat.{ℕ, _+_}
 use lib.ListN.{replicate}
-use Rattle.answers.specs.Said.{Said, badPlace}
+use Rattle.answers.specs.Said.{Said}
 use Rattle.periods.specs.Period.{periodDays}
 use Rattle.readings.specs.declared.Run.the-variants.{Period}
 use Rattle.sheet.specs.Bytes.{sheetSize}
 use Rattle.grid.specs.declared.Grid.{Grid}
-use Rattle.grid.specs.Answers.{openGrid, dayAnswer, dayGrid, closeAnswer, closeBuffer}
+use Rattle.grid.specs.Answers.{dayAnswer, dayGrid, closeAnswer, closeBuffer}
 use Rattle.fields.specs.declared.Stage.{Stage}
-use Rattle.fields.specs.declared.Stage.the-variants.{Going, Refused, BadReading, Complete}
+use Rattle.fields.specs.declared.Stage.the-variants.{Going}
 use Rattle.fields.specs.Machine.{Reader, wants, fed}
-use Rattle.lines.specs.Figures.{figuresIn, refusedLine}
 use Rattle.grid_file.specs.declared.GridFile.{GridFile}
-use Rattle.grid_file.specs.Grid.{gridLayout, gridYear, gridLevel, blankSheet, withSheet, windowLines}
+use Rattle.grid_file.specs.Grid.{gridLayout, openedGrid, blankSheet, withSheet}
 
 -- the header that holds these bytes, after k fields
 abbrev pub gridHead : ℕ → List ℕ → GridFile
-gridHead k head = record { field = k; head = head; grid = openGrid (gridYear head) (gridLevel head); stage = Going }
+gridHead k head = record { field = k; head = head; grid = openedGrid head; stage = Going }
 
 abbrev pub gridStart : GridFile
 gridStart = gridHead 0 (replicate 8 0)
@@ -51,13 +51,3 @@ gridFed s b = fed gridReader s b
 -- closing: 0 carries the sheet
 abbrev pub closedGrid : Grid → Said
 closedGrid g = withSheet (closeAnswer g sheetSize) (closeBuffer g blankSheet)
-
--- what it prints: the windows' lines can only come of closing
-abbrev pub stageText : Stage → Grid → List ℕ
-stageText Going g = refusedLine (13 ∷ [])
-stageText (Refused n) g = refusedLine (n ∷ [])
-stageText (BadReading place) g = refusedLine (figuresIn (badPlace place))
-stageText Complete g = windowLines (closedGrid g)
-
-abbrev pub gridText : GridFile → List ℕ
-gridText s = stageText (s .stage) (s .grid)

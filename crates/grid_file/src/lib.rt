@@ -1,27 +1,30 @@
-// The grid file: "GRD", version 1, year, level, then the readings of the reference period. Document 01, Two programs. A machine that the window
-// program drives: `want` says how many bytes come next, and `feed` takes them, fewer where the file has ended. Each field and each day is
-// tested as soon as it is fed. What the program prints then stands in the room above.
+// The grid file: "GRD", version 1, year, level, then the readings of the reference period. Document 01, Two programs.
+// Its header is asked by three calls, for any bytes: behind the last byte there is 0, and behind the last field there is none.
+// A machine that the window program drives: `want` says how many bytes come next, and `feed` takes them, fewer where the file has ended.
+// Each field and each day is tested as soon as it is fed. What the program prints then stands in the room above.
 // Main theorem: driven over any bytes, the machine prints what the file's bytes are answered (room `printed`).
 ghost use mathlib.Core.Path.{_≡_};
-ghost use Prim.Native.Nat.{_+_, _≤_, _<_};
-ghost use lib.ListN.{length};
-ghost use Rattle.fields.specs.Layout.{startOf};
+ghost use Prim.Native.Nat.{_≤_, _<_};
+ghost use Rattle.fields.specs.Layout.{fieldSpan};
 ghost use Rattle.grid.specs.Answers.{saidOfGrid};
-ghost use Rattle.grid_file.specs.Grid.{gridLayout};
+ghost use Rattle.grid_file.specs.Grid.{gridLayout, openedGrid};
 ghost use Rattle.fields.specs.Stages.{dayStage};
 ghost use Rattle.fields.specs.Machine.{fieldFed, dayFed, endFed};
 ghost use Rattle.grid_file.specs.GridMachine.{gridStart, gridEnded, gridReader, gridWants, gridFed};
+use fields::Span;
 use fields::Stage;
 use grid::Grid;
 use grid::GridAnswer;
 use readings::Run;
 
-// Fields of the header, and their bytes.
+// Fields of the header, counted from 0: where they start, and how wide they are. The header's bytes.
 const FIELDS: usize = 4;
 
-const HEAD_SIZE: usize = 8;
+const STARTS: [usize; FIELDS] = [0, 3, 5, 7];
 
 const WIDTHS: [usize; FIELDS] = [3, 2, 2, 1];
+
+const HEAD_SIZE: usize = 8;
 
 // Where version, year and level stand.
 const VERSION_AT: usize = 3;
@@ -38,44 +41,50 @@ pub struct GridFile {
     pub stage: Stage,
 }
 
-fn width(head: &[u8], k: usize) -> usize
-    requires { ⌜ k < 4 ⌝ }
-    ensures { λ r. ⌜ (r ≡ gridLayout (now (head .entry)) .width k) × (r ≤ 3) ⌝ }
+// Where field k stands; behind the last field it is no byte, at the header's end.
+pub fn span_of(head: &[u8], k: usize) -> Span
+    ensures { λ r. ⌜ r ≡ fieldSpan (gridLayout (now (head .entry))) k ⌝ }
 {
-    WIDTHS[k]
+    if k < FIELDS {
+        return Span {
+            start: STARTS[k],
+            width: WIDTHS[k],
+        };
+    }
+    Span {
+        start: HEAD_SIZE,
+        width: 0,
+    }
 }
 
-fn start_of(head: &[u8], k: usize) -> usize
-    requires { ⌜ k < 4 ⌝ }
-    ensures { λ r. ⌜ (r ≡ startOf (gridLayout (now (head .entry))) k) × (r + gridLayout (now (head .entry)) .width k ≤ 8) ⌝ }
-{
-    if k < 1 {
-        return 0;
-    }
-    if k < 2 {
-        return VERSION_AT;
-    }
-    if k < 3 {
-        return YEAR_AT;
-    }
-    LEVEL_AT
-}
-
-// The number that refuses field k, 0 where none does.
-fn refusal(head: &[u8], k: usize) -> u8
-    requires { ⌜ (k < 4) × (length (now head) ≡ 8) ⌝ }
+// The number that refuses field k; 0 where none does, and where there is no field.
+pub fn refusal(head: &[u8], k: usize) -> u8
     ensures { λ r. ⌜ r ≡ gridLayout (now (head .entry)) .refusal k ⌝ }
 {
     if k < 1 {
-        return field_steps::number_if(packed::unlike(head, 0, b"GRD"), 12);
+        return fields::number_if(packed::unlike(head, 0, b"GRD"), 12);
     }
     if k < 2 {
-        return field_steps::number_if(packed::two_at(head, VERSION_AT) != packed::VERSION, 12);
+        return fields::number_if(packed::two_at(head, VERSION_AT) != packed::VERSION, 12);
     }
     if k < 3 {
-        return field_steps::number_if(answers::year_out(packed::two_at(head, YEAR_AT)), 1);
+        return fields::number_if(answers::year_out(packed::two_at(head, YEAR_AT)), 1);
     }
-    field_steps::number_if(answers::level_out(head[LEVEL_AT]), 2)
+    if k < 4 {
+        return fields::number_if(answers::level_out(packed::byte_at(head, LEVEL_AT, 0)), 2);
+    }
+    0
+}
+
+// The series that the header opens.
+pub fn opened(head: &[u8]) -> Grid
+    ensures { λ r. ⌜ r ≡ openedGrid (now (head .entry)) ⌝ }
+{
+    let step = Grid::open(
+        packed::two_at(head, YEAR_AT),
+        packed::byte_at(head, LEVEL_AT, 0),
+    );
+    step.grid
 }
 
 // Where a machine stands after a day.
@@ -93,16 +102,15 @@ fn stage_of(answer: GridAnswer) -> Stage
 }
 
 impl GridFile {
-    // Before the first byte.
+    // Before the first byte: a blank header opens no series.
     pub fn start() -> GridFile
         ensures { λ r. ⌜ r ≡ gridStart ⌝ }
     {
-        let step = Grid::open(0, 0);
-        let grid = step.grid;
+        let head = [0; HEAD_SIZE];
         GridFile {
             field: 0,
-            head: [0; HEAD_SIZE],
-            grid,
+            head,
+            grid: opened(&head),
             stage: Stage::Going,
         }
     }
@@ -125,44 +133,42 @@ impl GridFile {
         ensures { λ r. ⌜ (r ≡ gridWants self) × (r ≤ 400) ⌝ }
     {
         let stage = self.stage;
-        if field_steps::is_going(stage) {
-            let k = self.field;
-            if k < FIELDS {
-                let head = self.head;
-                return width(&head, k);
+        if fields::is_going(stage) {
+            let head = self.head;
+            let size = span_of(&head, self.field).width;
+            if 0 < size {
+                return size;
             }
             let year = self.grid.year;
             let seen = self.grid.seen;
             if seen < periods::period_days(year) {
-                return field_steps::READING_BYTES * readings::day_len(Run::Period(year), seen);
+                return fields::READING_BYTES
+                    * readings::day_len(Run::Period(year), seen);
             }
             return 1;
         }
         0
     }
 
-    fn take_field(self, b: &[u8]) -> GridFile
-        requires { ⌜ self .field < 4 ⌝ }
+    // Takes its next field, which stands there.
+    fn take_field(self, span: Span, b: &[u8]) -> GridFile
+        requires { ⌜ (span ≡ fieldSpan (gridLayout (self .head)) (self .field)) × (0 < span .width) ⌝ }
         ensures { λ r. ⌜ r ≡ fieldFed gridReader self (now (b .entry)) ⌝ }
     {
-        let k = self.field;
-        let mut head = self.head;
-        let size = width(&head, k);
-        if b.len() < size {
+        if b.len() < span.width {
             return self.ended(Stage::Refused(12));
         }
-        let at = start_of(&head, k);
-        packed::lay(&mut head, at, &b[..size]);
+        let k = self.field;
+        let mut head = self.head;
+        packed::lay(&mut head, span.start, &b[..span.width]);
         let number = refusal(&head, k);
         if number != 0 {
             return self.ended(Stage::Refused(number));
         }
-        let step = Grid::open(packed::two_at(&head, YEAR_AT), head[LEVEL_AT]);
-        let grid = step.grid;
         GridFile {
             field: k + 1,
             head,
-            grid,
+            grid: opened(&head),
             stage: Stage::Going,
         }
     }
@@ -171,11 +177,14 @@ impl GridFile {
     fn take_day(self, b: &[u8]) -> GridFile
         ensures { λ r. ⌜ r ≡ dayFed gridReader self (now (b .entry)) ⌝ }
     {
-        let n = readings::day_len(Run::Period(self.grid.year), self.grid.seen);
-        if b.len() < field_steps::READING_BYTES * n {
+        let n = readings::day_len(
+            Run::Period(self.grid.year),
+            self.grid.seen,
+        );
+        if b.len() < fields::READING_BYTES * n {
             return self.ended(Stage::Refused(4));
         }
-        let readings = field_steps::readings_in(b);
+        let readings = fields::readings_in(b);
         let step = self.grid.day(&readings[..n]);
         let answer = step.answer;
         let head = self.head;
@@ -203,9 +212,11 @@ impl GridFile {
         ensures { λ r. ⌜ r ≡ gridFed self (now (b .entry)) ⌝ }
     {
         let stage = self.stage;
-        if field_steps::is_going(stage) {
-            if self.field < FIELDS {
-                return self.take_field(b);
+        if fields::is_going(stage) {
+            let head = self.head;
+            let span = span_of(&head, self.field);
+            if 0 < span.width {
+                return self.take_field(span, b);
             }
             if self.grid.seen < periods::period_days(self.grid.year) {
                 return self.take_day(b);

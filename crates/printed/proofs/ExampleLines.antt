@@ -26,8 +26,9 @@ use Rattle.fields.specs.File.{driven}
 use Rattle.lines.specs.Text.{textOver}
 use Rattle.lines.specs.Figures.{decimalOf, fieldOf, figuresLine}
 use Rattle.window_lines.specs.Runs.{headLine, timeOf, runLine, runText, seasonText, windowsText}
-use Rattle.grid_file.specs.Grid.{gridLayout, gridYear, gridLevel, blankSheet, wholeGrid, gridAnswer, windowLines, windowsPrinted}
-use Rattle.grid_file.specs.GridMachine.{gridStart, gridWants, gridFed, gridText}
+use Rattle.grid_file.specs.Grid.{gridLayout, gridYear, gridLevel, blankSheet, wholeGrid, gridAnswer}
+use Rattle.grid_file.specs.GridMachine.{gridStart, gridWants, gridFed}
+use Rattle.grid_text.specs.Text.{windowLines, windowsPrinted, gridText}
 use Rattle.grid_file.proofs.GridLayout.{grid-count, grid-size}
 use Rattle.demands.specs.Cases.{exampleSheet}
 use Rattle.printed.specs.Examples.{isAt, gridRun, otherDay, gridReading, gridSeries, seriesBytes, gridHeader, gridBytes, exampleWindows, Prints}

@@ -1,4 +1,4 @@
--- The window program: its machine, driven over any bytes, prints what the file's bytes are answered (grid_file, specs/Grid).
+-- The window program: its machine, driven over any bytes, prints what the file's bytes are answered (grid_text, specs/Text).
 -- Assumes nothing.
 use mathlib.Core.Path.{_≡_, refl, sym, ap, _∙_}
 use mathlib.Core.Bool.{false}
@@ -40,12 +40,13 @@ use Rattle.fields.proofs.Fed.{heldIn, LooksBack, FeedsField, feeds-field, heldA
 use Rattle.lines.specs.Figures.{refusedLine}
 use Rattle.fields.specs.declared.Stage.the-variants.{Going, Refused, Complete}
 use Rattle.grid_file.specs.declared.GridFile.{GridFile}
-use Rattle.grid_file.specs.Grid.{gridMark, gridLayout, gridYear, gridLevel, blankSheet, withSheet, wholeGrid, gridAnswer, windowLines}
+use Rattle.grid_file.specs.Grid.{gridMark, gridLayout, gridYear, gridLevel, blankSheet, withSheet, wholeGrid, gridAnswer}
 use Rattle.fields.specs.Stages.{stageOf}
-use Rattle.grid_file.specs.GridMachine.{gridHead, gridEnded, gridReader, gridWants, gridFed, closedGrid, gridText}
+use Rattle.grid_file.specs.GridMachine.{gridHead, gridEnded, gridReader, gridWants, gridFed, closedGrid}
+use Rattle.grid_text.specs.Text.{windowLines, gridText}
 use Rattle.packed.proofs.Bytes.{two-same}
 use Rattle.fields.proofs.Common.{mark-own, version-own, year-own, level-own, year-no, level-no, unrefused}
-use Rattle.grid_file.proofs.GridLayout.{grid-count, grid-width, grid-start, grid-size, refuses-mark, refuses-version, refuses-year, refuses-level}
+use Rattle.grid_file.proofs.GridLayout.{grid-count, grid-width, grid-start, grid-size, grid-refusal}
 use Rattle.fields.proofs.Machine.{wants-field, wants-day, wants-end, fed-none, fed-field, fed-day, fed-end, field-cut, field-refused, field-taken, day-cut, day-refused, day-taken, end-left, end-done}
 use Rattle.printed.specs.Printed.{WindowsPrinted}
 
@@ -60,13 +61,13 @@ looks-back bytes =
   where
     numbers : (b : List ℕ) (k : ℕ) → k < 4 → Same (startOf (gridLayout bytes) (k + 1)) b bytes → gridLayout b .refusal k ≡ gridLayout bytes .refusal k
     numbers b zero h e =
-        sym (refuses-mark b) ∙ mark-own gridMark b bytes 0 (λ i l. e (0 + i) (omega (arith, grid-start bytes 1 (omega arith)))) ∙ refuses-mark bytes
+        sym (grid-refusal b 0 (omega arith)) ∙ mark-own gridMark b bytes 0 (λ i l. e (0 + i) (omega (arith, grid-start bytes 1 (omega arith)))) ∙ grid-refusal bytes 0 (omega arith)
     numbers b (suc zero) h e =
-        sym (refuses-version b) ∙ version-own b bytes 3 (λ i l. e (3 + i) (omega (arith, grid-start bytes 2 (omega arith)))) ∙ refuses-version bytes
+        sym (grid-refusal b 1 (omega arith)) ∙ version-own b bytes 3 (λ i l. e (3 + i) (omega (arith, grid-start bytes 2 (omega arith)))) ∙ grid-refusal bytes 1 (omega arith)
     numbers b (suc (suc zero)) h e =
-        sym (refuses-year b) ∙ year-own b bytes 5 (λ i l. e (5 + i) (omega (arith, grid-start bytes 3 (omega arith)))) ∙ refuses-year bytes
+        sym (grid-refusal b 2 (omega arith)) ∙ year-own b bytes 5 (λ i l. e (5 + i) (omega (arith, grid-start bytes 3 (omega arith)))) ∙ grid-refusal bytes 2 (omega arith)
     numbers b (suc (suc (suc zero))) h e =
-        sym (refuses-level b) ∙ level-own b bytes 7 (λ i l. e (7 + i) (omega (arith, grid-size bytes))) ∙ refuses-level bytes
+        sym (grid-refusal b 3 (omega arith)) ∙ level-own b bytes 7 (λ i l. e (7 + i) (omega (arith, grid-size bytes))) ∙ grid-refusal bytes 3 (omega arith)
     numbers b (suc (suc (suc (suc k)))) h e = absurd (omega arith)
 
 -- a machine that has ended with a number, and its line
@@ -126,10 +127,10 @@ module _ (bytes : List ℕ) where
 
   -- the number of year and level, by the test that the opening makes
   pub year-tested : counted (yearOut y) 1 ≡ l .refusal 2
-  year-tested = year-no bytes 5 refl refl ∙ refuses-year bytes
+  year-tested = year-no bytes 5 refl refl ∙ grid-refusal bytes 2 (omega arith)
 
   pub level-tested : counted (levelOut level) 2 ≡ l .refusal 3
-  level-tested = level-no bytes 7 refl ∙ refuses-level bytes
+  level-tested = level-no bytes 7 refl ∙ grid-refusal bytes 3 (omega arith)
 
   pub year-legal : l .refusal 2 ≡ 0 → yearOut y ≡ false
   year-legal e = unrefused (yearOut y) 0 (year-tested ∙ e)

@@ -19,8 +19,9 @@ use Rattle.terms.specs.Basis.{Basis, basis}
 use Rattle.customer.specs.Answers.{decideAnswer}
 use Rattle.fields.specs.Series.{readingBytes}
 use Rattle.fields.specs.File.{driven}
-use Rattle.grid_file.specs.Grid.{gridMark, windowsPrinted}
-use Rattle.grid_file.specs.GridMachine.{gridStart, gridWants, gridFed, gridText}
+use Rattle.grid_file.specs.Grid.{gridMark}
+use Rattle.grid_file.specs.GridMachine.{gridStart, gridWants, gridFed}
+use Rattle.grid_text.specs.Text.{windowsPrinted, gridText}
 use Rattle.customer_head.specs.Header.{customerMark}
 use Rattle.customer_file.specs.CustomerMachine.{customerStart, customerWants, customerFed}
 use Rattle.customer_text.specs.Text.{statementPrinted, customerText}

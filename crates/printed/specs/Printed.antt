@@ -5,8 +5,8 @@ use mathlib.Core.Path.{_≡_}
 use mathlib.Core.List.{List}
 use Prim.Native.Nat.{ℕ, _+_, _≤_}
 use Rattle.fields.specs.File.{driven}
-use Rattle.grid_file.specs.Grid.{windowsPrinted}
-use Rattle.grid_file.specs.GridMachine.{gridStart, gridWants, gridFed, gridText}
+use Rattle.grid_file.specs.GridMachine.{gridStart, gridWants, gridFed}
+use Rattle.grid_text.specs.Text.{windowsPrinted, gridText}
 use Rattle.customer_file.specs.CustomerMachine.{customerStart, customerWants, customerFed}
 use Rattle.customer_text.specs.Text.{statementPrinted, customerText}
 

@@ -4,7 +4,7 @@ use mathlib.Core.Path.{ap}
 use native.Mathlib.Omega.{arith}
 use borrow.Author.Tests.{lt-ltb, le-ltb}
 use borrow.Author.Needs.{needs}
-use Rattle.customer_head.specs.declared.Span.{Span}
+use Rattle.fields.specs.declared.Span.{Span}
 use Rattle.customer_head.specs.Header.{customerLayout}
 use Rattle.customer_file.specs.CustomerMachine.{openedWith}
 use Rattle.customer_head.proofs.CustomerLayout.{fits}

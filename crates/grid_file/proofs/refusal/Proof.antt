@@ -1,25 +1,32 @@
 -- `grid_file::refusal` meets its contract, a field for each return.
 -- Assumes nothing.
-use mathlib.Core.Path.{_≡_, _∙_}
+use mathlib.Core.Path.{ap, _∙_}
 use native.Mathlib.Omega.{arith}
 use borrow.Author.Needs.{needs}
+use Rattle.answers.specs.Ruling.{levelOut}
 use Rattle.grid_file.specs.Grid.{gridMark}
 use Rattle.fields.proofs.Common.{mark-no, version-no, year-no, level-no}
-use Rattle.grid_file.proofs.GridLayout.{refuses-mark, refuses-version, refuses-year, refuses-level}
+use Rattle.grid_file.proofs.GridLayout.{refusal-at, refusal-none}
 use Rattle.grid_file.proofs.refusal.Statement.{statement}
 use Rattle.grid_file.proofs.refusal.Tie as tie
 
 returns : tie.Need-returns
-returns c = let a = c .before .before .before .before .before .args in let e : a .k ≡ 0 = omega arith in rw e (c .number-if .ensures ∙ mark-no (a .head .now) 0 gridMark (c .before .unlike .ensures) ∙ refuses-mark (a .head .now))
+returns c = c .number-if .ensures ∙ mark-no _ 0 gridMark (c .before .unlike .ensures) ∙ refusal-at _ 0 (omega arith) (omega arith)
 
 returns-2 : tie.Need-returns-2
-returns-2 c = let a = c .before .before .before .before .before .args in let e : a .k ≡ 1 = omega arith in rw e (c .number-if2 .ensures ∙ version-no (a .head .now) 3 (c .before .two-at .ensures) ∙ refuses-version (a .head .now))
+returns-2 c = c .number-if2 .ensures ∙ version-no _ 3 (c .before .two-at .ensures) ∙ refusal-at _ 1 (omega arith) (omega arith)
 
 returns-3 : tie.Need-returns-3
-returns-3 c = let a = c .before .before .before .before .before .before .before .args in let e : a .k ≡ 2 = omega arith in rw e (c .number-if3 .ensures ∙ year-no (a .head .now) 5 (c .before .before .two-at2 .ensures) (c .before .year-out .ensures) ∙ refuses-year (a .head .now))
+returns-3 c =
+    c .number-if3 .ensures
+    ∙ year-no _ 5 (c .before .before .two-at2 .ensures) (c .before .year-out .ensures)
+    ∙ refusal-at _ 2 (omega arith) (omega arith)
 
 returns-4 : tie.Need-returns-4
-returns-4 c = let a = c .before .before .before .before .before .before .before .args in let e : a .k ≡ 3 = omega arith in rw e (c .number-if4 .ensures ∙ level-no (a .head .now) 7 (c .before .level-out .ensures) ∙ refuses-level (a .head .now))
+returns-4 c =
+    c .number-if4 .ensures
+    ∙ level-no _ 7 (c .before .level-out .ensures ∙ ap levelOut (c .before .before .byte-at .ensures))
+    ∙ refusal-at _ 3 (omega arith) (omega arith)
 
 pub refusal-spec : {M : Type 1} → statement M
 refusal-spec =
@@ -35,7 +42,8 @@ refusal-spec =
     (λ c κs. search needs)  -- year-out-requires
     (λ c κs. search needs)  -- number-if-requires-3
     returns-3
-    (λ c. search needs)  -- shared-slice-read-level-out
+    (λ c κs. search needs)  -- byte-at-requires
     (λ c κs. search needs)  -- level-out-requires
     (λ c κs. search needs)  -- number-if-requires-4
-    returns-4)
+    returns-4
+    (λ c. refusal-none _ _ (omega arith)))

@@ -12,7 +12,7 @@ use Rattle.flat.specs.declared.Flat.{Flat}
 use Rattle.fields.specs.Stages.{stageOf, dayStage}
 use Rattle.fields.specs.declared.Stage.the-variants.{Refused}
 use Rattle.grid_flat.proofs.Small.{answer-small}
-use Rattle.grid_file.proofs.GridClosed.{not-five}
+use Rattle.grid_file.proofs.GridDays.{not-five}
 use types.Run.{miss}
 use Rattle.grid_file.proofs.stage_of.Statement.{statement}
 use Rattle.grid_file.proofs.stage_of.Tie as tie

@@ -5,7 +5,7 @@ use borrow.Author.Needs.{needs}
 use Rattle.sheet.specs.Answers.{SheetRead, readSheet}
 use Rattle.answers.specs.Said.{Said}
 use Rattle.flat.specs.declared.Flat.{Flat}
-use Rattle.grid_file.proofs.GridClosed.{closed-refused, closed-done}
+use Rattle.grid_text.proofs.Closing.{closed-refused, closed-done}
 use Rattle.grid_text.proofs.closed.Statement.{statement}
 use Rattle.grid_text.proofs.closed.Tie as tie
 

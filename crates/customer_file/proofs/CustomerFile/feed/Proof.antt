@@ -3,7 +3,7 @@
 use mathlib.Core.Path.{sym, ap, _∙_}
 use native.Mathlib.Omega.{arith}
 use borrow.Author.Needs.{needs}
-use Rattle.customer_head.specs.declared.Span.{Span}
+use Rattle.fields.specs.declared.Span.{Span}
 use Rattle.customer_file.specs.CustomerMachine.{customerReader}
 use Rattle.customer_head.proofs.CustomerLayout.{fits}
 use Rattle.fields.proofs.Machine.{fed-field, fed-day, fed-end, fed-none}

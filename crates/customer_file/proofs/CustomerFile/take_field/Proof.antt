@@ -6,7 +6,7 @@ use native.Mathlib.Omega.{arith}
 use borrow.Author.Needs.{needs}
 use lib.ListN.{length}
 use lib.Seq.{length-take-le}
-use Rattle.customer_head.specs.declared.Span.{Span}
+use Rattle.fields.specs.declared.Span.{Span}
 use Rattle.customer_head.specs.Header.{customerLayout}
 use Rattle.fields.specs.declared.Stage.the-variants.{Going}
 use Rattle.fields.specs.Machine.{headWith}

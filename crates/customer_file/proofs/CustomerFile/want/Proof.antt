@@ -4,7 +4,7 @@ use mathlib.Core.Path.{sym, ap, _∙_}
 use Prim.Native.Nat.{ℕ, _*_}
 use native.Mathlib.Omega.{arith}
 use borrow.Author.Needs.{needs}
-use Rattle.customer_head.specs.declared.Span.{Span}
+use Rattle.fields.specs.declared.Span.{Span}
 use Rattle.customer_file.specs.CustomerMachine.{customerReader}
 use Rattle.readings.specs.declared.Run.the-variants.{Year}
 use Rattle.readings.proofs.Runs.{len-most}

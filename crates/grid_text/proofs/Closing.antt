@@ -1,4 +1,4 @@
--- The answers of the machine of days as the file's machine takes them: closing refuses with a bare number, or 0 carries the sheet; only 5 carries a place.
+-- Closing refuses with a bare number, or 0 carries the sheet: the lines of either.
 -- Assumes nothing.
 use mathlib.Core.Path.{_≡_, refl, ap, _∙_}
 use mathlib.Core.Bool.{Bool, true, false, cond, not}
@@ -8,21 +8,17 @@ use borrow.Author.Tests.{eq-eqb, ne-eqb}
 use lib.Dec.{ltb, eqb}
 use Rattle.answers.specs.Ruling.{yearOut, levelOut}
 use Rattle.answers.specs.Said.{Said, only}
-use Rattle.answers.specs.declared.Place.{Place}
 use Rattle.periods.specs.Period.{periodDays}
 use Rattle.readings.specs.Legal.{highestOf}
 use Rattle.sheet.specs.Windows.{tooFull}
 use Rattle.sheet.specs.Bytes.{sheetSize}
 use Rattle.sheet.specs.Answers.{readSheet, writeAnswer}
 use Rattle.grid.specs.declared.Grid.{Grid}
-use Rattle.grid.specs.declared.GridAnswer.{GridAnswer}
-use Rattle.grid.specs.declared.GridAnswer.the-variants.{Done, Short, YearOut, LevelOut, WrongLength, BadReading, NoPeak, Malformed, DayOut}
-use Rattle.grid.specs.Answers.{saidOfGrid, sheetOf, finishAnswer, closeAnswer, closeBuffer}
+use Rattle.grid.specs.Answers.{sheetOf, finishAnswer, closeAnswer, closeBuffer}
 use Rattle.lines.specs.Figures.{refusedLine}
-use Rattle.fields.specs.declared.Stage.the-variants.{Refused}
-use Rattle.fields.specs.Stages.{stageOf}
-use Rattle.grid_file.specs.Grid.{blankSheet, sheetText, windowLines}
+use Rattle.grid_file.specs.Grid.{blankSheet}
 use Rattle.grid_file.specs.GridMachine.{closedGrid}
+use Rattle.grid_text.specs.Text.{sheetText, windowLines}
 
 -- an answer that carries nothing
 abbrev Bare : Said → Type 0
@@ -57,16 +53,3 @@ module _ (g : Grid) where
   pub closed-done : said .number ≡ 0 → sheetText (readSheet (closeBuffer g blankSheet)) ≡ windowLines (closedGrid g)
   unfolding windowLines
   closed-done z = simp (eq-eqb (said .number) 0 z)
-
--- an answer that is not 5
-pub not-five : (a : GridAnswer) → ((place : Place) → a ≡ BadReading place → ⊥) → Refused (saidOfGrid a .number) ≡ stageOf (saidOfGrid a)
-unfolding stageOf
-not-five Done h = refl
-not-five Short h = refl
-not-five YearOut h = refl
-not-five LevelOut h = refl
-not-five WrongLength h = refl
-not-five (BadReading place) h = absurd (h place refl)
-not-five NoPeak h = refl
-not-five Malformed h = refl
-not-five DayOut h = refl

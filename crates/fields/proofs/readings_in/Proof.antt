@@ -1,14 +1,14 @@
--- `field_steps::readings_in` meets its contract. The loop's invariant: the first i readings are filled in.
+-- `fields::readings_in` meets its contract. The loop's invariant: the first i readings are filled in.
 -- Assumes nothing.
 use mathlib.Core.Path.{refl}
 use Prim.Native.Nat.{_-_, _*_}
 use native.Mathlib.Omega.{arith}
 use borrow.Author.Needs.{needs}
 use Rattle.packed.specs.Bytes.{fourAt}
 use Rattle.fields.specs.Series.{readingBytes, mostReadings}
 use Rattle.over.proofs.Tables.{Filled, filled-none, filled-more, filled-all}
-use Rattle.field_steps.proofs.readings_in.Statement.{statement}
-use Rattle.field_steps.proofs.readings_in.Tie as tie
+use Rattle.fields.proofs.readings_in.Statement.{statement}
+use Rattle.fields.proofs.readings_in.Tie as tie
 
 abbrev Inv-loop : tie.InvT-loop
 Inv-loop b out₀ i₀ out i = Filled (λ k. fourAt b (readingBytes * k)) mostReadings 0 i out

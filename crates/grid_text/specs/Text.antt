@@ -1,0 +1,38 @@
+-- Document 01, Two programs: the window program prints the windows of the sheet that it finds, or `REFUSED` with the number and, for 5,
+-- the place. These lines of a file's bytes, and of the machine that reads them.
+use mathlib.Core.Bool.{cond}
+use mathlib.Core.List.{List, [], _∷_}
+use Prim.Native.Nat.{ℕ}
+use lib.Dec.{eqb}
+use Rattle.answers.specs.Said.{Said, badPlace}
+use Rattle.sheet.specs.declared.Sheet.{Sheet}
+use Rattle.sheet.specs.Answers.{readSheet}
+use Rattle.grid.specs.declared.Grid.{Grid}
+use Rattle.fields.specs.declared.Stage.{Stage}
+use Rattle.fields.specs.declared.Stage.the-variants.{Going, Refused, BadReading, Complete}
+use Rattle.lines.specs.Figures.{figuresIn, refusedLine}
+use Rattle.window_lines.specs.Runs.{windowsText}
+use Rattle.grid_file.specs.declared.GridFile.{GridFile}
+use Rattle.grid_file.specs.Grid.{gridAnswer}
+use Rattle.grid_file.specs.GridMachine.{closedGrid}
+
+-- the lines of an answer: the windows of the sheet that 0 carries, or the refusal
+abbrev pub sheetText : Sheet → List ℕ
+sheetText s = windowsText (s .year) (s .level) (s .windows)
+
+unfoldable pub windowLines : Said → List ℕ
+windowLines said = cond (eqb (said .number) 0) (sheetText (readSheet (said .carries))) (refusedLine (figuresIn said))
+
+-- all that the window program prints of a file with these bytes
+abbrev pub windowsPrinted : List ℕ → List ℕ
+windowsPrinted b = windowLines (gridAnswer b)
+
+-- what the machine prints: the windows' lines can only come of closing
+abbrev pub stageText : Stage → Grid → List ℕ
+stageText Going g = refusedLine (13 ∷ [])
+stageText (Refused n) g = refusedLine (n ∷ [])
+stageText (BadReading place) g = refusedLine (figuresIn (badPlace place))
+stageText Complete g = windowLines (closedGrid g)
+
+abbrev pub gridText : GridFile → List ℕ
+gridText s = stageText (s .stage) (s .grid)
