@@ -3,7 +3,7 @@
 ghost use mathlib.Core.Path.{_≡_};
 ghost use Prim.Native.Nat.{_≤_};
 ghost use Rattle.flat.specs.Flat.{flatOf};
-ghost use Rattle.lines.specs.Text.{lengthIn, putIn};
+ghost use Rattle.lines.specs.Text.{Put};
 ghost use Rattle.customer_file.specs.CustomerMachine.{answerOf};
 ghost use Rattle.customer_text.specs.Text.{customerText};
 use customer_file::CustomerFile;
@@ -25,7 +25,7 @@ fn answer(file: CustomerFile) -> Flat
 
 // What the statement program prints, at the start of a lent buffer, all or nothing.
 pub fn text(file: CustomerFile, out: &mut [u8]) -> usize
-    ensures { λ r. ⌜ (r ≡ lengthIn (customerText file) (now (out .entry))) × (now (out .exit) ≡ putIn (customerText file) (now (out .entry))) ⌝ }
+    ensures { λ r. ⌜ Put 0 (customerText file) (now (out .entry)) (now (out .exit)) r ⌝ }
 {
     let listed = answer(file);
     let n = listed.count as usize + 1;

@@ -2,7 +2,7 @@
 ghost use mathlib.Core.Path.{_≡_};
 ghost use mathlib.Core.List.{[], _∷_};
 ghost use Rattle.answers.specs.Said.{badPlace};
-ghost use Rattle.lines.specs.Text.{lengthIn, putIn};
+ghost use Rattle.lines.specs.Text.{Put};
 ghost use Rattle.lines.specs.Figures.{figuresIn, refusedLine};
 ghost use Rattle.grid_file.specs.GridMachine.{closedGrid};
 ghost use Rattle.grid_text.specs.Text.{windowLines, gridText};
@@ -13,14 +13,14 @@ use grid_file::GridFile;
 
 // A refusal's line: a number alone, or 5 with its place.
 fn refused(number: u64, out: &mut [u8]) -> usize
-    ensures { λ r. ⌜ (r ≡ lengthIn (refusedLine (number ∷ [])) (now (out .entry))) × (now (out .exit) ≡ putIn (refusedLine (number ∷ [])) (now (out .entry))) ⌝ }
+    ensures { λ r. ⌜ Put 0 (refusedLine (number ∷ [])) (now (out .entry)) (now (out .exit)) r ⌝ }
 {
     let figures = [number];
     lines::refused_text(&figures, out)
 }
 
 fn refused_at(place: Place, out: &mut [u8]) -> usize
-    ensures { λ r. ⌜ (r ≡ lengthIn (refusedLine (figuresIn (badPlace place))) (now (out .entry))) × (now (out .exit) ≡ putIn (refusedLine (figuresIn (badPlace place))) (now (out .entry))) ⌝ }
+    ensures { λ r. ⌜ Put 0 (refusedLine (figuresIn (badPlace place))) (now (out .entry)) (now (out .exit)) r ⌝ }
 {
     let figures = [5, place.day as u64, place.position as u64];
     lines::refused_text(&figures, out)
@@ -28,7 +28,7 @@ fn refused_at(place: Place, out: &mut [u8]) -> usize
 
 // What is printed once all days are in: the windows' lines, or what closing refuses.
 fn closed(grid: Grid, out: &mut [u8]) -> usize
-    ensures { λ r. ⌜ (r ≡ lengthIn (windowLines (closedGrid grid)) (now (out .entry))) × (now (out .exit) ≡ putIn (windowLines (closedGrid grid)) (now (out .entry))) ⌝ }
+    ensures { λ r. ⌜ Put 0 (windowLines (closedGrid grid)) (now (out .entry)) (now (out .exit)) r ⌝ }
 {
     let mut bytes = [0u8; sheet::SHEET_SIZE];
     let number = grid_flat::of_answer(grid.close(&mut bytes)).number;
@@ -42,7 +42,7 @@ fn closed(grid: Grid, out: &mut [u8]) -> usize
 
 // What the window program prints, at the start of a lent buffer, all or nothing; 13 while the machine goes on.
 pub fn text(file: GridFile, out: &mut [u8]) -> usize
-    ensures { λ r. ⌜ (r ≡ lengthIn (gridText file) (now (out .entry))) × (now (out .exit) ≡ putIn (gridText file) (now (out .entry))) ⌝ }
+    ensures { λ r. ⌜ Put 0 (gridText file) (now (out .entry)) (now (out .exit)) r ⌝ }
 {
     let stage = file.stage;
     match stage {

@@ -4,32 +4,32 @@
 use mathlib.Core.Path.{_≡_, sym}
 use mathlib.Core.List.{List}
 use mathlib.Core.Logic.{_↔_}
-use Prim.Native.Nat.{ℕ, _<_}
+use Prim.Native.Nat.{ℕ, _+_, _<_}
 use native.Mathlib.Decide.{decLt}
 use native.Mathlib.Omega.{arith}
 use borrow.Author.Tests.{le-leb}
 use lib.ListN.{length}
 use Rattle.answers.proofs.Laws.{one-answer}
-use Rattle.lines.specs.Text.{lengthIn, putIn}
+use Rattle.lines.specs.Text.{endIn, Put}
 use Rattle.lines.specs.Figures.{figuresLine, refusedLine}
 use Rattle.lines.proofs.Text.{short}
 use Rattle.lines.proofs.Figures.{figures-long, refused-long}
 
 pub text-only :
-    (text buffer : List ℕ) {r s : ℕ} {after later : List ℕ}
-    → (r ≡ lengthIn text buffer) × (after ≡ putIn text buffer)
-    → (s ≡ lengthIn text buffer) × (later ≡ putIn text buffer)
+    (at : ℕ) (text buffer : List ℕ) {r s : ℕ} {after later : List ℕ}
+    → Put at text buffer after r
+    → Put at text buffer later s
     → (r ≡ s) × (after ≡ later)
-text-only text buffer p q = (one-answer (p .0) (q .0), one-answer (p .1) (q .1))
+text-only at text buffer p q = (one-answer (p .end) (q .end), one-answer (p .is) (q .is))
 
 -- 0 exactly where the buffer is too short
-pub nothing : (text buffer : List ℕ) → 0 < length text → (lengthIn text buffer ≡ 0) ↔ (length buffer < length text)
-unfolding lengthIn
-nothing text buffer some = (λ e. go (decLt (length buffer) (length text)) e, λ l. sym (short text buffer l .0))
+pub nothing : (text buffer : List ℕ) → 0 < length text → (endIn 0 text buffer ≡ 0) ↔ (length buffer < length text)
+unfolding endIn
+nothing text buffer some = (λ e. go (decLt (length buffer) (length text)) e, λ l. sym (short 0 text buffer (omega arith) .end))
   where
-    go : Dec (length buffer < length text) → lengthIn text buffer ≡ 0 → length buffer < length text
+    go : Dec (length buffer < length text) → endIn 0 text buffer ≡ 0 → length buffer < length text
     go (yes l) e = l
-    go (no l) e = absurd (omega (arith, rw (le-leb (length text) (length buffer) (omega arith)) at e))
+    go (no l) e = absurd (omega (arith, rw (le-leb (0 + length text) (length buffer) (omega arith)) at e))
 
 pub some-figures : (figures : List ℕ) → 0 < length (figuresLine figures)
 some-figures figures = omega (arith, figures-long figures)

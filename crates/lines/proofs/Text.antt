@@ -1,10 +1,10 @@
 -- Laws of text in a lent buffer: two writes, one after the other, are one; what a loop that writes keeps; all or nothing.
 -- Assumes nothing.
 use mathlib.Core.Path.{_≡_, refl, sym, ap, _∙_}
-use mathlib.Core.Bool.{true}
+use mathlib.Core.Bool.{true, false}
 use mathlib.Core.List.{List, [], _++_, append-assoc}
 use Prim.Native.Nat.{ℕ, zero, suc, _+_, _*_, _≤_, _<_}
-use native.Mathlib.Nat.{add-zero, zero-add, add-assoc, not-suc-le-zero}
+use native.Mathlib.Nat.{add-zero, add-assoc, not-suc-le-zero}
 use native.Mathlib.Decide.{decLt}
 use native.Mathlib.Omega.{arith}
 use borrow.Author.Tests.{le-leb, lt-leb}
@@ -14,11 +14,14 @@ use lib.Seq.{paste, length-paste, length-take-le, take-all, take-at, drop-append
 use Rattle.over.proofs.Joined.{joined-none, joined-suc, joined-more}
 use Rattle.packed.specs.Bytes.{laid}
 use Rattle.packed.proofs.Bytes.{laid-whole}
-use Rattle.lines.specs.Text.{textOver, lengthIn, putIn, Wrote}
+use Rattle.lines.specs.Text.{textOver, endIn, putIn, Put, Wrote}
 
 -- the same text by another name
 pub wrote-as : {d t u e : List ℕ} {at r : ℕ} → t ≡ u → Wrote d at t e r → Wrote d at u e r
 wrote-as x h = rw x at h
+
+pub put-as : {d t u e : List ℕ} {at r : ℕ} → t ≡ u → Put at t d e r → Put at u d e r
+put-as x h = rw x at h
 
 -- nothing is written
 pub wrote-none : (d : List ℕ) (at : ℕ) → at ≤ length d → Wrote d at [] d at
@@ -122,40 +125,28 @@ module _ {f : ℕ → List ℕ} {m : ℕ} {d : List ℕ} {at : ℕ} where
         wrote-as (ap (textOver f) x) (h .wrote)
 
 -- all or nothing
-pub fits : {t d e : List ℕ} {r : ℕ} → Wrote d 0 t e r → (r ≡ lengthIn t d) × (e ≡ putIn t d)
-unfolding lengthIn putIn
-fits {t} {d} h =
-    let b : leb (length t) (length d) ≡ true = le-leb (length t) (length d) (omega (arith, h .room)) in
-    rw b (omega (arith, h .end), h .is ∙ rw zero-add)
+pub fits : {t d e : List ℕ} {at r : ℕ} → Wrote d at t e r → Put at t d e r
+unfolding endIn putIn
+fits {t} {d} {at = at} h =
+    let b : leb (at + length t) (length d) ≡ true = le-leb (at + length t) (length d) (h .room) in
+    record { end = rw b (h .end); is = rw b (h .is) }
 
-pub short : (t d : List ℕ) → length d < length t → (0 ≡ lengthIn t d) × (d ≡ putIn t d)
-unfolding lengthIn putIn
-short t d l = rw (lt-leb (length t) (length d) l) (refl, refl)
+pub short : (at : ℕ) (t d : List ℕ) → length d < at + length t → Put at t d d at
+unfolding endIn putIn
+short at t d l =
+    let b : leb (at + length t) (length d) ≡ false = lt-leb (at + length t) (length d) l in
+    record { end = rw b; is = rw b }
 
 -- where the buffer holds the text, it is written
-pub fitted : {t d e : List ℕ} {r : ℕ} → length t ≤ length d → (r ≡ lengthIn t d) × (e ≡ putIn t d) → Wrote d 0 t e r
-unfolding lengthIn putIn
-fitted {t} {d} {e} {r} l h =
-    let b : leb (length t) (length d) ≡ true = le-leb (length t) (length d) l in
-    let end : r ≡ length t = rw b at (h .0) in
-    let is : e ≡ t ++ drop (length t) d = rw b at (h .1) in
-    record {
-      room = omega arith;
-      end = omega arith;
-      same = ap length is ∙ length-append t (drop (length t) d) ∙ omega (arith, length-drop (length t) d);
-      is = is ∙ rw zero-add;
-    }
-
--- what a call answers ends within the buffer that it wrote, so that the text can be taken out of it
-pub within : (t d : List ℕ) {e : List ℕ} {r : ℕ} → (r ≡ lengthIn t d) × (e ≡ putIn t d) → r ≤ length e
-unfolding lengthIn putIn
-within t d {e} {r} h = go (decLt (length d) (length t)) (h .0) (h .1)
-  where
-    go : Dec (length d < length t) → r ≡ lengthIn t d → e ≡ putIn t d → r ≤ length e
-    go (yes l) x y = omega (arith, rw (lt-leb (length t) (length d) l) at x)
-    go (no l) x y =
-        let fit = le-leb (length t) (length d) (omega arith) in
-        omega (arith, rw fit at x, ap length (rw fit at y) ∙ length-append t (drop (length t) d))
+pub fitted : {t d e : List ℕ} {at r : ℕ} → Put at t d e r → at + length t ≤ length d → Wrote d at t e r
+unfolding endIn putIn
+fitted {t} {d} {e} {at} {r} h l =
+    let b : leb (at + length t) (length d) ≡ true = le-leb (at + length t) (length d) l in
+    let end : r ≡ at + length t = rw b at (h .end) in
+    let is : e ≡ take at d ++ (t ++ drop (at + length t) d) = rw b at (h .is) in
+    let long : length (take at d ++ (t ++ drop (at + length t) d)) ≡ length d =
+    simp length-append (omega (arith, length-take-le at d (omega arith), length-drop (at + length t) d)) in
+    record { room = l; end = end; same = ap length is ∙ long; is = is }
 
 -- what was written at a buffer's start is its first part
 pub taken : {t d e : List ℕ} {r : ℕ} → Wrote d 0 t e r → take r e ≡ t

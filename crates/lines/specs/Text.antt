@@ -12,15 +12,20 @@ use Rattle.over.specs.Over.{joined}
 unfoldable pub textOver : (ℕ → List ℕ) → ℕ → List ℕ
 textOver f n = joined _++_ [] f n
 
--- what a call answers: the text's length where the buffer holds it, else 0
-unfoldable pub lengthIn : List ℕ → List ℕ → ℕ
-lengthIn text buffer = cond (leb (length text) (length buffer)) (length text) 0
+-- a text put into a buffer from a place on, all or nothing. What is answered: the place behind it where the buffer holds it, else the place
+unfoldable pub endIn : ℕ → List ℕ → List ℕ → ℕ
+endIn at text buffer = cond (leb (at + length text) (length buffer)) (at + length text) at
 
--- and the buffer then: the text at its start, all further bytes as before; or every byte as before
-unfoldable pub putIn : List ℕ → List ℕ → List ℕ
-putIn text buffer = cond (leb (length text) (length buffer)) (text ++ drop (length text) buffer) buffer
+-- and the buffer then: the text there, all other bytes as before; or every byte as before
+unfoldable pub putIn : ℕ → List ℕ → List ℕ → List ℕ
+putIn at text buffer = cond (leb (at + length text) (length buffer)) (take at buffer ++ (text ++ drop (at + length text) buffer)) buffer
 
--- a step of the writing: the buffer d became e by writing t from index at on, and r is the index after it; all other bytes stay
+-- so a call answers r, and the buffer d became e. Every text of a program is put at place 0: its length is answered, or 0.
+pub record Put (at : ℕ) (text d e : List ℕ) (r : ℕ) : Type 0 where
+  pub end : r ≡ endIn at text d
+  pub is : e ≡ putIn at text d
+
+-- a step of the writing, where the text t fits
 pub record Wrote (d : List ℕ) (at : ℕ) (t : List ℕ) (e : List ℕ) (r : ℕ) : Type 0 where
   pub room : at + length t ≤ length d
   pub end : r ≡ at + length t

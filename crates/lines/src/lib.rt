@@ -5,17 +5,23 @@ ghost use mathlib.Core.Path.{_≡_};
 ghost use Prim.Native.Nat.{_+_, _≤_};
 ghost use lib.Dec.{leb};
 ghost use lib.ListN.{length};
-ghost use Rattle.lines.specs.Text.{lengthIn, putIn, Wrote};
+ghost use Rattle.lines.specs.Text.{Put, Wrote};
 ghost use Rattle.lines.specs.Figures.{decimalOf, fieldOf, figuresLine, refusedLine};
 
 // Bytes of the word `REFUSED` and the space after it.
 const MARK_SIZE: usize = 8;
 
-// Each `add` writes behind what the buffer holds up to `at`, and answers the place after what it wrote.
-fn add_bytes(buf: &mut [u8], at: usize, bytes: &[u8]) -> usize
-    requires { ⌜ at + length (now bytes) ≤ length (now buf) ⌝ }
-    ensures { λ r. ⌜ Wrote (now (buf .entry)) at (now (bytes .entry)) (now (buf .exit)) r ⌝ }
+// Each `add` writes behind what the buffer holds up to `at`, and answers the place after what it wrote. Bytes that do not fit are not
+// written, and the place itself is answered.
+pub fn add_bytes(buf: &mut [u8], at: usize, bytes: &[u8]) -> usize
+    ensures { λ r. ⌜ Put at (now (bytes .entry)) (now (buf .entry)) (now (buf .exit)) r ⌝ }
 {
+    if buf.len() < bytes.len() {
+        return at;
+    }
+    if buf.len() - bytes.len() < at {
+        return at;
+    }
     packed::lay(buf, at, bytes);
     at + bytes.len()
 }
@@ -87,7 +93,7 @@ fn add_figures(buf: &mut [u8], at: usize, figures: &[u64]) -> usize
 
 // The statement program's line: an answer's number and its figures, any number of them.
 pub fn figures_text(figures: &[u64], buf: &mut [u8]) -> usize
-    ensures { λ r. ⌜ (r ≡ lengthIn (figuresLine (now (figures .entry))) (now (buf .entry))) × (now (buf .exit) ≡ putIn (figuresLine (now (figures .entry))) (now (buf .entry))) ⌝ }
+    ensures { λ r. ⌜ Put 0 (figuresLine (now (figures .entry))) (now (buf .entry)) (now (buf .exit)) r ⌝ }
 {
     if figures_fit(figures, buf.len()) {
         return add_figures(buf, 0, figures);
@@ -97,7 +103,7 @@ pub fn figures_text(figures: &[u64], buf: &mut [u8]) -> usize
 
 // The window program's refusal: `REFUSED`, the number and its figures, any number of them.
 pub fn refused_text(figures: &[u64], buf: &mut [u8]) -> usize
-    ensures { λ r. ⌜ (r ≡ lengthIn (refusedLine (now (figures .entry))) (now (buf .entry))) × (now (buf .exit) ≡ putIn (refusedLine (now (figures .entry))) (now (buf .entry))) ⌝ }
+    ensures { λ r. ⌜ Put 0 (refusedLine (now (figures .entry))) (now (buf .entry)) (now (buf .exit)) r ⌝ }
 {
     let room = buf.len();
     if room < MARK_SIZE {

@@ -8,7 +8,7 @@ ghost use lib.ListN.{length};
 ghost use Rattle.over.specs.Over.{anyOver};
 ghost use Rattle.answers.specs.Ruling.{dayQuarters};
 ghost use Rattle.sheet.specs.Windows.{seasons, isSet};
-ghost use Rattle.lines.specs.Text.{textOver, lengthIn, putIn, Wrote};
+ghost use Rattle.lines.specs.Text.{textOver, Put, Wrote};
 ghost use Rattle.window_lines.specs.Runs.{headLine, timeOf, runLine, runEnd, runText, seasonText, seasonIn, windowsText};
 ghost use Rattle.window_lines.specs.Runs.{begins as beginsAt};
 
@@ -19,14 +19,6 @@ const TEXT_MOST: usize = 5425;
 const PAIR_MOST: usize = 45;
 
 // Each `add` writes behind what the buffer holds up to `at`, and answers the place after what it wrote.
-fn add_bytes(buf: &mut [u8], at: usize, bytes: &[u8]) -> usize
-    requires { ⌜ at + length (now bytes) ≤ length (now buf) ⌝ }
-    ensures { λ r. ⌜ Wrote (now (buf .entry)) at (now (bytes .entry)) (now (buf .exit)) r ⌝ }
-{
-    packed::lay(buf, at, bytes);
-    at + bytes.len()
-}
-
 // The time at which a quarter begins, two digits each; 24:00 for the day's end.
 fn add_time(buf: &mut [u8], at: usize, q: usize) -> usize
     requires { ⌜ (q ≤ dayQuarters) × (at + 5 ≤ length (now buf)) ⌝ }
@@ -39,7 +31,7 @@ fn add_time(buf: &mut [u8], at: usize, q: usize) -> usize
         (48 + q % 4 * 15 / 10) as u8,
         (48 + q % 4 * 15 % 10) as u8,
     ];
-    add_bytes(buf, at, &time)
+    lines::add_bytes(buf, at, &time)
 }
 
 // A run's line: 14 bytes.
@@ -48,11 +40,11 @@ fn add_line(buf: &mut [u8], at: usize, season: u8, from: usize, to: usize) -> us
     ensures { λ r. ⌜ Wrote (now (buf .entry)) at (runLine season from to) (now (buf .exit)) r ⌝ }
 {
     let number = [48 + season, b' '];
-    let a = add_bytes(buf, at, &number);
+    let a = lines::add_bytes(buf, at, &number);
     let b = add_time(buf, a, from);
-    let c = add_bytes(buf, b, b"-");
+    let c = lines::add_bytes(buf, b, b"-");
     let d = add_time(buf, c, to);
-    add_bytes(buf, d, b"\n")
+    lines::add_bytes(buf, d, b"\n")
 }
 
 // Is quarter `quarter` (from 0) of season `season` (from 1) set? False outside both.
@@ -151,7 +143,7 @@ fn add_season(buf: &mut [u8], at: usize, windows: &[bool; sheet::PLACES], season
         return add_runs(buf, at, windows, season);
     }
     let line = [48 + season, b' ', b'n', b'o', b'n', b'e', b'\n'];
-    add_bytes(buf, at, &line)
+    lines::add_bytes(buf, at, &line)
 }
 
 fn add_seasons(buf: &mut [u8], at: usize, windows: &[bool; sheet::PLACES]) -> usize
@@ -173,8 +165,8 @@ fn add_head(buf: &mut [u8], year: u16, level: u8) -> usize
     let figures = [year as u64, level as u64];
     let mut line = [0u8; PAIR_MOST];
     let n = lines::figures_text(&figures, &mut line);
-    let a = add_bytes(buf, 0, b"HLZ ");
-    add_bytes(buf, a, &line[..n])
+    let a = lines::add_bytes(buf, 0, b"HLZ ");
+    lines::add_bytes(buf, a, &line[..n])
 }
 
 fn add_windows(buf: &mut [u8], year: u16, level: u8, windows: &[bool; sheet::PLACES]) -> usize
@@ -187,12 +179,12 @@ fn add_windows(buf: &mut [u8], year: u16, level: u8, windows: &[bool; sheet::PLA
 
 // All that the window program prints for an accepted file, of any year, level and windows.
 pub fn windows_text(year: u16, level: u8, windows: &[bool; sheet::PLACES], buf: &mut [u8]) -> usize
-    ensures { λ r. ⌜ (r ≡ lengthIn (windowsText year level (now (windows .entry))) (now (buf .entry))) × (now (buf .exit) ≡ putIn (windowsText year level (now (windows .entry))) (now (buf .entry))) ⌝ }
+    ensures { λ r. ⌜ Put 0 (windowsText year level (now (windows .entry))) (now (buf .entry)) (now (buf .exit)) r ⌝ }
 {
     let mut text = [0u8; TEXT_MOST];
     let n = add_windows(&mut text, year, level, windows);
     if buf.len() < n {
         return 0;
     }
-    add_bytes(buf, 0, &text[..n])
+    lines::add_bytes(buf, 0, &text[..n])
 }

@@ -1,14 +1,12 @@
 -- `customer_text::text` meets its contract.
 -- Assumes nothing.
 use mathlib.Core.Path.{_≡_, sym, ap, _∙_}
-use mathlib.Core.List.{List}
-use Prim.Native.Nat.{ℕ}
 use native.Mathlib.Omega.{arith}
 use borrow.Author.Needs.{needs}
 use lib.ListN.{length}
 use lib.Seq.{length-take-le}
-use Rattle.lines.specs.Text.{lengthIn, putIn}
 use Rattle.lines.specs.Figures.{figuresLine}
+use Rattle.lines.proofs.Text.{put-as}
 use Rattle.customer_file.specs.CustomerMachine.{answerOf}
 use Rattle.flat.proofs.Line.{line-of}
 use Rattle.customer_text.proofs.text.Statement.{statement}
@@ -25,10 +23,7 @@ returns c =
     let a = c .before .before .before .before .before .before .before .before .args in
     let e = c .before .before .before .before .before .before .answer .ensures in
     let line = line-of (answerOf (a .file)) (e .0) (e .1) (c .before .before .before .before .before .line-of .ensures) in
-    let text = c .before .before .figures-text .ensures in (
-      text .0 ∙ ap (λ (xs : List ℕ). lengthIn (figuresLine xs) (a .out .now)) line,
-      text .1 ∙ ap (λ (xs : List ℕ). putIn (figuresLine xs) (a .out .now)) line,
-    )
+    put-as (ap figuresLine line) (c .before .before .figures-text .ensures)
 
 pub text-spec : {M : Type 1} → statement M
 text-spec =

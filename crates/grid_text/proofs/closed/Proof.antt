@@ -1,26 +1,40 @@
 -- `grid_text::closed` meets its contract: the sheet that closing writes is read back.
 -- Assumes nothing.
-use mathlib.Core.Path.{sym, ap, _∙_}
+use mathlib.Core.Path.{_≡_, sym, ap, _∙_}
 use borrow.Author.Needs.{needs}
-use Rattle.sheet.specs.Answers.{SheetRead, readSheet}
 use Rattle.answers.specs.Said.{Said}
+use Rattle.sheet.specs.Bytes.{sheetSize}
+use Rattle.sheet.specs.Answers.{SheetRead, readSheet}
+use Rattle.grid.specs.declared.Grid.{Grid}
+use Rattle.grid.specs.Answers.{closeAnswer}
 use Rattle.flat.specs.declared.Flat.{Flat}
+use Rattle.lines.proofs.Text.{put-as}
+use Rattle.grid_text.specs.Text.{sheetText}
 use Rattle.grid_text.proofs.Closing.{closed-refused, closed-done}
 use Rattle.grid_text.proofs.closed.Statement.{statement}
 use Rattle.grid_text.proofs.closed.Tie as tie
 
+-- once the series is closed: the series, and its number
+abbrev series : tie.After-of-answer → Grid
+series e = e .before .before .before .before .before .args .grid
+
+number : (e : tie.After-of-answer) → e .of-answer .result .number ≡ closeAnswer (series e) sheetSize .number
+number e = ap (λ (f : Flat). f .number) (e .of-answer .ensures) ∙ ap (λ (x : Said). x .number) (e .before .before .close .ensures .0)
+
 returns : tie.Need-returns
 returns c =
-    let g = c .before .before .before .before .before .before .before .before .before .before .args .grid in
-    let n = ap (λ (f : Flat). f .number) (c .before .before .before .before .before .of-answer .ensures) ∙ ap (λ (x : Said). x .number) (c .before .before .before .before .before .before .before .close .ensures .0) in
-    rw (← closed-refused g n (c .before .before .before .before .if1 .taken)) (c .before .before .refused .ensures)
+    let line = c .before .before in
+    let told = line .before .before in
+    put-as (closed-refused (series (told .before)) (number (told .before)) (told .if1 .taken)) (line .refused .ensures)
 
 returns-2 : tie.Need-returns-2
 returns-2 c =
-    let g = c .before .before .before .before .before .before .before .before .before .before .before .before .before .before .before .args .grid in
-    let z = sym (ap (λ (f : Flat). f .number) (c .before .before .before .before .before .before .before .before .before .before .of-answer .ensures) ∙ ap (λ (x : Said). x .number) (c .before .before .before .before .before .before .before .before .before .before .before .before .close .ensures .0)) ∙ c .before .before .before .before .before .before .before .before .before .if1 .left in
-    let meaning = ap (λ (r : SheetRead). r .sheet) (c .before .before .before .before .before .before .before .read .ensures) ∙ ap readSheet (c .before .before .before .before .before .before .before .before .before .before .before .before .close .ensures .1) in
-    rw (← closed-done g z, ← meaning) (c .before .before .windows-text .ensures)
+    let lines = c .before .before in
+    let read = lines .before .before .before .before .before in
+    let told = read .before .before in
+    let e = told .before in
+    let sheet = ap (λ (r : SheetRead). r .sheet) (read .read .ensures) ∙ ap readSheet (e .before .before .close .ensures .1) in
+    put-as (ap sheetText sheet ∙ closed-done (series e) (sym (number e) ∙ told .if1 .left)) (lines .windows-text .ensures)
 
 pub closed-spec : {M : Type 1} → statement M
 closed-spec =

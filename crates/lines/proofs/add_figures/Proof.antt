@@ -6,7 +6,7 @@ use native.Mathlib.Omega.{arith}
 use borrow.Author.Needs.{needs}
 use lib.ListN.{length}
 use Rattle.lines.specs.Figures.{fieldIn}
-use Rattle.lines.proofs.Text.{wrote-as, then, Laid, laid-none, laid-room, laid-more, laid-all}
+use Rattle.lines.proofs.Text.{wrote-as, then, fitted, Laid, laid-none, laid-room, laid-more, laid-all}
 use Rattle.lines.proofs.Figures.{figures-long, figures-is}
 use Rattle.lines.proofs.add_figures.Statement.{statement}
 use Rattle.lines.proofs.add_figures.Tie as tie
@@ -19,14 +19,17 @@ abbrev μ-loop : tie.MeasureT-loop
 
 loop-again : tie.Need-loop-again Inv-loop μ-loop
 loop-again c =
-    let at = c .before .before .before .before .before .before .loop in
-    (at .inv .0, laid-more (at .inv .1) (omega arith) (c .before .before .add-field .ensures))
-
-add-bytes-requires : tie.Need-add-bytes-requires Inv-loop μ-loop
-add-bytes-requires c κs = let w = laid-all (c .before .before .before .loop .inv .1) (omega arith) in omega (arith, figures-long (c .before .before .before .before .before .before .args .figures .now), w .end, w .same)
+    let field = c .before .before in
+    let at = field .before .before .before .before .loop in
+    (at .inv .0, laid-more (at .inv .1) (omega arith) (field .add-field .ensures))
 
 returns : tie.Need-returns Inv-loop μ-loop
-returns c = wrote-as (figures-is _) (then (laid-all (c .before .before .before .before .before .before .loop .inv .1) (omega arith)) (c .before .before .add-bytes .ensures))
+returns c =
+    let end = c .before .before in
+    let at = end .before .before .before .before in
+    let all = laid-all (at .loop .inv .1) (omega arith) in
+    let figures = at .before .before .before .args .figures .now in
+    wrote-as (figures-is figures) (then all (fitted (end .add-bytes .ensures) (omega (arith, figures-long figures, all .end, all .same))))
 
 pub add-figures-spec : {M : Type 1} → statement M
 add-figures-spec =
@@ -42,6 +45,6 @@ add-figures-spec =
     (λ c. search needs)  -- loop-less
     loop-again
     (λ c. search needs)  -- slice-aggregate-add-bytes
-    add-bytes-requires
+    (λ c κs. search needs)  -- add-bytes-requires
     (λ c. search needs)  -- same-length
     returns)

@@ -13,7 +13,8 @@ use Rattle.lines.proofs.figures_fit.Statement.{statement}
 use Rattle.lines.proofs.figures_fit.Tie as tie
 
 abbrev Inv-loop : tie.InvT-loop
-Inv-loop figures room left₀ i₀ i-end left i = (i-end ≡ length figures) × (i ≤ length figures) × (left + length (textOver (fieldIn figures) i) ≡ room)
+Inv-loop figures room left₀ i₀ i-end left i =
+    (i-end ≡ length figures) × (i ≤ length figures) × (left + length (textOver (fieldIn figures) i) ≡ room)
 
 abbrev μ-loop : tie.MeasureT-loop
 μ-loop figures room left₀ i₀ i-end left i = i-end - i
@@ -22,12 +23,15 @@ loop-holds : tie.Need-loop-holds Inv-loop μ-loop
 loop-holds c = (refl, omega arith, omega (arith, ap length (text-none (fieldIn (c .before .args .figures .now)))))
 
 returns : tie.Need-returns Inv-loop μ-loop
-returns c = fit-stops (c .before .before .before .before .before .before .args .figures .now) _ _ (c .before .before .before .before .loop .inv .2) (omega arith) (omega (arith, c .before .field-len .ensures))
+returns c =
+    let at = c .before .before .before .before in
+    fit-stops (at .before .before .args .figures .now) _ _ (at .loop .inv .2) (omega arith) (omega (arith, c .before .field-len .ensures))
 
 loop-again : tie.Need-loop-again Inv-loop μ-loop
 loop-again c =
-    let at = c .before .before .before .before .loop in
-    (at .inv .0, omega arith, fit-more (c .before .before .before .before .before .before .args .figures .now) _ _ (at .inv .2) (c .before .field-len .ensures) (omega arith))
+    let at = c .before .before .before .before in
+    let more = fit-more (at .before .before .args .figures .now) _ _ (at .loop .inv .2) (c .before .field-len .ensures) in
+    (at .loop .inv .0, omega arith, more (omega arith))
 
 returns-2 : tie.Need-returns-2 Inv-loop μ-loop
 returns-2 c = fit-all (c .before .before .before .args .figures .now) _ _ (c .before .loop .inv .2) (omega arith)

@@ -14,7 +14,14 @@ use Rattle.lines.proofs.figures_text.Tie as tie
 add-figures-requires : tie.Need-add-figures-requires
 add-figures-requires c κs =
     let a = c .before .before .before .before .before .args in
-    omega (arith, leb-true (length (figuresLine (a .figures .now))) (length (now (a .buf))) (sym (c .before .before .figures-fit .ensures) ∙ c .before .if1 .taken))
+    let told = sym (c .before .before .figures-fit .ensures) ∙ c .before .if1 .taken in
+    omega (arith, leb-true (length (figuresLine (a .figures .now))) (length (now (a .buf))) told)
+
+returns-2 : tie.Need-returns-2
+returns-2 c =
+    let a = c .before .before .before .before .args in
+    let told = sym (c .before .figures-fit .ensures) ∙ c .if1 .left in
+    short _ _ _ (omega (arith, leb-false (length (figuresLine (a .figures .now))) (length (now (a .buf))) told))
 
 pub figures-text-spec : {M : Type 1} → statement M
 figures-text-spec =
@@ -24,4 +31,4 @@ figures-text-spec =
     add-figures-requires
     (λ c. search needs)  -- same-length
     (λ c. fits (c .before .before .add-figures .ensures))  -- returns
-    (λ c. short _ _ (leb-false _ _ (sym (c .before .figures-fit .ensures) ∙ c .if1 .left))))
+    returns-2)

@@ -7,30 +7,43 @@ use borrow.Author.Needs.{needs}
 use denote.Ref.{now}
 use borrow.Author.Tests.{leb-true, leb-false}
 use lib.ListN.{length}
-use Rattle.lines.specs.Figures.{figuresLine}
-use Rattle.lines.proofs.Text.{wrote-as, then, fits, short}
+use Rattle.lines.specs.Text.{Wrote}
+use Rattle.lines.specs.Figures.{refusedMark, figuresLine}
+use Rattle.lines.proofs.Text.{wrote-as, then, fits, fitted, short}
 use Rattle.lines.proofs.Figures.{refused-is, refused-long}
 use Rattle.lines.proofs.refused_text.Statement.{statement}
 use Rattle.lines.proofs.refused_text.Tie as tie
 
+-- the mark has room
+marked :
+    (e : tie.After-add-bytes)
+    → let a = e .before .before .before .before .before .before .before .before .args in Wrote (a .buf .now) 0 refusedMark (e .add-bytes .last .0) (e .add-bytes .result)
+marked e = fitted (e .add-bytes .ensures) (omega arith)
+
 add-figures-requires : tie.Need-add-figures-requires
 add-figures-requires c κs =
-    let a = c .before .before .before .before .before .before .before .before .before .before .before .args in
-    omega (arith, leb-true (length (figuresLine (a .figures .now))) (length (now (a .buf)) - 8) (sym (c .before .before .before .before .before .before .before .figures-fit .ensures) ∙ c .before .before .before .before .before .before .if2 .taken))
+    let mark = c .before .before .before in
+    let room = mark .before .before .before in
+    let a = room .before .before .before .before .before .args in
+    let told = sym (room .before .figures-fit .ensures) ∙ room .if2 .taken in
+    omega (arith, leb-true (length (figuresLine (a .figures .now))) (length (now (a .buf)) - 8) told, marked mark .end, marked mark .same)
 
 returns-2 : tie.Need-returns-2
-returns-2 c = fits (wrote-as (refused-is _) (then (c .before .before .before .before .before .before .add-bytes .ensures) (c .before .before .add-figures .ensures)))
+returns-2 c =
+    let line = c .before .before in
+    fits (wrote-as (refused-is _) (then (marked (line .before .before .before .before)) (line .add-figures .ensures)))
 
 returns-3 : tie.Need-returns-3
 returns-3 c =
     let a = c .before .before .before .before .before .args in
-    short _ _ (omega (arith, refused-long (a .figures .now), leb-false (length (figuresLine (a .figures .now))) (length (now (a .buf)) - 8) (sym (c .before .figures-fit .ensures) ∙ c .if2 .left)))
+    let told = sym (c .before .figures-fit .ensures) ∙ c .if2 .left in
+    short _ _ _ (omega (arith, refused-long (a .figures .now), leb-false (length (figuresLine (a .figures .now))) (length (now (a .buf)) - 8) told))
 
 pub refused-text-spec : {M : Type 1} → statement M
 refused-text-spec =
     tie.close
     (tie.spec
-    (λ c. short _ _ (omega (arith, refused-long (c .before .before .before .args .figures .now))))  -- returns
+    (λ c. short _ _ _ (omega (arith, refused-long (c .before .before .before .args .figures .now))))  -- returns
     (λ c κs. search needs)  -- figures-fit-requires
     (λ c. search needs)  -- slice-aggregate-add-bytes
     (λ c κs. search needs)  -- add-bytes-requires

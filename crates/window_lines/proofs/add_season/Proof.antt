@@ -1,34 +1,41 @@
 -- `window_lines::add_season` meets its contract, a law for each return.
 -- Assumes nothing.
-use mathlib.Core.Path.{sym, ap, _∙_}
+use mathlib.Core.Path.{_≡_, sym, ap, _∙_}
 use native.Mathlib.Omega.{arith}
 use borrow.Author.Needs.{needs}
 use lib.ListN.{length}
+use Rattle.answers.specs.Ruling.{dayQuarters}
 use Rattle.sheet.specs.Windows.{isSet}
-use Rattle.lines.proofs.Text.{wrote-as}
+use Rattle.lines.specs.Text.{textOver}
+use Rattle.lines.proofs.Text.{wrote-as, fitted}
+use Rattle.window_lines.specs.Runs.{noneLine, runText, seasonText}
 use Rattle.window_lines.proofs.Runs.{season-runs, season-none}
 use Rattle.window_lines.proofs.add_season.Statement.{statement}
 use Rattle.window_lines.proofs.add_season.Tie as tie
 
+-- some quarter of the season is set, or none is
+runs :
+    (e : tie.Then1)
+    → let a = e .before .before .before .args in
+    let f = isSet (a .windows .now) (a .season) in textOver (runText (a .season) f) dayQuarters ≡ seasonText (a .season) f
+runs e = season-runs _ _ (sym (e .before .any-set .ensures) ∙ e .if1 .taken)
+
+none :
+    (e : tie.Else1)
+    → let a = e .before .before .before .args in noneLine (a .season) ≡ seasonText (a .season) (isSet (a .windows .now) (a .season))
+none e = season-none _ _ (sym (e .before .any-set .ensures) ∙ e .if1 .left)
+
 add-runs-requires : tie.Need-add-runs-requires
-add-runs-requires c κs =
-    let a = c .before .before .before .before .args in
-    (omega arith, omega (arith, ap length (season-runs (a .season) (isSet (a .windows .now) (a .season)) (sym (c .before .before .any-set .ensures) ∙ c .before .if1 .taken))))
+add-runs-requires c κs = (omega arith, omega (arith, ap length (runs (c .before))))
 
 returns : tie.Need-returns
-returns c =
-    let a = c .before .before .before .before .before .before .before .args in
-    wrote-as (season-runs (a .season) (isSet (a .windows .now) (a .season)) (sym (c .before .before .before .before .before .any-set .ensures) ∙ c .before .before .before .before .if1 .taken)) (c .before .before .add-runs .ensures)
-
-add-bytes-requires : tie.Need-add-bytes-requires
-add-bytes-requires c κs =
-    let a = c .before .before .before .before .before .args in
-    omega (arith, ap length (season-none (a .season) (isSet (a .windows .now) (a .season)) (sym (c .before .before .before .any-set .ensures) ∙ c .before .before .if1 .left)))
+returns c = wrote-as (runs (c .before .before .before .before)) (c .before .before .add-runs .ensures)
 
 returns-2 : tie.Need-returns-2
 returns-2 c =
-    let a = c .before .before .before .before .before .before .before .before .args in
-    wrote-as (season-none (a .season) (isSet (a .windows .now) (a .season)) (sym (c .before .before .before .before .before .before .any-set .ensures) ∙ c .before .before .before .before .before .if1 .left)) (c .before .before .add-bytes .ensures)
+    let line = c .before .before in
+    let is = none (line .before .before .before) in
+    wrote-as is (fitted (line .add-bytes .ensures) (omega (arith, ap length is)))
 
 pub add-season-spec : {M : Type 1} → statement M
 add-season-spec =
@@ -40,6 +47,6 @@ add-season-spec =
     returns
     (λ c. search needs)  -- add-t9
     (λ c. search needs)  -- slice-aggregate-add-bytes
-    add-bytes-requires
+    (λ c κs. search needs)  -- add-bytes-requires
     (λ c. search needs)  -- same-length-2
     returns-2)

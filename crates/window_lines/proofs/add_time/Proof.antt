@@ -1,13 +1,15 @@
 -- `window_lines::add_time` meets its contract: its five bytes are the time's.
 -- Assumes nothing.
+use native.Mathlib.Omega.{arith}
 use borrow.Author.Needs.{needs}
+use Rattle.lines.proofs.Text.{fitted}
 use Rattle.window_lines.specs.Runs.{timeOf}
 use Rattle.window_lines.proofs.add_time.Statement.{statement}
 use Rattle.window_lines.proofs.add_time.Tie as tie
 
 returns : tie.Need-returns
 unfolding timeOf
-returns c = c .before .before .add-bytes .ensures
+returns c = fitted (c .before .before .add-bytes .ensures) (omega arith)
 
 pub add-time-spec : {M : Type 1} → statement M
 add-time-spec =

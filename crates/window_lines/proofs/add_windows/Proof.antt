@@ -14,13 +14,15 @@ add-head-requires c κs =
 
 add-seasons-requires : tie.Need-add-seasons-requires
 add-seasons-requires c κs =
-    let a = c .before .before .before .before .before .before .args in
+    let head = c .before .before .before in
+    let a = head .before .before .before .args in
     omega (arith, windows-long (a .year) (a .level) (a .windows .now))
 
 returns : tie.Need-returns
 returns c =
-    let a = c .before .before .before .before .before .before .before .before .before .args in
-    wrote-as (windows-is (a .year) (a .level) (a .windows .now)) (then (c .before .before .before .before .before .before .add-head .ensures) (c .before .before .add-seasons .ensures))
+    let lines = c .before .before in
+    let head = lines .before .before .before .before in
+    wrote-as (windows-is _ _ _) (then (head .add-head .ensures) (lines .add-seasons .ensures))
 
 pub add-windows-spec : {M : Type 1} → statement M
 add-windows-spec =

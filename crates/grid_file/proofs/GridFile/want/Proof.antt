@@ -43,8 +43,7 @@ returns-2 : tie.Need-returns-2
 returns-2 c =
     let e = c .before .before .before .before in
     let s = state e in
-    let over = grid-fits (s .head) (s .field) .none (omega (arith, wide e)) in
-    (
+    let over = grid-fits (s .head) (s .field) .none (omega (arith, wide e)) in (
       ap (λ (n : ℕ). 4 * n) (c .day-len .ensures) ∙ wants-day gridReader s (goes e) over (omega (arith, c .before .before .period-days .ensures)),
       omega (arith, c .day-len .ensures, len-most (Period (s .grid .year)) (s .grid .seen)),
     )
