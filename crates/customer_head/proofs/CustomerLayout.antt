@@ -21,6 +21,7 @@ use Rattle.over.proofs.Sums.{sum-none, sum-suc, sum-add, sum-cong}
 use Rattle.over.proofs.Tests.{all-at}
 use Rattle.over.proofs.Tables.{length-table, getD-table}
 use Rattle.fields.proofs.Bytes.{part-at}
+use Rattle.fields.proofs.Header.{Fits, fits-by}
 
 -- values that are all one number add up to a multiple of it
 sum-same : (f : ℕ → ℕ) (c n : ℕ) → ((k : ℕ) → k < n → f k ≡ c) → sumOver f n ≡ n * c
@@ -255,40 +256,21 @@ module _ (b : List ℕ) where
     width-none = sym (no-widths (k - 16 - n)) ∙ ap (widthAt fields) behind
 
   -- every field has a byte, at most twelve, and a header of 159 bytes has room for it
-  pub record Fits (k : ℕ) : Type 0 where
-    pub few : customerLayout b .width k ≤ 12
-    pub room : startOf (customerLayout b) k + customerLayout b .width k ≤ 159
-    pub field : 0 < customerLayout b .width k → k < customerLayout b .count
-    pub none : customerLayout b .width k ≡ 0 → customerLayout b .count ≤ k
-
-  pub fits : (k : ℕ) → Fits k
+  pub fits : (k : ℕ) → Fits (customerLayout b) 12 159 k
   fits k = go (decLt k 12) (decLt k (12 + n)) (decLt k (16 + n))
     where
-      known :
-          {s w : ℕ}
-          → s ≡ startOf (customerLayout b) k
-          → w ≡ customerLayout b .width k
-          → w ≤ 12
-          → s + w ≤ 159
-          → (0 < w → k < 16 + n)
-          → (w ≡ 0 → 16 + n ≤ k)
-          → Fits k
-      known s w few room field none =
-          let c = count-is in
-          record { few = omega arith; room = omega arith; field = λ l. omega (arith, field (omega arith)); none = λ z. omega (arith, none (omega arith)) }
-
-      go : Dec (k < 12) → Dec (k < 12 + n) → Dec (k < 16 + n) → Fits k
+      go : Dec (k < 12) → Dec (k < 12 + n) → Dec (k < 16 + n) → Fits (customerLayout b) 12 159 k
       go (yes l) h p =
-          known (start-first k l) (width-first k l)
+          fits-by count-is (start-first k l) (width-first k l)
           (width-low k l) (omega (arith, start-low k l)) (λ z. omega arith) (λ z. omega (arith, width-some k l))
       go (no m) (yes l) p =
-          known (start-holiday k (omega arith) (omega arith)) (width-holiday k (omega arith) l)
+          fits-by count-is (start-holiday k (omega arith) (omega arith)) (width-holiday k (omega arith) l)
           (omega arith) (omega arith) (λ z. omega arith) (λ z. omega arith)
       go (no m) (no h) (yes l) =
-          known (start-price k (omega arith) (omega arith)) (width-price k (omega arith) l)
+          fits-by count-is (start-price k (omega arith) (omega arith)) (width-price k (omega arith) l)
           (omega arith) (omega arith) (λ z. omega arith) (λ z. omega arith)
       go (no m) (no h) (no l) =
-          known (start-none k (omega arith)) (width-none k (omega arith))
+          fits-by count-is (start-none k (omega arith)) (width-none k (omega arith))
           (omega arith) (omega arith) (λ z. omega arith) (λ z. omega arith)
 
   -- the holidays by their bytes

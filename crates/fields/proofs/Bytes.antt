@@ -1,4 +1,5 @@
--- Laws of a file's bytes: the part that a machine is handed, a buffer that holds the header so far, and the numbers and readings in bytes.
+-- Laws of a file's bytes: the part that a machine is handed, a buffer that holds the header so far, and the
+-- numbers and readings in bytes.
 -- Assumes nothing.
 use mathlib.Core.Path.{_≡_, sym, ap, _∙_}
 use mathlib.Core.List.{List, _++_}

@@ -1,4 +1,5 @@
--- Laws of the fields that both headers have: what each looks at, its number by the code's tests, and what a field that passes has shown.
+-- Laws of the fields that both headers have: what each looks at, its number by the code's tests, and what
+-- a field that passes has shown.
 -- Assumes nothing.
 use mathlib.Core.Path.{_≡_, refl, sym, ap, _∙_}
 use mathlib.Core.Bool.{Bool, true, false, not}

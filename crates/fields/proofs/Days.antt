@@ -1,4 +1,5 @@
--- Laws of the days of a file: the readings in a day's bytes are the series' readings of that day, and the cases of what the days are answered.
+-- Laws of the days of a file: the readings in a day's bytes are the series' readings of that day, and the cases
+-- of what the days are answered.
 -- Assumes nothing.
 use mathlib.Core.Path.{_≡_, refl, sym, ap, _∙_}
 use mathlib.Core.Bool.{Bool, true, false}
@@ -79,7 +80,9 @@ module _ (run : Run) (h : ℕ) (bytes : List ℕ) where
       unfolding firstAbove badAt
       day-first = rw day-long (first-cong _ _ (dayLen run d) (λ p k. ap (illegal limit) (day-reading p k)))
 
-      pub day-bad : badIn run limit xs d ≡ true → badPlace (record { day = d + 1; position = badAt run limit xs d }) ≡ nextAnswer run limit d (dayIn run h bytes d)
+      pub day-bad :
+          badIn run limit xs d ≡ true
+          → badPlace (record { day = d + 1; position = badAt run limit xs d }) ≡ nextAnswer run limit d (dayIn run h bytes d)
       day-bad t =
           next-bad run limit d (dayIn run h bytes d) l day-long
           (omega (arith, day-peak, ltb-true limit (dayPeak run xs d) (sym (bad-peak run limit xs d) ∙ t)))

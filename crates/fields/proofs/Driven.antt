@@ -1,5 +1,6 @@
--- A machine that is handed a file as it wants it, in any state type: driven over the header it says the header's answer or goes on, driven over the
--- days it says theirs, and so over the file it says what the bytes are answered; a machine that has ended stays.
+-- A machine that is handed a file as it wants it, in any state type: driven over the header it says the header's
+-- answer or goes on, driven over the days it says theirs, and so over the file it says what the bytes are answered;
+-- a machine that has ended stays.
 -- Assumes nothing.
 use mathlib.Core.Path.{_≡_, refl, sym, ap, _∙_}
 use mathlib.Core.Bool.{Bool, true, false}
@@ -110,7 +111,11 @@ module _ {S X : Type 0} (wanted : S → ℕ) (fed : S → List ℕ → S) (said 
               turns : suc m + n ≡ suc (m + n)
               turns = omega arith
 
-              go : Dec (length bytes < startOf l (k + 1)) → Dec (l .refusal k ≡ 0) → (Passed (stops l bytes) (k + 1) → from (m + n) (k + 1)) → from (suc m + n) k
+              go :
+                  Dec (length bytes < startOf l (k + 1))
+                  → Dec (l .refusal k ≡ 0)
+                  → (Passed (stops l bytes) (k + 1) → from (m + n) (k + 1))
+                  → from (suc m + n) k
               go (yes c) d ih =
                   rw turns
                   (ends (m + n) (inHead k) (startOf l k) (l .width k) (t .size) (t .cut c)
@@ -124,7 +129,8 @@ module _ {S X : Type 0} (wanted : S → ℕ) (fed : S → List ℕ → S) (said 
                   (goes-on (m + n) (inHead k) (startOf l k) (l .width k) (t .size) (t .taken (omega arith) d) (sym (field-more l k))
                   (ih (field-passed l bytes k h (omega arith) d)))
 
-    -- the days after h bytes: what a machine whose state after d days is `inDays d` does with day d, and with what comes after the last one
+    -- the days after h bytes: what a machine whose state after d days is `inDays d` does with day d, and
+    -- with what comes after the last one
     module _ (run : Run) (limit h : ℕ) (inDays : ℕ → S) where
       abbrev bad : ℕ → Bool
       bad d = badIn run limit (seriesIn bytes h) d
@@ -168,7 +174,9 @@ module _ {S X : Type 0} (wanted : S → ℕ) (fed : S → List ℕ → S) (said 
               t : TakesEnd done
               t = last w all
 
-              go : Dec (length bytes ≡ fileSize run h) → said (driven wanted fed (suc n) (inDays (runDays run)) (drop (fileSize run h) bytes)) ≡ shown (daysAnswer run limit h done bytes)
+              go :
+                  Dec (length bytes ≡ fileSize run h)
+                  → said (driven wanted fed (suc n) (inDays (runDays run)) (drop (fileSize run h) bytes)) ≡ shown (daysAnswer run limit h done bytes)
               go (yes z) = ends n (inDays (runDays run)) (fileSize run h) 1 (t .size) (t .closed z) (days-done run h bytes limit done (runDays run) all refl z)
               go (no z) =
                   ends n (inDays (runDays run)) (fileSize run h) 1 (t .size) (t .left (omega arith))
@@ -209,7 +217,8 @@ module _ {S X : Type 0} (wanted : S → ℕ) (fed : S → List ℕ → S) (said 
                   (ih (omega arith) (passed-more c b)))
 
 -- what a machine does that takes a file: `inHead k` is its state after k fields, and `inDays d` after d days
-pub record FileMachine {S X : Type 0} (wanted : S → ℕ) (fed : S → List ℕ → S) (said : S → X) (shown : Said → X) (l : Layout) (run : Run) (limit : ℕ) (done : Said) (bytes : List ℕ) (inHead inDays : ℕ → S) : Type 0 where
+pub record FileMachine {S X : Type 0} (wanted : S → ℕ) (fed : S → List ℕ → S) (said : S → X) (shown : Said → X)
+    (l : Layout) (run : Run) (limit : ℕ) (done : Said) (bytes : List ℕ) (inHead inDays : ℕ → S) : Type 0 where
   pub fields : (k : ℕ) → k < l .count → Passed (stops l bytes) k → TakesField wanted fed said shown bytes l inHead k
   pub opened : Passed (stops l bytes) (l .count) → inHead (l .count) ≡ inDays 0
   pub days :
@@ -225,13 +234,17 @@ pub record FileMachine {S X : Type 0} (wanted : S → ℕ) (fed : S → List ℕ
       → Passed (badIn run limit (seriesIn bytes (headSize l))) (runDays run)
       → TakesEnd wanted fed said shown bytes run limit (headSize l) inDays done
 
-module _ {S X : Type 0} {wanted : S → ℕ} {fed : S → List ℕ → S} {said : S → X} {shown : Said → X} {l : Layout} {run : Run} {limit : ℕ} {done : Said} {bytes : List ℕ} {inHead inDays : ℕ → S} (m : FileMachine wanted fed said shown l run limit done bytes inHead inDays) where
+module _ {S X : Type 0} {wanted : S → ℕ} {fed : S → List ℕ → S} {said : S → X} {shown : Said → X}
+    {l : Layout} {run : Run} {limit : ℕ} {done : Said} {bytes : List ℕ} {inHead inDays : ℕ → S}
+    (m : FileMachine wanted fed said shown l run limit done bytes inHead inDays) where
   by-turns : (n : ℕ) → said (driven wanted fed (l .count + (runDays run + suc n)) (inHead 0) bytes) ≡ shown (fileAnswer l run limit done bytes)
   by-turns n =
       ap (λ (k : ℕ). said (driven wanted fed (l .count + (runDays run + suc n)) (inHead 0) (drop k bytes))) (sym (field-none l))
       ∙ head-driven wanted fed said shown bytes l inHead (m .fields) (runDays run + suc n) _ after (l .count) 0 (omega arith) passed-none
     where
-      after : Passed (stops l bytes) (l .count) → said (driven wanted fed (runDays run + suc n) (inHead (l .count)) (drop (headSize l) bytes)) ≡ shown (daysAnswer run limit (headSize l) done bytes)
+      after :
+          Passed (stops l bytes) (l .count)
+          → said (driven wanted fed (runDays run + suc n) (inHead (l .count)) (drop (headSize l) bytes)) ≡ shown (daysAnswer run limit (headSize l) done bytes)
       after c =
           let first : headSize l ≡ dayAt run (headSize l) 0 = omega (arith, start-none run) in
           ap (λ (s : S). said (driven wanted fed (runDays run + suc n) s (drop (headSize l) bytes))) (m .opened c)

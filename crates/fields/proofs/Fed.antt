@@ -1,5 +1,5 @@
--- A machine that keeps the header's bytes in a buffer and reads each field off it takes the fields of a file; one that gives the readings in a
--- day's bytes to a machine of days (readings, proofs/Machines) takes its days.
+-- A machine that keeps the header's bytes in a buffer and reads each field off it takes the fields of a file; one that
+-- gives the readings in a day's bytes to a machine of days (readings, proofs/Machines) takes its days.
 -- Assumes nothing.
 use mathlib.Core.Path.{_≡_, sym, ap, _∙_}
 use mathlib.Core.Bool.{false}
@@ -30,15 +30,26 @@ use Rattle.fields.proofs.Driven.{Stopped, TakesField, TakesDay}
 abbrev pub heldIn : List ℕ → List ℕ → ℕ → List ℕ
 heldIn blank bytes n = take n bytes ++ drop n blank
 
--- a layout that looks at no byte too early: where the bytes before a field are a file's, so is whether there is such a field, and its width; where
--- its own are too, what refuses it
+-- a layout that looks at no byte too early: where the bytes before a field are a file's, so is whether there is such a
+-- field, and its width; where its own are too, what refuses it
 pub record LooksBack (layout : List ℕ → Layout) (bytes : List ℕ) : Type 0 where
-  pub counts : (k : ℕ) → k ≤ layout bytes .count → (b : List ℕ) → Same (startOf (layout bytes) k) b bytes → ltb k (layout b .count) ≡ ltb k (layout bytes .count)
+  pub counts :
+      (k : ℕ)
+      → k ≤ layout bytes .count
+      → (b : List ℕ)
+      → Same (startOf (layout bytes) k) b bytes
+      → ltb k (layout b .count) ≡ ltb k (layout bytes .count)
   pub widths : (k : ℕ) → k < layout bytes .count → (b : List ℕ) → Same (startOf (layout bytes) k) b bytes → layout b .width k ≡ layout bytes .width k
-  pub refusals : (k : ℕ) → k < layout bytes .count → (b : List ℕ) → Same (startOf (layout bytes) (k + 1)) b bytes → layout b .refusal k ≡ layout bytes .refusal k
+  pub refusals :
+      (k : ℕ)
+      → k < layout bytes .count
+      → (b : List ℕ)
+      → Same (startOf (layout bytes) (k + 1)) b bytes
+      → layout b .refusal k ≡ layout bytes .refusal k
 
 -- `inHead k buffer` is the state after k fields; what it does with the bytes of field k
-pub record FeedsField {S X : Type 0} (wanted : S → ℕ) (fed : S → List ℕ → S) (said : S → X) (shown : Said → X) (layout : List ℕ → Layout) (inHead : ℕ → List ℕ → S) (k : ℕ) (buffer : List ℕ) : Type 0 where
+pub record FeedsField {S X : Type 0} (wanted : S → ℕ) (fed : S → List ℕ → S) (said : S → X) (shown : Said → X)
+    (layout : List ℕ → Layout) (inHead : ℕ → List ℕ → S) (k : ℕ) (buffer : List ℕ) : Type 0 where
   pub size : wanted (inHead k buffer) ≡ layout buffer .width k
   pub cut : (b : List ℕ) → length b < layout buffer .width k → Stopped wanted fed said shown (fed (inHead k buffer) b) (only 12)
   pub refused :
@@ -54,7 +65,8 @@ pub record FeedsField {S X : Type 0} (wanted : S → ℕ) (fed : S → List ℕ 
       → layout next .refusal k ≡ 0
       → fed (inHead k buffer) b ≡ inHead (k + 1) next
 
-module _ {S X : Type 0} (wanted : S → ℕ) (fed : S → List ℕ → S) (said : S → X) (shown : Said → X) (layout : List ℕ → Layout) (inHead : ℕ → List ℕ → S) (blank bytes : List ℕ) (r : LooksBack layout bytes) where
+module _ {S X : Type 0} (wanted : S → ℕ) (fed : S → List ℕ → S) (said : S → X) (shown : Said → X)
+    (layout : List ℕ → Layout) (inHead : ℕ → List ℕ → S) (blank bytes : List ℕ) (r : LooksBack layout bytes) where
   abbrev l : Layout
   l = layout bytes
 
@@ -101,7 +113,9 @@ module _ {S X : Type 0} (wanted : S → ℕ) (fed : S → List ℕ → S) (said 
         let more = field-more l k in
         omega (arith, width-is, part-short bytes (startOf l k) (l .width k) (omega arith) (omega (arith, fields-held l bytes k h)))
 
-    pub feeds-field : (k < layout (held k) .count → FeedsField wanted fed said shown layout inHead k (held k)) → TakesField wanted fed said shown bytes l (λ j. inHead j (held j)) k
+    pub feeds-field :
+        (k < layout (held k) .count → FeedsField wanted fed said shown layout inHead k (held k))
+        → TakesField wanted fed said shown bytes l (λ j. inHead j (held j)) k
     feeds-field feeds = record {
       size = f .size ∙ width-is;
       cut = λ o. f .cut b (short o);
@@ -117,7 +131,8 @@ abbrev pub heldAfter : {T : Type 0} → Run → (List ℕ → ℕ → T) → ℕ
 heldAfter run holding h bytes d = holding (take (dayStart run d) (seriesIn bytes h)) d
 
 -- `inside t` is the state whose machine of days stands at t; what it does with the bytes of day d there
-pub record FeedsDay {S T X : Type 0} (wanted : S → ℕ) (fed : S → List ℕ → S) (said : S → X) (shown : Said → X) (run : Run) (answer : T → List ℕ → Said) (step : T → List ℕ → T) (inside : T → S) (t : T) (d : ℕ) : Type 0 where
+pub record FeedsDay {S T X : Type 0} (wanted : S → ℕ) (fed : S → List ℕ → S) (said : S → X) (shown : Said → X)
+    (run : Run) (answer : T → List ℕ → Said) (step : T → List ℕ → T) (inside : T → S) (t : T) (d : ℕ) : Type 0 where
   pub size : wanted (inside t) ≡ daySize run d
   pub cut : (b : List ℕ) → length b < daySize run d → Stopped wanted fed said shown (fed (inside t) b) (only 4)
   pub refused :
@@ -127,7 +142,9 @@ pub record FeedsDay {S T X : Type 0} (wanted : S → ℕ) (fed : S → List ℕ 
       → Stopped wanted fed said shown (fed (inside t) b) (answer t (readingsOf b))
   pub taken : (b : List ℕ) → length b ≡ daySize run d → answer t (readingsOf b) ≡ only 0 → fed (inside t) b ≡ inside (step t (readingsOf b))
 
-module _ {S T X : Type 0} (wanted : S → ℕ) (fed : S → List ℕ → S) (said : S → X) (shown : Said → X) {run : Run} {limit : ℕ} {answer : T → List ℕ → Said} {step : T → List ℕ → T} {holding : List ℕ → ℕ → T} (m : Machine run limit answer step holding) (inside : T → S) (h : ℕ) (bytes : List ℕ) where
+module _ {S T X : Type 0} (wanted : S → ℕ) (fed : S → List ℕ → S) (said : S → X) (shown : Said → X)
+    {run : Run} {limit : ℕ} {answer : T → List ℕ → Said} {step : T → List ℕ → T} {holding : List ℕ → ℕ → T}
+    (m : Machine run limit answer step holding) (inside : T → S) (h : ℕ) (bytes : List ℕ) where
   abbrev after : ℕ → T
   after d = heldAfter run holding h bytes d
 

@@ -1,4 +1,5 @@
--- Laws of a file's header: where its fields start, what a field that did not stop says, and the cases of the header's answer.
+-- Laws of a file's header: where its fields start, what a field that did not stop says, and
+-- the cases of the header's answer.
 -- Assumes nothing.
 use mathlib.Core.Path.{_≡_}
 use mathlib.Core.Bool.{true, false, not}
@@ -57,13 +58,26 @@ module _ (l : Layout) where
           rw e
       go (no m) ih = omega (arith, ih (omega arith), none k (omega arith), more)
 
--- what a machine has of field k of a header: it takes at most `most` bytes, the header's `size` bytes have room for it, and it is a field
--- exactly where it takes bytes
+-- what a machine has of field k of a header: it takes at most `most` bytes, the header's `size` bytes have room for it,
+-- and it is a field exactly where it takes bytes
 pub record Fits (l : Layout) (most size k : ℕ) : Type 0 where
   pub few : l .width k ≤ most
   pub room : startOf l k + l .width k ≤ size
   pub field : 0 < l .width k → k < l .count
   pub none : l .width k ≡ 0 → l .count ≤ k
+
+pub fits-by :
+    {l : Layout} {most size k n s w : ℕ}
+    → l .count ≡ n
+    → s ≡ startOf l k
+    → w ≡ l .width k
+    → w ≤ most
+    → s + w ≤ size
+    → (0 < w → k < n)
+    → (w ≡ 0 → n ≤ k)
+    → Fits l most size k
+fits-by c s w few room field none =
+    record { few = omega arith; room = omega arith; field = λ l. omega (arith, field (omega arith)); none = λ z. omega (arith, none (omega arith)) }
 
 -- fields of the same widths start at the same places
 pub field-cong : (l m : Layout) (k : ℕ) → ((j : ℕ) → j < k → l .width j ≡ m .width j) → startOf l k ≡ startOf m k

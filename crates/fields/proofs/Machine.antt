@@ -1,4 +1,5 @@
--- The cases of a machine that reads a file, each with the code's answer on the left: what it wants, and what a field, a day and the end do to it.
+-- The cases of a machine that reads a file, each with the code's answer on the left: what it wants, and what a
+-- field, a day and the end do to it.
 -- Assumes nothing.
 use mathlib.Core.Path.{_≡_, refl, sym, ap, _∙_}
 use mathlib.Core.Bool.{Bool, true, false, cond}

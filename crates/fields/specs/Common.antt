@@ -1,5 +1,6 @@
--- Document 01, Two programs: the fields that the headers of both files have, "widths as in the sheet", each with the number that refuses it. b is the
--- file's bytes, i the place where a field starts. The tests are those of the sheet and of the ruling's numbers.
+-- Document 01, Two programs: the fields that the headers of both files have, "widths as in the sheet", each with
+-- the number that refuses it. b is the file's bytes, i the place where a field starts. The tests are those of the
+-- sheet and of the ruling's numbers.
 use mathlib.Core.List.{List}
 use Prim.Native.Nat.{ℕ}
 use lib.ListN.{getD}

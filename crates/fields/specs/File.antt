@@ -1,5 +1,5 @@
--- Document 01, Two programs: what a file is answered, by its bytes: the header, then the days. And a machine that is handed the file, each time as
--- many bytes as it wants; fewer say that the file has ended.
+-- Document 01, Two programs: what a file is answered, by its bytes: the header, then the days. And a machine that is
+-- handed the file, each time as many bytes as it wants; fewer say that the file has ended.
 use mathlib.Core.List.{List}
 use Prim.Native.Nat.{ℕ, zero, suc}
 use lib.ListN.{take, drop}

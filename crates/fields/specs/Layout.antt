@@ -1,5 +1,5 @@
--- Document 01, Two programs: a file begins with its header, fields one after the other, and both programs "test each field, then each day, as
--- soon as it is read". A layout lists the fields of one file, in order; fields k count from 0.
+-- Document 01, Two programs: a file begins with its header, fields one after the other, and both programs "test each
+-- field, then each day, as soon as it is read". A layout lists the fields of one file, in order; fields k count from 0.
 use mathlib.Core.Bool.{Bool, cond, not, _||_}
 use mathlib.Core.List.{List}
 use Prim.Native.Nat.{ℕ, _+_}

@@ -1,5 +1,6 @@
--- The machine that a program drives, whatever its file: what it wants next, and what it does with the bytes b that came (fewer than it wanted where the
--- file has ended). It goes by the fields of the layout, over the header's bytes that it holds, and then by the days.
+-- The machine that a program drives, whatever its file: what it wants next, and what it does with the bytes b that
+-- came (fewer than it wanted where the file has ended). It goes by the fields of the layout, over the header's bytes
+-- that it holds, and then by the days.
 use mathlib.Core.Bool.{cond}
 use mathlib.Core.List.{List}
 use Prim.Native.Nat.{ℕ}

@@ -1,5 +1,6 @@
--- Document 01, Two programs: after the header, "then 32-bit readings"; Window sheet: "numbers here and in files with the high byte first". So day d of
--- a run takes the bytes of its readings, behind those of the days before it; h is the header's size.
+-- Document 01, Two programs: after the header, "then 32-bit readings"; Window sheet: "numbers here and in
+-- files with the high byte first". So day d of a run takes the bytes of its readings, behind those of the days
+-- before it; h is the header's size.
 use mathlib.Core.Bool.{cond}
 use mathlib.Core.List.{List}
 use Prim.Native.Nat.{ℕ, _+_, _*_, _/_}
@@ -41,8 +42,8 @@ fileSize run h = h + readingBytes * runReadings run
 unfoldable pub wholeDays : Run → ℕ → List ℕ → ℕ
 wholeDays run h bytes = firstOver (λ d. ltb (length bytes) (dayAt run h (d + 1))) (runDays run)
 
--- "a bad reading in a whole day is 5 even if the file ends later; a file that ends after its header but short of its last day, or bytes left
--- over after that day, are 4"; else what is said of the whole series
+-- "a bad reading in a whole day is 5 even if the file ends later; a file that ends after its header but short of its
+-- last day, or bytes left over after that day, are 4"; else what is said of the whole series
 unfoldable pub daysAnswer : Run → ℕ → ℕ → Said → List ℕ → Said
 daysAnswer run limit h done bytes =
     cond (ltb (badDay run limit (seriesIn bytes h)) (wholeDays run h bytes)) (badPlace (firstIllegal run limit (seriesIn bytes h)))

@@ -1,5 +1,6 @@
-// A file that is read field by field and day by day, whatever its header: document 01, Two programs. What any file is answered by its
-// bytes, that a machine which is handed them piece by piece computes it (proofs/Driven), and the small steps that such machines share.
+// A file that is read field by field and day by day, whatever its header: document 01, Two programs. What any file is
+// answered by its bytes, that a machine which is handed them piece by piece computes it (proofs/Driven), and the small
+// steps that such machines share.
 ghost use mathlib.Core.Path.{_≡_};
 ghost use Prim.Native.Nat.{ℕ, _*_};
 ghost use Rattle.over.specs.Over.{counted, table};
@@ -19,7 +20,8 @@ pub struct Span {
     pub width: usize,
 }
 
-// Where a machine stands: it goes on; it has ended with a number that carries nothing, or with 5; it has all days and no byte is left.
+// Where a machine stands: it goes on; it has ended with a number that carries nothing, or with 5; it
+// has all days and no byte is left.
 pub enum Stage {
     Going,
     Refused(u8),

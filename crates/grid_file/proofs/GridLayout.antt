@@ -1,4 +1,5 @@
--- Laws of the grid file's header: its fields' widths, where they start, and what refuses each; behind the last field there is none.
+-- Laws of the grid file's header: its fields' widths, where they start, and what refuses each;
+-- behind the last field there is none.
 -- Assumes nothing.
 use mathlib.Core.Path.{_≡_, refl, sym, ap, _∙_}
 use mathlib.Core.List.{List, [], _∷_}
@@ -12,7 +13,7 @@ use Rattle.over.specs.Over.{joined, sumOver, allOver}
 use Rattle.over.proofs.Tests.{all-at}
 use Rattle.fields.specs.Layout.{Field, noField, fieldAt, widthAt, layoutOf, startOf}
 use Rattle.fields.specs.Common.{markField, versionField, yearField, levelField}
-use Rattle.fields.proofs.Header.{Fits, field-past}
+use Rattle.fields.proofs.Header.{field-past, Fits, fits-by}
 use Rattle.grid_file.specs.Grid.{gridFields, gridLayout}
 
 -- the widths of the fields, and the places where they start
@@ -77,14 +78,13 @@ module _ (b : List ℕ) where
   pub grid-fits : (k : ℕ) → Fits (gridLayout b) 3 8 k
   grid-fits k = go (decLt k 4)
     where
-      known : {s w : ℕ} → s ≡ startOf (gridLayout b) k → w ≡ gridLayout b .width k → w ≤ 3 → s + w ≤ 8 → (0 < w → k < 4) → (w ≡ 0 → 4 ≤ k) → Fits (gridLayout b) 3 8 k
-      known s w few room field none =
-          let c = grid-count in
-          record { few = omega arith; room = omega arith; field = λ l. omega (arith, field (omega arith)); none = λ z. omega (arith, none (omega arith)) }
-
       go : Dec (k < 4) → Fits (gridLayout b) 3 8 k
-      go (yes l) = known (grid-start k l) (grid-width k l) (width-low k l) (start-low k l) (λ z. l) (λ z. absurd (omega (arith, width-some k l)))
-      go (no m) = known (start-none k (omega arith)) (width-none k (omega arith)) (omega arith) (omega arith) (λ z. absurd (omega arith)) (λ z. omega arith)
+      go (yes l) =
+          fits-by grid-count (grid-start k l) (grid-width k l) (width-low k l) (start-low k l)
+          (λ z. l) (λ z. absurd (omega (arith, width-some k l)))
+      go (no m) =
+          fits-by grid-count (start-none k (omega arith)) (width-none k (omega arith)) (omega arith) (omega arith)
+          (λ z. absurd (omega arith)) (λ z. omega arith)
 
 -- the number of field k, which is field i
 pub refusal-at : (b : List ℕ) (i : ℕ) {k : ℕ} → k ≡ i → i < 4 → fieldAt (gridFields b) i .refusal (getD gridStarts i 0) ≡ gridLayout b .refusal k

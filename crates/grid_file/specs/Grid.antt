@@ -1,5 +1,5 @@
--- Document 01, Two programs: "The window program reads a grid file: "GRD", version 1, year, level (widths as in the sheet), then
--- 32-bit readings." The header, and what the file is answered, by the file's bytes b.
+-- Document 01, Two programs: "The window program reads a grid file: "GRD", version 1, year, level (widths as in the
+-- sheet), then 32-bit readings." The header, and what the file is answered, by the file's bytes b.
 use mathlib.Core.List.{List, [], _∷_}
 use Prim.Native.Nat.{ℕ, _+_}
 use lib.ListN.{getD, replicate}

@@ -1,5 +1,5 @@
--- The machine that the window program drives, as a reader of a file (fields, Machine): what it holds, the names of its steps, and what
--- closing it answers.
+-- The machine that the window program drives, as a reader of a file (fields, Machine): what it holds, the names of its
+-- steps, and what closing it answers.
 use mathlib.Core.List.{List}
 use Prim.Native.Nat.{ℕ, _+_}
 use lib.ListN.{replicate}

@@ -1,7 +1,8 @@
 // The grid file: "GRD", version 1, year, level, then the readings of the reference period. Document 01, Two programs.
-// Its header is asked by three calls, for any bytes: behind the last byte there is 0, and behind the last field there is none.
-// A machine that the window program drives: `want` says how many bytes come next, and `feed` takes them, fewer where the file has ended.
-// Each field and each day is tested as soon as it is fed. What the program prints then stands in the room above.
+// Its header is asked by three calls, for any bytes: behind the last byte there is 0, and behind the last field there
+// is none. A machine that the window program drives: `want` says how many bytes come next, and `feed` takes them,
+// fewer where the file has ended. Each field and each day is tested as soon as it is fed. What the program prints
+// then stands in the room above.
 // Main theorem: driven over any bytes, the machine prints what the file's bytes are answered (room `printed`).
 ghost use mathlib.Core.Path.{_≡_};
 ghost use Prim.Native.Nat.{_≤_, _<_};

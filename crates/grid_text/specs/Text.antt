@@ -1,5 +1,5 @@
--- Document 01, Two programs: the window program prints the windows of the sheet that it finds, or `REFUSED` with the number and, for 5,
--- the place. These lines of a file's bytes, and of the machine that reads them.
+-- Document 01, Two programs: the window program prints the windows of the sheet that it finds, or `REFUSED` with the
+-- number and, for 5, the place. These lines of a file's bytes, and of the machine that reads them.
 use mathlib.Core.Bool.{cond}
 use mathlib.Core.List.{List, [], _∷_}
 use Prim.Native.Nat.{ℕ}

@@ -1,5 +1,5 @@
--- Nothing else meets the promise of a call that puts a text into a buffer, and 0 is answered exactly where the buffer is too short, since
--- no text is empty.
+-- Nothing else meets the promise of a call that puts a text into a buffer, and 0 is answered exactly where the buffer
+-- is too short, since no text is empty.
 -- Assumes nothing.
 use mathlib.Core.Path.{_≡_, sym}
 use mathlib.Core.List.{List}

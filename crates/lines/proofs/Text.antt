@@ -1,4 +1,5 @@
--- Laws of text in a lent buffer: two writes, one after the other, are one; what a loop that writes keeps; all or nothing.
+-- Laws of text in a lent buffer: two writes, one after the other, are one; what a loop
+-- that writes keeps; all or nothing.
 -- Assumes nothing.
 use mathlib.Core.Path.{_≡_, refl, sym, ap, _∙_}
 use mathlib.Core.Bool.{true, false}
@@ -96,7 +97,10 @@ module _ (f : ℕ → List ℕ) where
   text-room zero k l = absurd (not-suc-le-zero l)
   text-room (suc n) k l = go (decLt k n) (text-room n k)
     where
-      go : Dec (k < n) → (k < n → length (textOver f k) + length (f k) ≤ length (textOver f n)) → length (textOver f k) + length (f k) ≤ length (textOver f (suc n))
+      go :
+          Dec (k < n)
+          → (k < n → length (textOver f k) + length (f k) ≤ length (textOver f n))
+          → length (textOver f k) + length (f k) ≤ length (textOver f (suc n))
       go (yes m) ih = omega (arith, ih m, ap length (text-suc n), length-append (textOver f n) (f n))
       go (no m) ih =
           let e : k ≡ n = omega arith in

@@ -1,5 +1,5 @@
--- Document 01, Two programs: "Both programs [..] put one space between fields and LF after each line." A line of figures is an answer's
--- number and what it carries. Bytes are ASCII: 10 is LF, 32 the space, 48 to 57 the digits.
+-- Document 01, Two programs: "Both programs [..] put one space between fields and LF after each line." A line of
+-- figures is an answer's number and what it carries. Bytes are ASCII: 10 is LF, 32 the space, 48 to 57 the digits.
 use mathlib.Core.Bool.{cond}
 use mathlib.Core.List.{List, [], _∷_, _++_}
 use Prim.Native.Nat.{ℕ, suc, _+_, _^_}

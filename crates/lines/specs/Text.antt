@@ -1,5 +1,5 @@
--- Text as bytes, and text in a lent buffer. A text buffer that is too short has no number of its own (14 is the sheet's): a call writes
--- the whole text and answers its length, or writes nothing and answers 0.
+-- Text as bytes, and text in a lent buffer. A text buffer that is too short has no number of its own (14 is the
+-- sheet's): a call writes the whole text and answers its length, or writes nothing and answers 0.
 use mathlib.Core.Path.{_≡_}
 use mathlib.Core.Bool.{cond}
 use mathlib.Core.List.{List, [], _++_}
@@ -12,7 +12,8 @@ use Rattle.over.specs.Over.{joined}
 unfoldable pub textOver : (ℕ → List ℕ) → ℕ → List ℕ
 textOver f n = joined _++_ [] f n
 
--- a text put into a buffer from a place on, all or nothing. What is answered: the place behind it where the buffer holds it, else the place
+-- a text put into a buffer from a place on, all or nothing. What is answered: the place behind the text where the
+-- buffer holds it, else the place itself
 unfoldable pub endIn : ℕ → List ℕ → List ℕ → ℕ
 endIn at text buffer = cond (leb (at + length text) (length buffer)) (at + length text) at
 
@@ -20,7 +21,8 @@ endIn at text buffer = cond (leb (at + length text) (length buffer)) (at + lengt
 unfoldable pub putIn : ℕ → List ℕ → List ℕ → List ℕ
 putIn at text buffer = cond (leb (at + length text) (length buffer)) (take at buffer ++ (text ++ drop (at + length text) buffer)) buffer
 
--- so a call answers r, and the buffer d became e. Every text of a program is put at place 0: its length is answered, or 0.
+-- so a call answers r, and the buffer d became e. Every text of a program is put at place 0: its length is answered,
+-- or 0.
 pub record Put (at : ℕ) (text d e : List ℕ) (r : ℕ) : Type 0 where
   pub end : r ≡ endIn at text d
   pub is : e ≡ putIn at text d

@@ -1,6 +1,6 @@
 // The lines of figures that the two programs print, as bytes: a statement, and a refusal. Document 01, Two programs.
-// Each public call writes its whole text at the start of a lent buffer and answers the text's length; all further bytes stay. Where the
-// buffer is too short it writes nothing and answers 0.
+// Each public call writes its whole text at the start of a lent buffer and answers the text's length; all further bytes
+// stay. Where the buffer is too short it writes nothing and answers 0.
 ghost use mathlib.Core.Path.{_≡_};
 ghost use Prim.Native.Nat.{_+_, _≤_};
 ghost use lib.Dec.{leb};
@@ -11,8 +11,8 @@ ghost use Rattle.lines.specs.Figures.{decimalOf, fieldOf, figuresLine, r
 // Bytes of the word `REFUSED` and the space after it.
 const MARK_SIZE: usize = 8;
 
-// Each `add` writes behind what the buffer holds up to `at`, and answers the place after what it wrote. Bytes that do not fit are not
-// written, and the place itself is answered.
+// Each `add` writes behind what the buffer holds up to `at`, and answers the place after what it wrote. Bytes that do
+// not fit are not written, and the place itself is answered.
 pub fn add_bytes(buf: &mut [u8], at: usize, bytes: &[u8]) -> usize
     ensures { λ r. ⌜ Put at (now (bytes .entry)) (now (buf .entry)) (now (buf .exit)) r ⌝ }
 {
@@ -65,7 +65,8 @@ fn add_field(buf: &mut [u8], at: usize, i: usize, x: u64) -> usize
     add_number(buf, n, x)
 }
 
-// Does the line of these figures fit into `room` bytes? It stops at the first field that does not, so that nothing overflows.
+// Does the line of these figures fit into `room` bytes? It stops at the first field that does
+// not, so that nothing overflows.
 fn figures_fit(figures: &[u64], room: usize) -> bool
     ensures { λ r. ⌜ r ≡ leb (length (figuresLine (now (figures .entry)))) room ⌝ }
 {

@@ -1,4 +1,5 @@
--- Laws of the window program's lines: the cases of a quarter and of a season, where a run ends, and how long all lines are at most.
+-- Laws of the window program's lines: the cases of a quarter and of a season, where a run ends, and
+-- how long all lines are at most.
 -- Assumes nothing.
 use mathlib.Core.Path.{_≡_, refl, sym, ap}
 use mathlib.Core.Bool.{Bool, true, false, cond, not, _&&_, and-true}

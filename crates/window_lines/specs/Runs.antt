@@ -1,5 +1,6 @@
--- Document 01, Two programs: "It prints the line `HLZ`, year, level; then per season in order its number and `none`, or one line per
--- unbroken run, number and from-to times." f tells which quarters of the season are set. Times have two digits; no run wraps round midnight.
+-- Document 01, Two programs: "It prints the line `HLZ`, year, level; then per season in order its number and `none`, or
+-- one line per unbroken run, number and from-to times." f tells which quarters of the season are set. Times have two
+-- digits; no run wraps round midnight.
 use mathlib.Core.Bool.{Bool, cond, not, _&&_, _||_}
 use mathlib.Core.List.{List, [], _∷_, _++_}
 use Prim.Native.Nat.{ℕ, _+_, _-_, _*_, _/_, _%_}

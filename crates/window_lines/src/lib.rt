@@ -1,5 +1,5 @@
-// The lines of windows that the window program prints, as bytes. Document 01, Two programs. Room `lines` has the other texts, and says how a
-// text is put into a lent buffer.
+// The lines of windows that the window program prints, as bytes. Document 01, Two programs. Room `lines` has the other
+// texts, and says how a text is put into a lent buffer.
 // Main theorem: the printed examples of document 01 are what the definitions say (proofs/Cases).
 ghost use mathlib.Core.Path.{_≡_};
 ghost use mathlib.Core.Bool.{not};
@@ -18,8 +18,8 @@ const TEXT_MOST: usize = 5425;
 // Bytes that are enough for the line of any two figures.
 const PAIR_MOST: usize = 45;
 
-// Each `add` writes behind what the buffer holds up to `at`, and answers the place after what it wrote.
-// The time at which a quarter begins, two digits each; 24:00 for the day's end.
+// The time at which a quarter begins, two digits each; 24:00 for the day's end. Each `add` writes behind what the
+// buffer holds up to `at`, and answers the place after what it wrote.
 fn add_time(buf: &mut [u8], at: usize, q: usize) -> usize
     requires { ⌜ (q ≤ dayQuarters) × (at + 5 ≤ length (now buf)) ⌝ }
     ensures { λ r. ⌜ Wrote (now (buf .entry)) at (timeOf q) (now (buf .exit)) r ⌝ }

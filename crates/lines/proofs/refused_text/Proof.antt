@@ -14,19 +14,23 @@ use Rattle.lines.proofs.Figures.{refused-is, refused-long}
 use Rattle.lines.proofs.refused_text.Statement.{statement}
 use Rattle.lines.proofs.refused_text.Tie as tie
 
+-- where the line fits, and where the call began
+abbrev told : tie.After-add-bytes → tie.Then2
+told e = e .before .before .before
+
+abbrev first : tie.Then2 → tie.Start
+first e = e .before .before .before .before .before
+
 -- the mark has room
-marked :
-    (e : tie.After-add-bytes)
-    → let a = e .before .before .before .before .before .before .before .before .args in Wrote (a .buf .now) 0 refusedMark (e .add-bytes .last .0) (e .add-bytes .result)
+marked : (e : tie.After-add-bytes) → Wrote (first (told e) .args .buf .now) 0 refusedMark (e .add-bytes .last .0) (e .add-bytes .result)
 marked e = fitted (e .add-bytes .ensures) (omega arith)
 
 add-figures-requires : tie.Need-add-figures-requires
 add-figures-requires c κs =
     let mark = c .before .before .before in
-    let room = mark .before .before .before in
-    let a = room .before .before .before .before .before .args in
-    let told = sym (room .before .figures-fit .ensures) ∙ room .if2 .taken in
-    omega (arith, leb-true (length (figuresLine (a .figures .now))) (length (now (a .buf)) - 8) told, marked mark .end, marked mark .same)
+    let a = first (told mark) .args in
+    let fit = sym (told mark .before .figures-fit .ensures) ∙ told mark .if2 .taken in
+    omega (arith, leb-true (length (figuresLine (a .figures .now))) (length (now (a .buf)) - 8) fit, marked mark .end, marked mark .same)
 
 returns-2 : tie.Need-returns-2
 returns-2 c =
@@ -36,8 +40,8 @@ returns-2 c =
 returns-3 : tie.Need-returns-3
 returns-3 c =
     let a = c .before .before .before .before .before .args in
-    let told = sym (c .before .figures-fit .ensures) ∙ c .if2 .left in
-    short _ _ _ (omega (arith, refused-long (a .figures .now), leb-false (length (figuresLine (a .figures .now))) (length (now (a .buf)) - 8) told))
+    let fit = sym (c .before .figures-fit .ensures) ∙ c .if2 .left in
+    short _ _ _ (omega (arith, refused-long (a .figures .now), leb-false (length (figuresLine (a .figures .now))) (length (now (a .buf)) - 8) fit))
 
 pub refused-text-spec : {M : Type 1} → statement M
 refused-text-spec =

@@ -1,4 +1,5 @@
--- `window_lines::add_head` meets its contract: the line of the two figures fits into its array, and is written after the mark.
+-- `window_lines::add_head` meets its contract: the line of the two figures fits into its array,
+-- and is written after the mark.
 -- Assumes nothing.
 use mathlib.Core.Path.{_≡_, sym, ap}
 use mathlib.Core.List.{[], _∷_}

@@ -20,8 +20,11 @@ abbrev μ-loop : tie.MeasureT-loop
 
 returns : tie.Need-returns Inv-loop μ-loop
 returns c =
-    let a = c .before .before .before .before .args in
-    (run-stops (isSet (a .windows .now) (a .season)) _ (c .before .before .before .loop .inv .2) (omega arith) (sym (c .before .is-clear .ensures) ∙ c .if1 .taken), omega arith)
+    let a = c .before .before .before .before .args in (
+      run-stops (isSet (a .windows .now) (a .season)) _ (c .before .before .before .loop .inv .2)
+          (omega arith) (sym (c .before .is-clear .ensures) ∙ c .if1 .taken),
+      omega arith,
+    )
 
 loop-again : tie.Need-loop-again Inv-loop μ-loop
 loop-again c = (omega arith, refl, passed-more (c .before .before .before .loop .inv .2) (sym (c .before .is-clear .ensures) ∙ c .if1 .left))

@@ -1,4 +1,5 @@
--- `window_lines::windows_text` meets its contract: the text is made in an array that holds every text of windows, and copied where it fits.
+-- `window_lines::windows_text` meets its contract: the text is made in an array that holds every text of
+-- windows, and copied where it fits.
 -- Assumes nothing.
 use mathlib.Core.Path.{sym, ap}
 use native.Mathlib.Omega.{arith}

@@ -1,13 +1,13 @@
 -- `grid_file::GridFile::take_day` meets its contract, a case for each return.
 -- Assumes nothing.
 use mathlib.Core.Path.{_≡_, sym, ap, _∙_}
-use Prim.Native.Nat.{ℕ, _*_}
+use Prim.Native.Nat.{ℕ, _*_, _≤_}
 use native.Mathlib.Omega.{arith}
 use borrow.Author.Needs.{needs}
 use lib.Seq.{length-take-le}
 use lib.ListN.{length, take}
 use Rattle.fields.specs.Machine.{dayGiven}
-use Rattle.fields.specs.Series.{readingsOf}
+use Rattle.fields.specs.Series.{mostReadings, readingsOf}
 use Rattle.fields.specs.Stages.{dayStage}
 use Rattle.grid_file.specs.GridMachine.{gridReader}
 use Rattle.fields.proofs.Bytes.{readings-held}
@@ -18,47 +18,53 @@ use Rattle.readings.proofs.Runs.{len-most}
 use Rattle.grid_file.proofs.GridFile.take_day.Statement.{statement}
 use Rattle.grid_file.proofs.GridFile.take_day.Tie as tie
 
-mul-if1 : tie.Need-mul-if1
-mul-if1 c = let s = c .before .before .args .self in omega (arith, c .day-len .ensures, len-most (Period (s .grid .year)) (s .grid .seen))
+-- once the length of the day that comes next is known: the call's arguments, and that the day is short
+abbrev first : tie.After-day-len → tie.Start
+first e = e .before .before
+
+few : (e : tie.After-day-len) → e .day-len .result ≤ mostReadings
+few e =
+    let s = first e .args .self in
+    omega (arith, e .day-len .ensures, len-most (Period (s .grid .year)) (s .grid .seen))
 
 returns : tie.Need-returns
-returns c = let a = c .before .before .before .before .args in c .ended .ensures ∙ day-cut gridReader (a .self) (a .b .now) (omega (arith, c .before .before .day-len .ensures))
+returns c =
+    let e = c .before .before in
+    c .ended .ensures ∙ day-cut gridReader _ _ (omega (arith, e .day-len .ensures))
 
 array-share-prefix-readings : tie.Need-array-share-prefix-readings
 array-share-prefix-readings c =
-    let s = c .before .before .before .before .args .self in
-    let h : length (c .readings-in .result) ≡ 100 = search needs in
-    omega (arith, c .before .before .day-len .ensures, len-most (Period (s .grid .year)) (s .grid .seen))
+    let h : length (c .readings-in .result) ≡ mostReadings = search needs in
+    omega (arith, few (c .before .before))
 
 slice-aggregate-day : tie.Need-slice-aggregate-day
 slice-aggregate-day c =
-    let s = c .before .before .before .before .before .args .self in
-    let h : length (c .before .readings-in .result) ≡ 100 = search needs in
-    sym (length-take-le _ _ (omega (arith, c .before .before .before .day-len .ensures, len-most (Period (s .grid .year)) (s .grid .seen))))
+    let h : length (c .before .readings-in .result) ≡ mostReadings = search needs in
+    sym (length-take-le _ _ (omega (arith, few (c .before .before .before))))
 
 returns-2 : tie.Need-returns-2
 returns-2 c =
-    let a = c .before .before .before .before .before .before .before .before .before .args in
-    let len = c .before .before .before .before .before .before .before .day-len in
-    let all = c .before .before .before .before .before .readings-in in
-    let few = len-most (Period (a .self .grid .year)) (a .self .grid .seen) in
+    let given = c .before .before .before in
+    let all = given .before .before in
+    let e = all .before .before in
+    let a = first e .args in
+    let n = e .day-len .result in
     let day =
-    ap (take (len .result)) (all .ensures)
-    ∙ readings-held (a .b .now) (len .result) (omega (arith, len .ensures, few)) (omega arith)
-    ∙ ap (λ (n : ℕ). readingsOf (take (4 * n) (a .b .now))) (len .ensures) in
-    let step = c .before .before .before .day .ensures in
-    let stage = c .stage-of .ensures ∙ ap dayStage (step .0) in
-    (λ i. record { field = a .self .field; head = a .self .head; grid = step .1 i; stage = stage i })
-    ∙ day-given (a .self) (take (len .result) (all .result))
+    ap (take n) (all .readings-in .ensures)
+    ∙ readings-held (a .b .now) n (few e) (omega arith)
+    ∙ ap (λ (k : ℕ). readingsOf (take (4 * k) (a .b .now))) (e .day-len .ensures) in
+    let stage = c .stage-of .ensures ∙ ap dayStage (given .day .ensures .0) in
+    (λ i. record { field = a .self .field; head = a .self .head; grid = given .day .ensures .1 i; stage = stage i })
+    ∙ day-given (a .self) (take n (all .readings-in .result))
     ∙ ap (dayGiven gridReader (a .self)) day
-    ∙ day-held gridReader (a .self) (a .b .now) (omega (arith, len .ensures))
+    ∙ day-held gridReader (a .self) (a .b .now) (omega (arith, e .day-len .ensures))
 
 pub take-day-spec : {M : Type 1} → statement M
 take-day-spec =
     tie.close
     (tie.spec
     (λ c κs. search needs)  -- day-len-requires
-    mul-if1
+    (λ c. omega (arith, few c))  -- mul-if1
     (λ c κs. search needs)  -- ended-requires
     returns
     (λ c κs. search needs)  -- readings-in-requires
