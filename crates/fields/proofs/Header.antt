@@ -1,7 +1,7 @@
 -- Laws of a file's header: where its fields start, what a field that did not stop says, and
 -- the cases of the header's answer.
 -- Assumes nothing.
-use mathlib.Core.Path.{_≡_}
+use mathlib.Core.Path.{_≡_, ap}
 use mathlib.Core.Bool.{true, false, not}
 use mathlib.Core.List.{List}
 use Prim.Native.Nat.{ℕ, zero, suc, _+_, _≤_, _<_}
@@ -16,7 +16,8 @@ use Rattle.over.proofs.Sums.{sum-none, sum-more, sum-cong}
 use Rattle.over.proofs.Tests.{Passed, passed-more}
 use Rattle.over.proofs.First.{first-at, first-fails}
 use Rattle.answers.specs.Said.{only}
-use Rattle.fields.specs.Layout.{Layout, startOf, cutOff, stops, firstStop, headAnswer}
+use Rattle.fields.specs.declared.Span.{Span}
+use Rattle.fields.specs.Layout.{Layout, startOf, fieldSpan, cutOff, stops, firstStop, headAnswer}
 
 module _ (l : Layout) where
   pub field-none : startOf l 0 ≡ 0
@@ -66,6 +67,7 @@ pub record Fits (l : Layout) (most size k : ℕ) : Type 0 where
   pub field : 0 < l .width k → k < l .count
   pub none : l .width k ≡ 0 → l .count ≤ k
 
+-- by the start, the width and the number of fields that a layout's laws work out
 pub fits-by :
     {l : Layout} {most size k n s w : ℕ}
     → l .count ≡ n
@@ -77,7 +79,26 @@ pub fits-by :
     → (w ≡ 0 → n ≤ k)
     → Fits l most size k
 fits-by c s w few room field none =
-    record { few = omega arith; room = omega arith; field = λ l. omega (arith, field (omega arith)); none = λ z. omega (arith, none (omega arith)) }
+    record {
+      few = omega arith;
+      room = omega arith;
+      field = λ h. omega (arith, field (omega arith));
+      none = λ z. omega (arith, none (omega arith));
+    }
+
+-- the same of the span of field k, which the code has asked for
+module _ {l : Layout} {most size k : ℕ} {p : Span} (fit : Fits l most size k) (e : p ≡ fieldSpan l k) where
+  pub span-width : p .width ≡ l .width k
+  span-width = ap (λ (x : Span). x .width) e
+
+  pub span-few : p .width ≤ most
+  span-few = omega (arith, span-width, fit .few)
+
+  pub is-field : 0 < p .width → k < l .count
+  is-field h = fit .field (omega (arith, span-width))
+
+  pub no-field : (0 < p .width → ⊥) → l .count ≤ k
+  no-field h = fit .none (omega (arith, span-width))
 
 -- fields of the same widths start at the same places
 pub field-cong : (l m : Layout) (k : ℕ) → ((j : ℕ) → j < k → l .width j ≡ m .width j) → startOf l k ≡ startOf m k

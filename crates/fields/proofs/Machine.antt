@@ -4,19 +4,26 @@
 use mathlib.Core.Path.{_≡_, refl, sym, ap, _∙_}
 use mathlib.Core.Bool.{Bool, true, false, cond}
 use mathlib.Core.List.{List}
-use Prim.Native.Nat.{ℕ, _+_, _≤_, _<_}
+use Prim.Native.Nat.{ℕ, _+_, _*_, _≤_, _<_}
 use native.Mathlib.Omega.{arith}
 use borrow.Author.Tests.{lt-ltb, le-ltb, eq-eqb, ne-eqb}
 use lib.Dec.{eqb}
 use lib.ListN.{length, take}
 use lib.Seq.{paste}
-use Rattle.packed.specs.Bytes.{laid}
+use Rattle.over.specs.Over.{table}
+use Rattle.packed.specs.Bytes.{fourAt, laid}
 use Rattle.packed.proofs.Bytes.{laid-whole}
+use Rattle.readings.specs.Runs.{dayLen}
+use Rattle.readings.proofs.Runs.{len-most}
+use Rattle.fields.specs.declared.Span.{Span}
 use Rattle.fields.specs.declared.Stage.{Stage}
 use Rattle.fields.specs.declared.Stage.the-variants.{Going, Refused, Complete}
-use Rattle.fields.specs.Layout.{startOf}
+use Rattle.fields.specs.Layout.{startOf, fieldSpan}
+use Rattle.fields.specs.Series.{readingBytes, mostReadings, readingsOf}
 use Rattle.fields.specs.Stages.{going, stageOf, dayStage}
 use Rattle.fields.specs.Machine.{Reader, layoutIn, fieldSize, nextSize, wants, headWith, numberWith, fieldFed, dayIn, dayGiven, dayFed, endFed, fed}
+use Rattle.fields.proofs.Bytes.{readings-held}
+use Rattle.fields.proofs.Header.{Fits, span-width}
 
 module _ {S : Type 0} (r : Reader S) (s : S) where
   -- a machine that has ended wants nothing and stays
@@ -91,7 +98,7 @@ module _ {S : Type 0} (r : Reader S) (s : S) where
           let m : numberWith r s b ≡ 0 = ap (λ (d : List ℕ). r .layout d .refusal (r .field s)) (sym e) ∙ z in
           simp (le-ltb (length b) (fieldSize r s) l, eq-eqb _ 0 m) (ap (r .headed s) e)
 
-    -- a day
+    -- a day; its readings are the first in the bytes, as many as the code asks for
     pub day-cut : length b < nextSize r s → r .ended s (Refused 4) ≡ dayFed r s b
     unfolding dayFed
     day-cut l = rw (lt-ltb (length b) (nextSize r s) l)
@@ -99,6 +106,17 @@ module _ {S : Type 0} (r : Reader S) (s : S) where
     pub day-held : nextSize r s ≤ length b → dayGiven r s (dayIn r s b) ≡ dayFed r s b
     unfolding dayFed
     day-held l = rw (le-ltb (length b) (nextSize r s) l)
+
+    pub day-read :
+        {n : ℕ} {all : List ℕ}
+        → n ≡ dayLen (r .run s) (r .seen s)
+        → all ≡ table (λ i. fourAt b (readingBytes * i)) mostReadings
+        → readingBytes * n ≤ length b
+        → dayGiven r s (take n all) ≡ dayFed r s b
+    day-read {n} e f l =
+        let few = len-most (r .run s) (r .seen s) in
+        let day = readings-held b n (omega arith) l ∙ ap (λ (m : ℕ). readingsOf (take (readingBytes * m) b)) e in
+        ap (dayGiven r s) (ap (take n) f ∙ day) ∙ day-held (omega arith)
 
     -- what comes after the last day
     pub end-left : 0 < length b → r .ended s (Refused 4) ≡ endFed r s b
@@ -108,6 +126,21 @@ module _ {S : Type 0} (r : Reader S) (s : S) where
     pub end-done : length b ≡ 0 → r .ended s Complete ≡ endFed r s b
     unfolding endFed
     end-done l = ap (λ (t : Bool). r .ended s (cond t (Refused 4) Complete)) (sym (le-ltb 0 (length b) (omega arith)))
+
+  -- by the span of the next field, which the code has asked for
+  module _ {most size : ℕ} {p : Span} (fit : Fits (layoutIn r s) most size (r .field s)) (e : p ≡ fieldSpan (layoutIn r s) (r .field s)) where
+    module _ (b : List ℕ) where
+      pub span-cut : length b < p .width → r .ended s (Refused 12) ≡ fieldFed r s b
+      span-cut l = field-cut b (omega (arith, span-width fit e))
+
+      module _ (l : p .width ≤ length b) where
+        pub span-held : fieldSize r s ≤ length b
+        span-held = omega (arith, span-width fit e)
+
+        pub span-laid : {next : List ℕ} → length (r .head s) ≡ size → next ≡ laid (r .head s) (p .start) (take (p .width) b) → next ≡ headWith r s b
+        span-laid long =
+            let at = ap (λ (x : Span). x .start) e in
+            head-with b at (span-width fit e) (omega (arith, at, span-width fit e, fit .room)) l
 
   -- a day's readings, given to the machine of days
   module _ (day : List ℕ) where

@@ -16,7 +16,9 @@ use Rattle.customer_file.proofs.stage_of.Statement.{statement}
 use Rattle.customer_file.proofs.stage_of.Tie as tie
 
 cast-number : tie.Need-cast-number
-cast-number c = let e = ap (λ (f : Flat). f .number) (c .before .of-decision .ensures) in omega (arith, e, decision-small (c .before .before .before .args .decision) .1)
+cast-number c =
+    let e = ap (λ (f : Flat). f .number) (c .before .of-decision .ensures) in
+    omega (arith, e, decision-small (c .before .before .before .args .decision) .1)
 
 returns : tie.Need-returns
 returns c = let e = ap (λ (f : Flat). f .number) (c .before .before .of-decision .ensures) in rw (eq-eqb _ 0 (sym e ∙ c .if1 .taken))

@@ -1,58 +1,51 @@
 -- `customer_file::CustomerFile::take_field` meets its contract, a law for each return.
 -- Assumes nothing.
-use mathlib.Core.Path.{_≡_, sym, ap, _∙_}
+use mathlib.Core.Path.{_≡_, sym, _∙_}
 use Prim.Native.Nat.{_+_, _≤_}
 use native.Mathlib.Omega.{arith}
 use borrow.Author.Needs.{needs}
 use lib.ListN.{length}
 use lib.Seq.{length-take-le}
-use Rattle.fields.specs.declared.Span.{Span}
-use Rattle.customer_head.specs.Header.{customerLayout}
 use Rattle.fields.specs.declared.Stage.the-variants.{Going}
-use Rattle.fields.specs.Machine.{headWith}
+use Rattle.fields.specs.Machine.{fieldSize, headWith}
 use Rattle.customer_file.specs.CustomerMachine.{customerReader}
 use Rattle.customer_head.proofs.CustomerLayout.{count-is, fits}
-use Rattle.fields.proofs.Machine.{head-with, field-cut, field-refused, field-taken}
+use Rattle.fields.proofs.Header.{is-field}
+use Rattle.fields.proofs.Machine.{field-refused, field-taken, span-cut, span-held, span-laid}
 use Rattle.customer_file.proofs.CustomerFile.take_field.Statement.{statement}
 use Rattle.customer_file.proofs.CustomerFile.take_field.Tie as tie
 
--- the header with the field laid into it, the bytes that it takes, and the fields so far
-head-at : (e : tie.After-lay) → let a = e .before .before .before .before .before .before .before .args in e .lay .last .0 ≡ headWith customerReader (a .self) (a .b .now)
+-- where the field is laid: the call's beginning
+abbrev first : tie.After-lay → tie.Start
+first e = let held = e .before .before .before .before in held .before .before .before
+
+-- the header with the field in it, the bytes that it takes, and the fields so far
+head-at : (e : tie.After-lay) → e .lay .last .0 ≡ headWith customerReader (first e .args .self) (first e .args .b .now)
 head-at e =
-    let a = e .before .before .before .before .before .before .before .args in
-    let long : length (a .self .head) ≡ 159 = search needs in
-    let at = ap (λ (x : Span). x .start) (e .before .before .before .before .before .before .before .pre .0) in
-    let size = ap (λ (x : Span). x .width) (e .before .before .before .before .before .before .before .pre .0) in
-    head-with customerReader (a .self) (a .b .now) at size (omega (arith, at, size, fits (a .self .head) (a .self .field) .room)) (omega arith) (e .lay .ensures)
+    let s = first e .args .self in
+    let long : length (s .head) ≡ 159 = search needs in
+    span-laid customerReader s (fits _ _) (first e .pre .0) _ (omega arith) long (e .lay .ensures)
 
-long-at : (e : tie.After-lay) → let a = e .before .before .before .before .before .before .before .args in customerLayout (a .self .head) .width (a .self .field) ≤ length (a .b .now)
-long-at e = omega (arith, e .before .before .before .before .if1 .left, ap (λ (x : Span). x .width) (e .before .before .before .before .before .before .before .pre .0))
+held-at : (e : tie.After-lay) → fieldSize customerReader (first e .args .self) ≤ length (first e .args .b .now)
+held-at e = let a = first e .args in span-held customerReader (a .self) (fits _ _) (first e .pre .0) (a .b .now) (omega arith)
 
-few-at : (e : tie.After-lay) → e .before .before .before .before .before .before .before .args .self .field ≤ 56
-few-at e =
-    let s = e .before .before .before .before .before .before .before .args .self in
-    let size = ap (λ (x : Span). x .width) (e .before .before .before .before .before .before .before .pre .0) in
-    omega (arith, fits (s .head) (s .field) .field (omega (arith, size, e .before .before .before .before .before .before .before .pre .1)), count-is (s .head))
+few-at : (e : tie.After-lay) → first e .args .self .field ≤ 56
+few-at e = omega (arith, is-field (fits _ _) (first e .pre .0) (first e .pre .1), count-is (first e .args .self .head))
 
 returns : tie.Need-returns
-returns c =
-    let a = c .before .before .before .before .args in
-    let size = ap (λ (x : Span). x .width) (c .before .before .before .before .pre .0) in
-    c .ended .ensures ∙ field-cut customerReader (a .self) (a .b .now) (omega (arith, size))
+returns c = c .ended .ensures ∙ span-cut customerReader _ (fits _ _) (c .before .before .before .before .pre .0) _ (omega arith)
 
 returns-2 : tie.Need-returns-2
 returns-2 c =
-    let a = c .before .before .before .before .before .before .before .before .before .before .before .before .args in
     let e = c .before .before .before .before .before in
-    c .ended2 .ensures
-    ∙ field-refused customerReader (a .self) (a .b .now) (long-at e) (head-at e) (c .before .before .refusal .ensures) (c .before .if2 .taken)
+    c .ended2 .ensures ∙ field-refused customerReader _ _ (held-at e) (head-at e) (c .before .before .refusal .ensures) (c .before .if2 .taken)
 
 returns-3 : tie.Need-returns-3
 returns-3 c =
-    let a = c .before .before .before .before .before .before .before .before .before .before .before .before .before .args in
-    let e = c .before .before .before .before .before .before in
-    (λ i. record { field = a .self .field + 1; head = e .lay .last .0; customer = c .opened-after .ensures i; stage = Going })
-    ∙ field-taken customerReader (a .self) (a .b .now) (long-at e) (head-at e) (sym (c .before .before .before .refusal .ensures) ∙ c .before .before .if2 .left)
+    let passed = c .before .before in
+    let e = passed .before .before .before .before in
+    (λ i. record { field = first e .args .self .field + 1; head = e .lay .last .0; customer = c .opened-after .ensures i; stage = Going })
+    ∙ field-taken customerReader _ _ (held-at e) (head-at e) (sym (passed .before .refusal .ensures) ∙ passed .if2 .left)
 
 pub take-field-spec : {M : Type 1} → statement M
 take-field-spec =
