@@ -16,7 +16,9 @@ returns-3 : tie.Need-returns-3
 returns-3 c = rw (c .before .before .stage2 .given .1) (c .with-place .ensures, rw (c .with-place .ensures) (omega arith))
 
 returns-4 : tie.Need-returns-4
-returns-4 c = rw (c .before .before .enum-told2 .given .1, ← (c .before .close .ensures)) (c .of-decision .ensures, rw (c .of-decision .ensures) (decision-small (c .before .close .result) .0))
+returns-4 c =
+    rw (c .before .before .enum-told2 .given .1, ← (c .before .close .ensures))
+    (c .of-decision .ensures, rw (c .of-decision .ensures) (decision-small (c .before .close .result) .0))
 
 pub answer-spec : {M : Type 1} → statement M
 answer-spec =

@@ -16,13 +16,15 @@ array-share-prefix-line : tie.Need-array-share-prefix-line
 array-share-prefix-line c = let h : length (c .line-of .result) ≡ 8 = search needs in omega (arith, c .before .answer .ensures .1)
 
 slice-aggregate-figures-text : tie.Need-slice-aggregate-figures-text
-slice-aggregate-figures-text c = let h : length (c .before .line-of .result) ≡ 8 = search needs in sym (length-take-le _ _ (omega (arith, c .before .before .answer .ensures .1)))
+slice-aggregate-figures-text c =
+    let h : length (c .before .line-of .result) ≡ 8 = search needs in
+    sym (length-take-le _ _ (omega (arith, c .before .before .answer .ensures .1)))
 
 returns : tie.Need-returns
 returns c =
-    let a = c .before .before .before .before .before .before .before .before .args in
-    let e = c .before .before .before .before .before .before .answer .ensures in
-    let line = line-of (answerOf (a .file)) (e .0) (e .1) (c .before .before .before .before .before .line-of .ensures) in
+    let listed = c .before .before .before .before .before in
+    let e = listed .before .answer .ensures in
+    let line = line-of (answerOf (listed .before .before .before .args .file)) (e .0) (e .1) (listed .line-of .ensures) in
     put-as (ap figuresLine line) (c .before .before .figures-text .ensures)
 
 pub text-spec : {M : Type 1} → statement M
