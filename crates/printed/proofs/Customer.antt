@@ -1,5 +1,5 @@
--- What the statement program prints is what its file's bytes are answered: the machine of a customer file, driven over any bytes, prints the line of
--- the answer that document 01 gives for them.
+-- What the statement program prints is what its file's bytes are answered: the machine of a customer file, driven over
+-- any bytes, prints the line of the answer that document 01 gives for them.
 -- Assumes nothing.
 use mathlib.Core.Path.{_≡_, refl, sym, ap, _∙_}
 use mathlib.Core.Bool.{false}
@@ -57,9 +57,12 @@ halted : {s : CustomerFile} {x : Said} (t : CustomerFile) → t ≡ s → going 
 halted t e g x = rw (← e) (record { says = ap statementLine x; stays = λ b. sym (fed-none customerReader t g b) })
 
 -- a day's refusal says what the machine of days answers
-day-ends : (closing : Said) (c : Customer) (day : List ℕ) → (going (stageOf (dayAnswer c day)) ≡ false) × (saidOfStage (stageOf (dayAnswer c day)) closing ≡ dayAnswer c day)
+abbrev Ends : Said → Said → Type 0
+Ends closing x = (going (stageOf x) ≡ false) × (saidOfStage (stageOf x) closing ≡ x)
+
+day-ends : (closing : Said) (c : Customer) (day : List ℕ) → Ends closing (dayAnswer c day)
 unfolding stageOf
-day-ends closing = day-cases (λ x. (going (stageOf x) ≡ false) × (saidOfStage (stageOf x) closing ≡ x)) (refl, refl) (refl, refl) (λ place. (refl, refl)) (refl, refl)
+day-ends closing = day-cases (Ends closing) (refl, refl) (refl, refl) (λ place. (refl, refl)) (refl, refl)
 
 -- the year is not opened before the header's end
 unopened : (head : List ℕ) (k : ℕ) → k < customerLayout head .count → openedWith shut head k ≡ shut
@@ -71,12 +74,18 @@ unfolding openedWith
 open-now head k l = rw (le-ltb k (customerLayout head .count) l)
 
 -- a field
-feeds-head : (k : ℕ) (buffer : List ℕ) → k < customerLayout buffer .count → FeedsField customerWants customerFed customerText statementLine customerLayout (customerHead shut) k buffer
+feeds-head :
+    (k : ℕ) (buffer : List ℕ)
+    → k < customerLayout buffer .count
+    → FeedsField customerWants customerFed customerText statementLine customerLayout (customerHead shut) k buffer
 feeds-head k buffer l =
     record {
       size = sym (wants-field customerReader s refl l);
       cut = λ b m. halted (customerEnded s (Refused 12)) (field-cut customerReader s b m ∙ fed-field customerReader s refl l b) refl refl;
-      refused = λ b next m e z. halted (customerEnded s (Refused (customerLayout next .refusal k))) (field-refused customerReader s b (omega arith) e refl z ∙ fed-field customerReader s refl l b) refl refl;
+      refused = λ b next m e z.
+          halted (customerEnded s (Refused (customerLayout next .refusal k)))
+          (field-refused customerReader s b (omega arith) e refl z ∙ fed-field customerReader s refl l b)
+          refl refl;
       taken = λ b next m e z.
           sym (field-taken customerReader s b (omega arith) e z ∙ fed-field customerReader s refl l b)
           ∙ ap (λ (c : Customer). customerHead c (k + 1) next) (unopened buffer k l);
@@ -151,7 +160,10 @@ module _ (bytes : List ℕ) where
         ∙ ap (λ (n : ℕ). holding terms (take n xs) 0) (sym (start-none run)))
 
     -- a day
-    feeds-day : (d : ℕ) → d < runDays run → FeedsDay customerWants customerFed customerText statementLine run dayAnswer dayCustomer inside (heldAfter run (holding terms) h bytes d) d
+    feeds-day :
+        (d : ℕ)
+        → d < runDays run
+        → FeedsDay customerWants customerFed customerText statementLine run dayAnswer dayCustomer inside (heldAfter run (holding terms) h bytes d) d
     feeds-day d m =
         record {
           size = sym (wants-day customerReader s refl over left);
@@ -162,7 +174,8 @@ module _ (bytes : List ℕ) where
               (day-ends (closeAnswer c) c (readingsOf b) .0)
               (day-ends (closeAnswer c) c (readingsOf b) .1);
           taken = λ b o e.
-              sym (day-taken customerReader s (readingsOf b) b (omega arith) (all b o) (eq-eqb _ 0 (ap (λ (x : Said). x .number) e)) ∙ fed-day customerReader s refl over left b);
+              let taken = eq-eqb _ 0 (ap (λ (x : Said). x .number) e) in
+              sym (day-taken customerReader s (readingsOf b) b (omega arith) (all b o) taken ∙ fed-day customerReader s refl over left b);
         }
       where
         c : Customer
@@ -186,12 +199,18 @@ module _ (bytes : List ℕ) where
         (ltb-false _ _ (sym (bad-run run customerMost xs) ∙ passed-all (badIn run customerMost xs) (runDays run) c)))
         ∙ decide-whole (basisIn bytes) xs (sym (opens bytes passed))
 
-    takes-end : Passed (badIn run customerMost xs) (runDays run) → TakesEnd customerWants customerFed customerText statementLine bytes run customerMost h inDays done
+    takes-end :
+        Passed (badIn run customerMost xs) (runDays run)
+        → TakesEnd customerWants customerFed customerText statementLine bytes run customerMost h inDays done
     takes-end c =
         record {
           size = sym (wants-end customerReader s refl over none);
-          left = λ o. halted (customerEnded s (Refused 4)) (end-left customerReader s p (omega (arith, part-long bytes (fileSize run h) 1 (omega arith))) ∙ fed-end customerReader s refl over none p) refl refl;
-          closed = λ z. halted (customerEnded s Complete) (end-done customerReader s p (part-none bytes (fileSize run h) 1 (omega arith)) ∙ fed-end customerReader s refl over none p) refl (closes c z);
+          left = λ o.
+              let long = part-long bytes (fileSize run h) 1 (omega arith) in
+              halted (customerEnded s (Refused 4)) (end-left customerReader s p (omega arith) ∙ fed-end customerReader s refl over none p) refl refl;
+          closed = λ z.
+              let short = part-none bytes (fileSize run h) 1 (omega arith) in
+              halted (customerEnded s Complete) (end-done customerReader s p short ∙ fed-end customerReader s refl over none p) refl (closes c z);
         }
       where
         s : CustomerFile
@@ -207,7 +226,8 @@ module _ (bytes : List ℕ) where
   file =
       record {
         fields = λ k c p.
-            feeds-field customerWants customerFed customerText statementLine customerLayout (customerHead shut) blank bytes (looks-back bytes) k c p (feeds-head k (held k));
+            feeds-field customerWants customerFed customerText statementLine customerLayout (customerHead shut)
+            blank bytes (looks-back bytes) k c p (feeds-head k (held k));
         opened = opens-days;
         days = λ p d m w c. feeds-takes customerWants customerFed customerText statementLine (machine terms) inside h bytes d w c (feeds-day p d m);
         last = λ p w c. takes-end p c;

@@ -1,4 +1,5 @@
--- A customer file's header as it is read: no field looks at a byte behind it, and opening a year looks at the header only.
+-- A customer file's header as it is read: no field looks at a byte behind it, and
+-- opening a year looks at the header only.
 -- Assumes nothing.
 use mathlib.Core.Path.{_≡_, refl, sym, ap, _∙_}
 use mathlib.Core.Bool.{Bool}
@@ -15,7 +16,7 @@ use Rattle.over.proofs.Tables.{table-cong}
 use Rattle.answers.specs.Ruling.{holidaysMost, capacityOut, energyOut}
 use Rattle.packed.specs.Bytes.{twoAt, fourAt}
 use Rattle.packed.proofs.Bytes.{two-same, four-same}
-use Rattle.holidays.specs.Holidays.{before, unfit, badEntry}
+use Rattle.holidays.specs.Holidays.{before, unfit}
 use Rattle.sheet.specs.Windows.{tooMany}
 use Rattle.sheet.specs.Bytes.{mark, yearAt, sheetSize, seasonBytes}
 use Rattle.sheet.proofs.Bytes.{set-same}
@@ -26,7 +27,7 @@ use Rattle.fields.proofs.Bytes.{part-long, part-at, Same}
 use Rattle.fields.proofs.Header.{field-more, field-rises}
 use Rattle.fields.proofs.Fed.{LooksBack}
 use Rattle.fields.proofs.Common.{Own, one-same, mark-own, version-own, year-own, level-own}
-use Rattle.customer_head.specs.Header.{customerMark, sheetPlace, optionPlace, sheetPart, customerYear, optionOf, holidaysPlace, holidayCount, holidaysOf, pricesPlace, priceOf, pricesOf, seasonField, optionField, countField, capacityField, energyField, firstFields, priceFields, customerLayout, openedIn}
+use Rattle.customer_head.specs.Header.{customerMark, sheetPlace, optionPlace, sheetPart, optionOf, holidaysPlace, holidayCount, holidaysOf, pricesPlace, priceOf, pricesOf, holidayOut, seasonField, optionField, countField, capacityField, energyField, firstFields, priceFields, customerLayout, openedIn}
 use Rattle.customer_head.proofs.CustomerLayout.{firstWidths, firstStarts, count-is, width-first, width-holiday, width-price, start-first, start-holiday, start-price, refusal-first, refusal-holiday, refusal-price, holiday-is, size-is}
 
 -- the fields look at their own bytes
@@ -115,13 +116,15 @@ module _ (bytes : List ℕ) where
   module _ (b : List ℕ) (e : holidayCount b ≡ n) where
     entry-same : (j : ℕ) → j < n → Same (holidaysPlace + 2 * (j + 1)) b bytes → getD (holidaysOf b) j 0 ≡ getD (holidaysOf bytes) j 0
     entry-same j m h =
-        sym (holiday-is b j (omega arith)) ∙ two-same b bytes (holidaysPlace + 2 * j) (holidaysPlace + 2 * j) (λ i o. h (holidaysPlace + 2 * j + i) (omega arith)) ∙ holiday-is bytes j m
+        sym (holiday-is b j (omega arith))
+        ∙ two-same b bytes (holidaysPlace + 2 * j) (holidaysPlace + 2 * j) (λ i o. h (holidaysPlace + 2 * j + i) (omega arith))
+        ∙ holiday-is bytes j m
 
     before-same : (j : ℕ) → j < n → Same (holidaysPlace + 2 * (j + 1)) b bytes → before (holidaysOf b) j ≡ before (holidaysOf bytes) j
     before-same zero m h = refl
     before-same (suc j) m h = entry-same j (omega arith) (λ i o. h i (omega arith))
 
-    row-same : (j : ℕ) → j < n → Same (holidaysPlace + 2 * (j + 1)) b bytes → badEntry (customerYear b) (holidaysOf b) j ≡ badEntry (customerYear bytes) (holidaysOf bytes) j
+    row-same : (j : ℕ) → j < n → Same (holidaysPlace + 2 * (j + 1)) b bytes → holidayOut b j ≡ holidayOut bytes j
     row-same j m h =
         let day = entry-same j m h in
         let last = before-same j m h in
@@ -133,8 +136,11 @@ module _ (bytes : List ℕ) where
     where
       go : Dec (k < 12) → Dec (k < 12 + n) → customerLayout b .refusal k ≡ l .refusal k
       go (yes m) p =
+          let s = start-first bytes k m in
+          let w = width-first bytes k m in
+          let more = field-more l k in
           sym (refusal-first b k m)
-          ∙ first-own k m b bytes (getD firstStarts k 0) (λ j o. h (getD firstStarts k 0 + j) (omega (arith, field-more l k, start-first bytes k m, width-first bytes k m)))
+          ∙ first-own k m b bytes (getD firstStarts k 0) (λ j o. h (getD firstStarts k 0 + j) (omega arith))
           ∙ refusal-first bytes k m
       go (no m) (yes p) =
           let e = few-same b (λ i o. h i (omega (arith, behind (k + 1) (omega arith)))) in
@@ -152,14 +158,18 @@ module _ (bytes : List ℕ) where
           let more = field-more l k in
           sym (refusal-price b k (omega arith) (omega arith))
           ∙ ap (λ (j : ℕ). fieldAt (priceFields b) (k - 12 - j) .refusal (holidaysPlace + 2 * j + 4 * (k - 12 - j))) e
-          ∙ price-own (k - 12 - n) (omega arith) b bytes (pricesPlace bytes + 4 * (k - 12 - n)) (λ j o. h (pricesPlace bytes + 4 * (k - 12 - n) + j) (omega arith))
+          ∙ price-own (k - 12 - n) (omega arith) b bytes
+          (pricesPlace bytes + 4 * (k - 12 - n)) (λ j o. h (pricesPlace bytes + 4 * (k - 12 - n) + j) (omega arith))
           ∙ refusal-price bytes k (omega arith) (omega arith)
 
   pub looks-back : LooksBack customerLayout bytes
   looks-back = record { counts = λ k c b. counts b k; widths = λ k c b. widths b k c; refusals = refusals }
 
 -- opening a year looks at the header only
-module _ (b bytes : List ℕ) (h : Same (headSize (customerLayout bytes)) b bytes) (f : headSize (customerLayout bytes) ≤ length b) (g : headSize (customerLayout bytes) ≤ length bytes) where
+abbrev size : List ℕ → ℕ
+size bytes = headSize (customerLayout bytes)
+
+module _ (b bytes : List ℕ) (h : Same (size bytes) b bytes) (f : size bytes ≤ length b) (g : size bytes ≤ length bytes) where
   within : (i : ℕ) → i < 79 + 2 * holidayCount bytes → getD b i 0 ≡ getD bytes i 0
   within i m = h i (omega (arith, size-is bytes))
 
@@ -168,7 +178,7 @@ module _ (b bytes : List ℕ) (h : Same (headSize (customerLayout bytes)) b byte
 
   sheet-same : sheetPart b ≡ sheetPart bytes
   sheet-same =
-      let size = size-is bytes in
+      let head = size-is bytes in
       let here = part-long b sheetPlace sheetSize (omega arith) in
       let there = part-long bytes sheetPlace sheetSize (omega arith) in
       ext-getD 0 (sheetPart b) (sheetPart bytes) (here ∙ sym there)
@@ -177,7 +187,8 @@ module _ (b bytes : List ℕ) (h : Same (headSize (customerLayout bytes)) b byte
   holidays-same : holidaysOf b ≡ holidaysOf bytes
   holidays-same =
       ap (table (λ j. twoAt b (holidaysPlace + 2 * j))) few
-      ∙ table-cong _ _ (holidayCount bytes) (λ j m. two-same b bytes (holidaysPlace + 2 * j) (holidaysPlace + 2 * j) (λ i o. within (holidaysPlace + 2 * j + i) (omega arith)))
+      ∙ table-cong _ _ (holidayCount bytes)
+      (λ j m. two-same b bytes (holidaysPlace + 2 * j) (holidaysPlace + 2 * j) (λ i o. within (holidaysPlace + 2 * j + i) (omega arith)))
 
   price-same : (j : ℕ) → j < 4 → priceOf b j ≡ priceOf bytes j
   price-same j m =

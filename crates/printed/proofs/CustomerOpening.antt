@@ -1,5 +1,5 @@
--- What a customer file's fields say of the year that its header opens: each field of the sheet, each holiday and each price is refused by the test
--- that the opening makes of it. So a file whose fields all pass opens a year.
+-- What a customer file's fields say of the year that its header opens: each field of the sheet, each holiday and each
+-- price is refused by the test that the opening makes of it. So a file whose fields all pass opens a year.
 -- Assumes nothing.
 use mathlib.Core.Path.{_≡_, refl, sym, ap, _∙_}
 use mathlib.Core.Bool.{Bool, false}
@@ -126,7 +126,8 @@ module _ (bytes : List ℕ) where
 
     pub holidays-in : 12 + n ≤ m → badHolidays (sheetIn sheet .year) hs ≡ false
     holidays-in o =
-        let fits : Passed (badEntry (sheetIn sheet .year) hs) n = record { fails = λ j a. unrefused _ 2 (holiday-tested j a ∙ passed (12 + j) (omega arith)) } in
+        let fits : Passed (badEntry (sheetIn sheet .year) hs) n =
+        record { fails = λ j a. unrefused _ 2 (holiday-tested j a ∙ passed (12 + j) (omega arith)) } in
         sym (bad-none (sheetIn sheet .year) hs fits (omega (arith, holidays-long, count-few bytes)) (omega (arith, holidays-long)))
 
     price-in : 16 + n ≤ m → (j : ℕ) → j < 4 → priceOut j ≡ false

@@ -1,4 +1,5 @@
--- The statement program's example from the series: its M, S and H with its place, and so what the decision over the year answers.
+-- The statement program's example from the series: its M, S and H with its place, and so what
+-- the decision over the year answers.
 -- Assumes nothing.
 use mathlib.Core.Path.{_≡_, refl, sym, ap, ap₂, _∙_}
 use mathlib.Core.Bool.{Bool, true, false, cond}
@@ -79,7 +80,9 @@ two-others =
       to-in = omega (arith, len-is customerRun 3);
       first =
           reads 1 72 (omega (arith, days)) (omega (arith, len-is customerRun 1))
-          ∙ ap₂ value (saturday-else 1 72 (λ a b. omega arith)) (at-there customerRun thursdayDay 72 1 72 (sym thursday-is) (sym (quarter-is customerRun 1 72)));
+          ∙ ap₂ value
+          (saturday-else 1 72 (λ a b. omega arith))
+          (at-there customerRun thursdayDay 72 1 72 (sym thursday-is) (sym (quarter-is customerRun 1 72)));
       second =
           reads 3 0 (omega (arith, days)) (omega (arith, len-is customerRun 3))
           ∙ ap (λ (a : Bool). value a (onThursday 3 0)) (at-there customerRun saturdayDay 0 3 0 (sym saturday-is) (sym (quarter-is customerRun 3 0)));

@@ -1,4 +1,5 @@
--- The window program's printed example, from the bytes of its file: what they are answered, and what the machine that the program drives prints.
+-- The window program's printed example, from the bytes of its file: what they are answered, and what the
+-- machine that the program drives prints.
 -- Assumes nothing.
 use mathlib.Core.Path.{_≡_, refl, sym, ap, _∙_}
 use mathlib.Core.Bool.{Bool, true, false, cond}
@@ -22,15 +23,14 @@ use Rattle.sheet.specs.Answers.{readAnswer, readSheet}
 use Rattle.fields.specs.Layout.{layoutOf, startOf, headSize}
 use Rattle.fields.specs.Common.{markField, versionField, yearField, levelField}
 use Rattle.fields.specs.Series.{seriesIn, fileSize}
-use Rattle.fields.specs.File.{driven}
 use Rattle.lines.specs.Text.{textOver}
 use Rattle.lines.specs.Figures.{decimalOf, fieldOf, figuresLine}
 use Rattle.window_lines.specs.Runs.{headLine, timeOf, runLine, runText, seasonText, windowsText}
 use Rattle.grid_file.specs.Grid.{gridLayout, gridYear, gridLevel, blankSheet, wholeGrid, gridAnswer}
-use Rattle.grid_file.specs.GridMachine.{gridStart, gridWants, gridFed}
-use Rattle.grid_text.specs.Text.{windowLines, windowsPrinted, gridText}
+use Rattle.grid_text.specs.Text.{windowLines, windowsPrinted}
 use Rattle.grid_file.proofs.GridLayout.{grid-count, grid-size}
 use Rattle.demands.specs.Cases.{exampleSheet}
+use Rattle.printed.specs.Printed.{gridDriven}
 use Rattle.printed.specs.Examples.{isAt, gridRun, otherDay, gridReading, gridSeries, seriesBytes, gridHeader, gridBytes, exampleWindows, Prints}
 use Rattle.printed.proofs.Grid.{windows-printed}
 use Rattle.printed.proofs.Series.{series-low}
@@ -77,7 +77,9 @@ whole-is : wholeGrid 2025 5 gridSeries ≡ record { number = 0; carries = exampl
 whole-is = let s = sheet-laid blankSheet (omega arith) in rw (s .accepted, s .laid)
 
 lines-are : windowLines (record { number = 0; carries = exampleSheet }) ≡ exampleWindows
-unfolding windowLines readSheet readAnswer unlike twoAt inBase yearOut levelOut tooFull setIn windowsIn windowsText seasonText runText runLine timeOf headLine figuresLine fieldOf decimalOf textOver table countOver sumOver anyOver firstOver isSet joined
+unfolding windowLines readSheet readAnswer unlike twoAt inBase yearOut levelOut tooFull setIn windowsIn isSet
+    windowsText seasonText runText runLine timeOf headLine figuresLine fieldOf decimalOf textOver
+    table countOver sumOver anyOver firstOver joined
 lines-are = refl
 
 -- so the file is answered as the series is
@@ -98,5 +100,5 @@ answer-is =
 lines-printed : windowsPrinted gridBytes ≡ exampleWindows
 lines-printed = ap windowLines (answer-is ∙ whole-is) ∙ lines-are
 
-pub windows-example : Prints (windowsPrinted gridBytes) (λ turns. gridText (driven gridWants gridFed turns gridStart gridBytes)) 371 exampleWindows
+pub windows-example : Prints (windowsPrinted gridBytes) (gridDriven gridBytes) 371 exampleWindows
 windows-example = record { of-bytes = lines-printed; of-machine = λ turns h. windows-printed gridBytes turns h ∙ lines-printed }

@@ -1,5 +1,5 @@
--- Case 12 from the series: the grid's series of the printed example has the curves of case 12, so its sheet is the one of case 12, in every buffer with
--- room for it.
+-- Case 12 from the series: the grid's series of the printed example has the curves of case 12, so its sheet is the one
+-- of case 12, in every buffer with room for it.
 -- Assumes nothing.
 use mathlib.Core.Path.{_≡_, refl, sym, ap, _∙_}
 use mathlib.Core.Bool.{Bool, true, false, cond}

@@ -1,4 +1,5 @@
--- The statement program's printed example, from the bytes of its file: what they are answered, and what the machine that the program drives prints.
+-- The statement program's printed example, from the bytes of its file: what they are answered, and what the
+-- machine that the program drives prints.
 -- Assumes nothing.
 use mathlib.Core.Path.{_≡_, refl, sym, ap, _∙_}
 use mathlib.Core.Bool.{Bool, true, false, cond}
@@ -21,15 +22,14 @@ use Rattle.customer.specs.Answers.{decideAnswer}
 use Rattle.fields.specs.Layout.{layoutOf, headSize}
 use Rattle.fields.specs.Common.{markField, versionField, yearField, levelField}
 use Rattle.fields.specs.Series.{readingsOf, seriesIn, fileSize}
-use Rattle.fields.specs.File.{driven}
 use Rattle.lines.specs.Text.{textOver}
 use Rattle.lines.specs.Figures.{decimalOf, fieldOf, figuresLine, statementLine}
 use Rattle.customer_head.specs.Header.{sheetPart, customerYear, optionOf, holidaysOf, pricesOf, seasonField, optionField, countField, holidayField, capacityField, energyField, customerLayout}
 use Rattle.customer_head.proofs.CustomerLayout as Head
 use Rattle.customer_file.specs.Customer.{customerAnswer}
-use Rattle.customer_file.specs.CustomerMachine.{customerStart, customerWants, customerFed}
-use Rattle.customer_text.specs.Text.{statementPrinted, customerText}
+use Rattle.customer_text.specs.Text.{statementPrinted}
 use Rattle.demands.specs.Cases.{prices, exampleSheet}
+use Rattle.printed.specs.Printed.{customerDriven}
 use Rattle.printed.specs.Examples.{isAt, customerRun, saturdayDay, thursdayDay, customerReading, customerSeries, fourBytes, seriesBytes, customerHeader, customerBytes, exampleBasis, customerSaid, exampleStatement, Prints}
 use Rattle.printed.proofs.Customer.{statement-printed}
 use Rattle.printed.proofs.Series.{series-low}
@@ -71,7 +71,9 @@ module _ (rest : List ℕ) where
   header-long = length-append customerHeader rest
 
   taken : (k : ℕ) → k < customerLayout b .count → customerLayout b .refusal k ≡ 0
-  unfolding customerLayout layoutOf markField versionField yearField levelField seasonField optionField countField holidayField capacityField energyField fourBytes unlike twoAt fourAt inBase setFrom yearOut levelOut table countOver sumOver anyOver allOver joined
+  unfolding customerLayout layoutOf markField versionField yearField levelField seasonField optionField countField holidayField
+      capacityField energyField fourBytes unlike twoAt fourAt inBase setFrom yearOut levelOut
+      table countOver sumOver anyOver allOver joined
   taken k l = eqb-true _ _ (all-at (λ i. eqb (customerLayout b .refusal i) 0) 16 refl k l)
 
 -- the series, read back from its bytes
@@ -116,5 +118,5 @@ line-is = refl
 line-printed : statementPrinted customerBytes ≡ exampleStatement
 line-printed = ap statementLine (answer-is ∙ decided) ∙ line-is
 
-pub statement-example : Prints (statementPrinted customerBytes) (λ turns. customerText (driven customerWants customerFed turns customerStart customerBytes)) 423 exampleStatement
+pub statement-example : Prints (statementPrinted customerBytes) (customerDriven customerBytes) 423 exampleStatement
 statement-example = record { of-bytes = line-printed; of-machine = λ turns h. statement-printed customerBytes turns h ∙ line-printed }

@@ -1,5 +1,5 @@
--- Readings written as bytes, four each with the high byte first, are read back as they were; and a file whose header is taken, and which holds its
--- days and nothing else, is answered as its whole series is.
+-- Readings written as bytes, four each with the high byte first, are read back as they were; and a file whose header is
+-- taken, and which holds its days and nothing else, is answered as its whole series is.
 -- Assumes nothing.
 use mathlib.Core.Path.{_≡_, refl, sym, ap, _∙_}
 use mathlib.Core.Bool.{false}

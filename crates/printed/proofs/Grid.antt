@@ -1,4 +1,5 @@
--- The window program: its machine, driven over any bytes, prints what the file's bytes are answered (grid_text, specs/Text).
+-- The window program: its machine, driven over any bytes, prints what the file's bytes
+-- are answered (grid_text, specs/Text).
 -- Assumes nothing.
 use mathlib.Core.Path.{_≡_, refl, sym, ap, _∙_}
 use mathlib.Core.Bool.{false}
@@ -61,11 +62,17 @@ looks-back bytes =
   where
     numbers : (b : List ℕ) (k : ℕ) → k < 4 → Same (startOf (gridLayout bytes) (k + 1)) b bytes → gridLayout b .refusal k ≡ gridLayout bytes .refusal k
     numbers b zero h e =
-        sym (grid-refusal b 0 (omega arith)) ∙ mark-own gridMark b bytes 0 (λ i l. e (0 + i) (omega (arith, grid-start bytes 1 (omega arith)))) ∙ grid-refusal bytes 0 (omega arith)
+        sym (grid-refusal b 0 (omega arith))
+        ∙ mark-own gridMark b bytes 0 (λ i l. e (0 + i) (omega (arith, grid-start bytes 1 (omega arith))))
+        ∙ grid-refusal bytes 0 (omega arith)
     numbers b (suc zero) h e =
-        sym (grid-refusal b 1 (omega arith)) ∙ version-own b bytes 3 (λ i l. e (3 + i) (omega (arith, grid-start bytes 2 (omega arith)))) ∙ grid-refusal bytes 1 (omega arith)
+        sym (grid-refusal b 1 (omega arith))
+        ∙ version-own b bytes 3 (λ i l. e (3 + i) (omega (arith, grid-start bytes 2 (omega arith))))
+        ∙ grid-refusal bytes 1 (omega arith)
     numbers b (suc (suc zero)) h e =
-        sym (grid-refusal b 2 (omega arith)) ∙ year-own b bytes 5 (λ i l. e (5 + i) (omega (arith, grid-start bytes 3 (omega arith)))) ∙ grid-refusal bytes 2 (omega arith)
+        sym (grid-refusal b 2 (omega arith))
+        ∙ year-own b bytes 5 (λ i l. e (5 + i) (omega (arith, grid-start bytes 3 (omega arith))))
+        ∙ grid-refusal bytes 2 (omega arith)
     numbers b (suc (suc (suc zero))) h e =
         sym (grid-refusal b 3 (omega arith)) ∙ level-own b bytes 7 (λ i l. e (7 + i) (omega (arith, grid-size bytes))) ∙ grid-refusal bytes 3 (omega arith)
     numbers b (suc (suc (suc (suc k)))) h e = absurd (omega arith)
@@ -117,6 +124,9 @@ module _ (bytes : List ℕ) where
   -- the state whose machine of days stands at g
   abbrev inside : Grid → GridFile
   inside g = record { field = 4; head = held 4; grid = g; stage = Going }
+
+  abbrev inDays : ℕ → GridFile
+  inDays d = inside (heldAfter run (holding y level) (headSize l) bytes d)
 
   -- it stands behind the header
   over : gridLayout (held 4) .count ≤ 4
@@ -197,7 +207,9 @@ module _ (bytes : List ℕ) where
           size = sym (wants-day gridReader s refl over more);
           cut = λ b c. ended-with s 4 (omega arith) (day-cut gridReader s b c ∙ fed-day gridReader s refl over more b);
           refused = bad;
-          taken = λ b w e. sym (day-taken gridReader s (readingsOf b) b (omega arith) (day-whole b d w) (eq-eqb _ 0 (ap (λ (x : Said). x .number) e)) ∙ fed-day gridReader s refl over more b);
+          taken = λ b w e.
+              let taken = eq-eqb _ 0 (ap (λ (x : Said). x .number) e) in
+              sym (day-taken gridReader s (readingsOf b) b (omega arith) (day-whole b d w) taken ∙ fed-day gridReader s refl over more b);
         }
 
   -- after the last day
@@ -220,7 +232,9 @@ module _ (bytes : List ℕ) where
       closed-is : closedGrid all ≡ wholeGrid y level xs
       closed-is =
           let c = closes-whole y level (opens p) xs blankSheet legal in
-          ap closedGrid all-is ∙ ap (λ (x : Said). withSheet x (closeBuffer (holding y level xs (periodDays y)) blankSheet)) (c .0) ∙ ap (withSheet (windowsAnswer y level xs sheetSize)) (c .1)
+          ap closedGrid all-is
+          ∙ ap (λ (x : Said). withSheet x (closeBuffer (holding y level xs (periodDays y)) blankSheet)) (c .0)
+          ∙ ap (withSheet (windowsAnswer y level xs sheetSize)) (c .1)
 
     abbrev last : GridFile
     last = inside all
@@ -234,25 +248,30 @@ module _ (bytes : List ℕ) where
         end-done gridReader last rest (part-none bytes (fileSize run (headSize l)) 1 (omega arith)) ∙ fed-end gridReader last refl over full rest in
         rw (← ends) (record { says = ap windowLines (closed-is e); stays = λ b. sym (fed-none gridReader (gridEnded last Complete) refl b) })
 
-    takes-end : TakesEnd gridWants gridFed gridText windowLines bytes run gridMost (headSize l) (λ d. inside (heldAfter run (holding y level) (headSize l) bytes d)) (wholeGrid y level xs)
+    takes-end : TakesEnd gridWants gridFed gridText windowLines bytes run gridMost (headSize l) inDays (wholeGrid y level xs)
     takes-end =
         record {
           size = sym (wants-end gridReader last refl over full);
           left = λ o.
               ended-with last 4 (omega arith)
-              (end-left gridReader last rest (omega (arith, part-long bytes (fileSize run (headSize l)) 1 (omega arith))) ∙ fed-end gridReader last refl over full rest);
+              (end-left gridReader last rest (omega (arith, part-long bytes (fileSize run (headSize l)) 1 (omega arith)))
+              ∙ fed-end gridReader last refl over full rest);
           closed = ends-complete;
         }
 
   as-four : {n : ℕ} → n ≡ 4 → Passed (stops l bytes) n → Passed (stops l bytes) 4
   as-four e p = rw e at p
 
-  takes : FileMachine gridWants gridFed gridText windowLines l run gridMost (wholeGrid y level xs) bytes (λ k. gridHead k (held k)) (λ d. inside (heldAfter run (holding y level) (headSize l) bytes d))
+  takes : FileMachine gridWants gridFed gridText windowLines l run gridMost (wholeGrid y level xs) bytes (λ k. gridHead k (held k)) inDays
   takes =
       record {
-        fields = λ k h p. feeds-field gridWants gridFed gridText windowLines gridLayout gridHead (replicate 8 0) bytes (looks-back bytes) k h p (feeds k (held k));
+        fields = λ k h p.
+            feeds-field gridWants gridFed gridText windowLines gridLayout gridHead
+            (replicate 8 0) bytes (looks-back bytes) k h p (feeds k (held k));
         opened = λ p. ap (λ (k : ℕ). gridHead k (held k)) (grid-count bytes) ∙ opened (as-four (grid-count bytes) p);
-        days = λ p d h w c. feeds-takes gridWants gridFed gridText windowLines (machine y level) inside (headSize l) bytes d w c (day-feeds (take (dayStart run d) xs) d h);
+        days = λ p d h w c.
+            feeds-takes gridWants gridFed gridText windowLines (machine y level) inside (headSize l)
+            bytes d w c (day-feeds (take (dayStart run d) xs) d h);
         last = λ p w c. takes-end (as-four (grid-count bytes) p) w c;
       }
 
@@ -261,5 +280,7 @@ pub windows-printed : WindowsPrinted
 unfolding gridAnswer
 windows-printed bytes turns h =
     let l = gridLayout bytes in
-    let enough : l .count + runDays (Period (gridYear bytes)) < turns = omega (arith, grid-count bytes, period-run (gridYear bytes), period-most (gridYear bytes)) in
-    ap (λ (k : ℕ). gridText (driven gridWants gridFed turns (gridHead 0 (heldIn (replicate 8 0) bytes k)) bytes)) (sym (field-none l)) ∙ file-driven (takes bytes) turns enough
+    let y = gridYear bytes in
+    let enough : l .count + runDays (Period y) < turns = omega (arith, grid-count bytes, period-run y, period-most y) in
+    ap (λ (k : ℕ). gridText (driven gridWants gridFed turns (gridHead 0 (heldIn (replicate 8 0) bytes k)) bytes)) (sym (field-none l))
+    ∙ file-driven (takes bytes) turns enough

@@ -1,6 +1,7 @@
--- Nothing is decided twice: where a field is refused, the opening would refuse the same bytes with the same number. The opening does not see the fields
--- that are the file's own: its mark and version, the option byte, the count of the holidays. (A count above 40 is 3, as a list of more than 40 is to the
--- opening: by definition one limit and one number.)
+-- Nothing is decided twice: where a field is refused, the opening would refuse the same bytes with the same
+-- number. The opening does not see the fields that are the file's own: its mark and version, the option byte,
+-- the count of the holidays. (A count above 40 is 3, as a list of more than 40 is to the opening: by
+-- definition one limit and one number.)
 -- Assumes nothing.
 use mathlib.Core.Path.{_≡_, refl, sym, ap}
 use mathlib.Core.Bool.{true, not, or-true}

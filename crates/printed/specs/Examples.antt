@@ -1,5 +1,5 @@
--- Document 01, Two programs: the two printed examples, and Figures on each side, case 12: from the series, and from the bytes of the file that holds
--- it, to the sheet and to the printed lines. The statement is `Examples`.
+-- Document 01, Two programs: the two printed examples, and Figures on each side, case 12: from the series, and from the
+-- bytes of the file that holds it, to the sheet and to the printed lines. The statement is `Examples`.
 use mathlib.Core.Path.{_≡_}
 use mathlib.Core.Bool.{Bool, false, cond, _&&_}
 use mathlib.Core.List.{List, [], _∷_, _++_}
@@ -18,14 +18,12 @@ use Rattle.grid.specs.Answers.{windowsAnswer, windowsBuffer}
 use Rattle.terms.specs.Basis.{Basis, basis}
 use Rattle.customer.specs.Answers.{decideAnswer}
 use Rattle.fields.specs.Series.{readingBytes}
-use Rattle.fields.specs.File.{driven}
 use Rattle.grid_file.specs.Grid.{gridMark}
-use Rattle.grid_file.specs.GridMachine.{gridStart, gridWants, gridFed}
-use Rattle.grid_text.specs.Text.{windowsPrinted, gridText}
+use Rattle.grid_text.specs.Text.{windowsPrinted}
 use Rattle.customer_head.specs.Header.{customerMark}
-use Rattle.customer_file.specs.CustomerMachine.{customerStart, customerWants, customerFed}
-use Rattle.customer_text.specs.Text.{statementPrinted, customerText}
+use Rattle.customer_text.specs.Text.{statementPrinted}
 use Rattle.demands.specs.Cases.{prices, exampleSheet}
+use Rattle.printed.specs.Printed.{gridDriven, customerDriven}
 
 -- the series of a run's first n days that has the reading f d p at position p of day d, both from 0
 unfoldable pub seriesOf : Run → (ℕ → ℕ → ℕ) → ℕ → List ℕ
@@ -35,8 +33,8 @@ seriesOf run f n = joined _++_ [] (λ d. table (f d) (dayLen run d)) n
 abbrev pub isAt : Run → ℕ → ℕ → ℕ → ℕ → Bool
 isAt run day quarter d p = eqb (d + 1) day && eqb (quarterOf run d p) quarter
 
--- The window program's example: every reading of the period is 1,000 kW, but quarter 72 of 15 January 2024 has 2,000. That day's number in the period
--- counts the days of 2023 from 1 September on, then those of 2024.
+-- The window program's example: every reading of the period is 1,000 kW, but quarter 72 of 15 January 2024 has 2,000.
+-- That day's number in the period counts the days of 2023 from 1 September on, then those of 2024.
 abbrev pub gridRun : Run
 gridRun = Period 2025
 
@@ -49,8 +47,8 @@ gridReading d p = cond (isAt gridRun otherDay 72 d p) 2000 1000
 unfoldable pub gridSeries : List ℕ
 gridSeries = seriesOf gridRun gridReading (runDays gridRun)
 
--- The statement program's example: every reading of 2025 is 0, but quarter 0 of 4 January, a Saturday, has 1,000,000 W, and quarter 72 of 2 January,
--- a Thursday, has 500,000.
+-- The statement program's example: every reading of 2025 is 0, but quarter 0 of 4 January, a Saturday, has 1,000,000 W,
+-- and quarter 72 of 2 January, a Thursday, has 500,000.
 abbrev pub customerRun : Run
 customerRun = Year 2025
 
@@ -74,7 +72,8 @@ unfoldable pub seriesBytes : List ℕ → List ℕ
 seriesBytes [] = []
 seriesBytes (x ∷ xs) = fourBytes x ++ seriesBytes xs
 
--- the two files: mark and version 1; year 2025 and level 5, or the sheet of case 12, option 0, no holidays and the four prices; the readings
+-- the two files: mark and version 1; year 2025 and level 5, or the sheet of case 12, option 0, no
+-- holidays and the four prices; the readings
 abbrev pub gridHeader : List ℕ
 gridHeader = gridMark ++ (0x00 ∷ 0x01 ∷ 0x07 ∷ 0xe9 ∷ 0x05 ∷ [])
 
@@ -126,8 +125,9 @@ pub record ExampleLaid (buffer : List ℕ) : Type 0 where
   pub accepted : windowsAnswer 2025 5 gridSeries (length buffer) ≡ only 0
   pub laid : windowsBuffer 2025 5 gridSeries buffer ≡ exampleSheet ++ drop sheetSize buffer
 
--- a file has this text: what is printed of its bytes, and what the machine that a program drives over them prints, with turns enough. For a grid file
--- those are 371: 4 fields, at most 366 days, and the end. For a customer file they are 423: at most 56 fields, 366 days, and the end.
+-- a file has this text: what is printed of its bytes, and what the machine that a program drives over them prints, with
+-- turns enough. For a grid file those are 371: 4 fields, at most 366 days, and the end. For a customer file they are
+-- 423: at most 56 fields, 366 days, and the end.
 pub record Prints (printed : List ℕ) (machine : ℕ → List ℕ) (enough : ℕ) (text : List ℕ) : Type 0 where
   pub of-bytes : printed ≡ text
   pub of-machine : (turns : ℕ) → enough ≤ turns → machine turns ≡ text
@@ -136,8 +136,8 @@ pub record Examples : Type 0 where
   -- case 12, from the series to the sheet's bytes
   pub sheet : (buffer : List ℕ) → sheetSize ≤ length buffer → ExampleLaid buffer
   -- the window program's example, from the file's bytes to its lines
-  pub windows : Prints (windowsPrinted gridBytes) (λ turns. gridText (driven gridWants gridFed turns gridStart gridBytes)) 371 exampleWindows
+  pub windows : Prints (windowsPrinted gridBytes) (gridDriven gridBytes) 371 exampleWindows
   -- the statement program's example, from the series to what the decision answers
   pub decision : decideAnswer exampleBasis customerSeries ≡ customerSaid
   -- and from the file's bytes to its line
-  pub statement : Prints (statementPrinted customerBytes) (λ turns. customerText (driven customerWants customerFed turns customerStart customerBytes)) 423 exampleStatement
+  pub statement : Prints (statementPrinted customerBytes) (customerDriven customerBytes) 423 exampleStatement

@@ -1,6 +1,7 @@
--- Document 01, Two programs: what each prints, for every list of bytes on standard input. A program hands its machine, turn by turn, as many bytes as the
--- machine wants (`driven`); with turns enough for the header's fields, for the days and for the end, the machine's text is what the file's bytes are
--- answered. The window program's header has 4 fields; the statement program's at most 56 with 40 holidays; a year or a period has at most 366 days.
+-- Document 01, Two programs: what each prints, for every list of bytes on standard input. A program hands its machine,
+-- turn by turn, as many bytes as the machine wants (`driven`); with turns enough for the header's fields, for the days
+-- and for the end, the machine's text is what the file's bytes are answered. The window program's header has 4 fields;
+-- the statement program's at most 56 with 40 holidays; a year or a period has at most 366 days.
 use mathlib.Core.Path.{_≡_}
 use mathlib.Core.List.{List}
 use Prim.Native.Nat.{ℕ, _+_, _≤_}
@@ -10,11 +11,18 @@ use Rattle.grid_text.specs.Text.{windowsPrinted, gridText}
 use Rattle.customer_file.specs.CustomerMachine.{customerStart, customerWants, customerFed}
 use Rattle.customer_text.specs.Text.{statementPrinted, customerText}
 
+-- what the machine that a program drives over these bytes prints after a number of turns
+abbrev pub gridDriven : List ℕ → ℕ → List ℕ
+gridDriven bytes turns = gridText (driven gridWants gridFed turns gridStart bytes)
+
+abbrev pub customerDriven : List ℕ → ℕ → List ℕ
+customerDriven bytes turns = customerText (driven customerWants customerFed turns customerStart bytes)
+
 abbrev pub WindowsPrinted : Type 0
-WindowsPrinted = (bytes : List ℕ) (turns : ℕ) → 4 + 366 + 1 ≤ turns → gridText (driven gridWants gridFed turns gridStart bytes) ≡ windowsPrinted bytes
+WindowsPrinted = (bytes : List ℕ) (turns : ℕ) → 4 + 366 + 1 ≤ turns → gridDriven bytes turns ≡ windowsPrinted bytes
 
 abbrev pub StatementPrinted : Type 0
 StatementPrinted =
     (bytes : List ℕ) (turns : ℕ)
     → 56 + 366 + 1 ≤ turns
-    → customerText (driven customerWants customerFed turns customerStart bytes) ≡ statementPrinted bytes
+    → customerDriven bytes turns ≡ statementPrinted bytes
