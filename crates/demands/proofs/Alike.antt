@@ -1,6 +1,8 @@
--- Two modules that meet the demands answer every input alike: the rows fix the number, the columns the figures, and the first illegal reading is one.
+-- Two modules that meet the demands answer every input alike: the rows fix the number, the columns the figures, and the
+-- first illegal reading is one.
 -- Assumes nothing.
 use mathlib.Core.Path.{_≡_, refl, sym, _∙_}
+use mathlib.Core.Logic.{_↔_}
 use mathlib.Core.List.{List, [], _∷_}
 use Prim.Native.Nat.{ℕ, _+_, _<_}
 use native.Mathlib.Decide.{decLt, ℕ-discrete}
@@ -12,6 +14,10 @@ use Rattle.demands.specs.Refusals.{Carries, NamesFirst, CarriesPlace, Fi
 use Rattle.demands.specs.Demands.{NothingElse}
 use Rattle.demands.proofs.Carried.{said-is}
 
+-- the same rows fix the number
+same-number : {Row : ℕ → Type 0} {a b : ℕ} → ((n : ℕ) → (a ≡ n) ↔ Row n) → ((n : ℕ) → (b ≡ n) ↔ Row n) → a ≡ b
+same-number {b = b} p q = p b .1 (q b .0 refl)
+
 -- the same number and the same column
 carried-same : {a b : Said} {column : ℕ → List ℕ} → a .number ≡ b .number → Carries a column → Carries b column → a ≡ b
 carried-same {a} {b} {column} e c d = said-is a column (b .number) c e ∙ sym (said-is b column (b .number) d refl)
@@ -20,7 +26,13 @@ carried-same {a} {b} {column} e c d = said-is a column (b .number) c e ∙ sym (
 abbrev One : (ℕ → ℕ → Type 0) → Type 0
 One First = (d q e r : ℕ) → First d q → First e r → (d ≡ e) × (q ≡ r)
 
-placed-same : {a b : Said} {First : ℕ → ℕ → Type 0} {column : ℕ → List ℕ} → One First → a .number ≡ b .number → CarriesPlace a First column → CarriesPlace b First column → a ≡ b
+placed-same :
+    {a b : Said} {First : ℕ → ℕ → Type 0} {column : ℕ → List ℕ}
+    → One First
+    → a .number ≡ b .number
+    → CarriesPlace a First column
+    → CarriesPlace b First column
+    → a ≡ b
 placed-same {a} {b} {First} one e c d = go (ℕ-discrete (a .number) 5)
   where
     named : NamesFirst a First → NamesFirst b First → a ≡ b
@@ -70,18 +82,28 @@ nothing-else m n d e =
     let mine = d .carried in
     let other = e .carried in
     record {
-      calendar = λ y hs k. carried-same (given .calendar y hs k _ .1 (row .calendar y hs k _ .0 refl)) (mine .calendar y hs k) (other .calendar y hs k);
-      read = λ b. carried-same (given .read b _ .1 (row .read b _ .0 refl)) (mine .read b) (other .read b);
-      write = λ s room. carried-same (given .write s room _ .1 (row .write s room _ .0 refl)) (mine .write s room) (other .write s room);
-      windows = λ y level xs buffer. placed-same (one-in _ _ xs) (given .windows y level xs buffer _ .1 (row .windows y level xs buffer _ .0 refl)) (mine .windows y level xs buffer) (other .windows y level xs buffer);
-      grid-open = λ y level. carried-same (given .grid-open y level _ .1 (row .grid-open y level _ .0 refl)) (mine .grid-open y level) (other .grid-open y level);
-      grid-day = λ g day. placed-same (one-today _ (g .seen) day) (given .grid-day g day _ .1 (row .grid-day g day _ .0 refl)) (mine .grid-day g day) (other .grid-day g day);
-      grid-close = λ g buffer. carried-same (given .grid-close g buffer _ .1 (row .grid-close g buffer _ .0 refl)) (mine .grid-close g _) (other .grid-close g _);
-      eligible = λ f r. carried-same (given .eligible f r _ .1 (row .eligible f r _ .0 refl)) (mine .eligible f r) (other .eligible f r);
-      charge = λ f r. carried-same (given .charge f r _ .1 (row .charge f r _ .0 refl)) (mine .charge f r) (other .charge f r);
-      judge = λ f r. carried-same (given .judge f r _ .1 (row .judge f r _ .0 refl)) (mine .judge f r) (other .judge f r);
-      decide = λ k xs. placed-same (one-in _ _ xs) (given .decide k xs _ .1 (row .decide k xs _ .0 refl)) (mine .decide k xs) (other .decide k xs);
-      customer-open = λ k. carried-same (given .customer-open k _ .1 (row .customer-open k _ .0 refl)) (mine .customer-open k) (other .customer-open k);
-      customer-day = λ c day. placed-same (one-today _ (c .seen) day) (given .customer-day c day _ .1 (row .customer-day c day _ .0 refl)) (mine .customer-day c day) (other .customer-day c day);
-      customer-close = λ c. carried-same (given .customer-close c _ .1 (row .customer-close c _ .0 refl)) (mine .customer-close c) (other .customer-close c);
+      calendar = λ y hs k. carried-same (same-number (given .calendar y hs k) (row .calendar y hs k)) (mine .calendar y hs k) (other .calendar y hs k);
+      read = λ b. carried-same (same-number (given .read b) (row .read b)) (mine .read b) (other .read b);
+      write = λ s room. carried-same (same-number (given .write s room) (row .write s room)) (mine .write s room) (other .write s room);
+      windows = λ y level xs buffer.
+          placed-same (one-in _ _ xs) (same-number (given .windows y level xs buffer) (row .windows y level xs buffer))
+          (mine .windows y level xs buffer) (other .windows y level xs buffer);
+      grid-open = λ y level.
+          carried-same (same-number (given .grid-open y level) (row .grid-open y level))
+          (mine .grid-open y level) (other .grid-open y level);
+      grid-day = λ g day.
+          placed-same (one-today _ (g .seen) day) (same-number (given .grid-day g day) (row .grid-day g day))
+          (mine .grid-day g day) (other .grid-day g day);
+      grid-close = λ g buffer.
+          carried-same (same-number (given .grid-close g buffer) (row .grid-close g buffer))
+          (mine .grid-close g _) (other .grid-close g _);
+      eligible = λ f r. carried-same (same-number (given .eligible f r) (row .eligible f r)) (mine .eligible f r) (other .eligible f r);
+      charge = λ f r. carried-same (same-number (given .charge f r) (row .charge f r)) (mine .charge f r) (other .charge f r);
+      judge = λ f r. carried-same (same-number (given .judge f r) (row .judge f r)) (mine .judge f r) (other .judge f r);
+      decide = λ k xs. placed-same (one-in _ _ xs) (same-number (given .decide k xs) (row .decide k xs)) (mine .decide k xs) (other .decide k xs);
+      customer-open = λ k. carried-same (same-number (given .customer-open k) (row .customer-open k)) (mine .customer-open k) (other .customer-open k);
+      customer-day = λ c day.
+          placed-same (one-today _ (c .seen) day) (same-number (given .customer-day c day) (row .customer-day c day))
+          (mine .customer-day c day) (other .customer-day c day);
+      customer-close = λ c. carried-same (same-number (given .customer-close c) (row .customer-close c)) (mine .customer-close c) (other .customer-close c);
     }

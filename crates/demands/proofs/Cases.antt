@@ -1,4 +1,5 @@
--- The starred cases 1 to 12 of document 01: every case of the list holds, computed by the checker; case 10, for every peak, by the law of equal values.
+-- The starred cases 1 to 12 of document 01: every case of the list holds, computed by the checker; case 10, for every
+-- peak, by the law of equal values.
 -- Assumes nothing.
 use mathlib.Core.Path.{_≡_, refl}
 use Rattle.over.specs.Over.{joined, largestOver, sumOver, countOver, anyOver, table, inBase}
@@ -19,9 +20,14 @@ use Rattle.demands.specs.Cases.{exampleCurves, exampleSheet, AllHold}
 
 -- case 12
 pub example-bytes : sheetBytes (sheetOf 2025 5 exampleCurves) ≡ exampleSheet
-unfolding joined largestOver sumOver countOver table inBase highestOf flatWindows windowByte bytesOf aboveLine comesBefore rank kept keptOf chosenOf curveOf curvesOf sheetOf
+unfolding
+    joined largestOver sumOver countOver table inBase highestOf flatWindows windowByte bytesOf aboveLine comesBefore rank kept keptOf chosenOf
+    curveOf curvesOf sheetOf
 example-bytes = refl
 
 pub all-hold : AllHold
-unfolding joined largestOver sumOver countOver anyOver table inBase shareOf levelOut leap leapDay daysTo weekdayOf listed christmas free candidate bridge highestOf flatWindows windowByte bytesOf aboveLine comesBefore rank kept keptOf chosenOf curveOf curvesOf sheetOf rowOut pricesOut chargeFor general reduced floorOf charge eligibleRules chargeRules judgeRules judgeAnswer
+unfolding
+    joined largestOver sumOver countOver anyOver table inBase shareOf levelOut leap leapDay daysTo weekdayOf listed christmas free candidate
+    bridge highestOf flatWindows windowByte bytesOf aboveLine comesBefore rank kept keptOf chosenOf curveOf curvesOf sheetOf rowOut pricesOut
+    chargeFor general reduced floorOf charge eligibleRules chargeRules judgeRules judgeAnswer
 all-hold u = (refl, (refl, (refl, (refl, (refl, (refl, (refl, (refl, (refl, (refl, (refl, (refl, (refl, (refl, (refl, (refl, (first-forty (u .peak) (u .positive), (refl, (refl, (refl, (example-bytes, tt)))))))))))))))))))))

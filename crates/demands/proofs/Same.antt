@@ -46,7 +46,9 @@ module _ (f : Figures) (r : Rates) where
   listed n = record { number = n; carries = yearColumn f r n }
 
   pub column-said : (n : ℕ) → (n ≡ 0) ⊎ Within 8 11 n → (sumSaid (listed n) ≡ f .sum) × (peakSaid (listed n) ≡ f .peak)
-  column-said = by-number (λ n. (sumSaid (listed n) ≡ f .sum) × (peakSaid (listed n) ≡ f .peak)) (refl, refl) (refl, refl) (refl, refl) (refl, refl) (refl, refl)
+  column-said =
+      by-number (λ n. (sumSaid (listed n) ≡ f .sum) × (peakSaid (listed n) ≡ f .peak))
+      (refl, refl) (refl, refl) (refl, refl) (refl, refl) (refl, refl)
 
 module _ (m : Module) (d : Demands m) (k : Basis) (xs : List ℕ) (l : LegalYear k xs) where
   ours-number : (decideAnswer k xs .number ≡ 0) ⊎ Within 8 11 (decideAnswer k xs .number)

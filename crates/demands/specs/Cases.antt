@@ -1,5 +1,5 @@
--- Document 01, Figures on each side: "Cases with * are proved of the definitions by one statement over one list". The list is `cases`, the
--- statement `AllHold`. "Prices unless said: low row 2,000 and 4,000, high row 10,000 and 800."
+-- Document 01, Figures on each side: "Cases with * are proved of the definitions by one statement over one list". The
+-- list is `cases`, the statement `AllHold`. "Prices unless said: low row 2,000 and 4,000, high row 10,000 and 800."
 use mathlib.Core.Path.{_≡_}
 use mathlib.Core.Bool.{Bool, true, false}
 use mathlib.Core.List.{List, [], _∷_, _++_}
@@ -21,7 +21,8 @@ use Rattle.tariff.specs.Charges.{fewHours, rowOf, general, reduced}
 use Rattle.tariff.specs.Answers.{withPeaks, withCharge, peaksOf, chargedOf}
 use Rattle.tariff.specs.Decision.{judgeAnswer}
 
--- what the definitions compute, and what the paper says: an answer, a number, a row of prices, a yes or no, a season's quarters, a sheet's bytes
+-- what the definitions compute, and what the paper says: an answer, a number, a row of prices, a yes or no, a season's
+-- quarters, a sheet's bytes
 pub data Case : Type 0 where
   answer : Said → Said → Case
   number : ℕ → ℕ → Case
@@ -71,8 +72,8 @@ exampleCurves = replicate 72 1000 ++ (2000 ∷ replicate 311 1000)
 abbrev pub exampleSheet : List ℕ
 exampleSheet = (0x48 ∷ 0x4c ∷ 0x5a ∷ 0x00 ∷ 0x01 ∷ 0x07 ∷ 0xe9 ∷ 0x05 ∷ []) ++ (replicate 9 0x00 ++ (0x80 ∷ replicate 38 0x00))
 
--- what the cases leave open, so that they hold whatever it is: where H first occurs; the charge year; the option, where hours of use are
--- 2,500 and more; H and the level in case 4; the peak in case 10, which is not zero
+-- what the cases leave open, so that they hold whatever it is: where H first occurs; the charge year; the option, where
+-- hours of use are 2,500 and more; H and the level in case 4; the peak in case 10, which is not zero
 pub record Unsaid : Type 0 where
   pub day : ℕ
   pub quarter : ℕ
@@ -108,7 +109,8 @@ module _ (u : Unsaid) where
       -- 3. The same, H 0: r 2,400,000, c 2,480,000.
       ∷ number (reduced (year 1000000 0 12000000000) (rates 5 prices (u .option))) 2400000
       ∷ charged (year 1000000 0 12000000000) (rates 5 prices (u .option)) 12400000 2480000
-      -- 4. M 1,000,000, S 10,000,000,000: high row, g 12,000,000. S one less: low row. (Its g is the same to the cent, so the row is stated.)
+      -- 4. M 1,000,000, S 10,000,000,000: high row, g 12,000,000. S one less: low row. (Its g is the same to the cent,
+      -- so the row is stated.)
       ∷ row (rowOf prices (fewHours (year 1000000 (u .high) 10000000000))) highRow
       ∷ number (general (year 1000000 (u .high) 10000000000) (rates (u .level) prices (u .option))) 12000000
       ∷ row (rowOf prices (fewHours (year 1000000 (u .high) 9999999999))) lowRow
@@ -118,7 +120,8 @@ module _ (u : Unsaid) where
       -- 6. As 5 with the option, H 800,000: r 8,800,000, so 11 with g 6,000,000.
       ∷ number (reduced (year 1000000 800000 4000000000) (rates 5 prices true)) 8800000
       ∷ refused (year 1000000 800000 4000000000) (rates 5 prices true) 11 6000000
-      -- 7. M 300,000, H 200,000, S 3,600,000,000, level 1, high row 500 and 800: g 870,000, c 820,000. Capacity price 499: 11.
+      -- 7. M 300,000, H 200,000, S 3,600,000,000, level 1, high row 500 and 800: g 870,000, c 820,000. Capacity price
+      -- 499: 11.
       ∷ charged (year 300000 200000 3600000000) (rates 1 (withHigh (priced 500 800)) (u .option)) 870000 820000
       ∷ refused (year 300000 200000 3600000000) (rates 1 (withHigh (priced 499 800)) (u .option)) 11 869700
       -- 8. As 7, H 200,001: 10.
@@ -132,8 +135,8 @@ module _ (u : Unsaid) where
       ∷ number (weekdayOf 2024 (dayOf 2024 3 2)) saturday
       ∷ number (weekdayOf 2025 (dayOf 2025 5 1)) thursday
       ∷ test (bridge 2025 (listed (dayOf 2025 5 1 ∷ [])) (dayOf 2025 5 2)) true
-      -- 12. The printed example's sheet: 48 4C 5A 00 01 07 E9 05, nine 00, 80, then thirty-eight 00. Its four curves are 1,000, but 2,000 in season 1
-      -- at quarter 72.
+      -- 12. The printed example's sheet: 48 4C 5A 00 01 07 E9 05, nine 00, 80, then thirty-eight 00. Its four curves
+      -- are 1,000, but 2,000 in season 1 at quarter 72.
       ∷ bytes (sheetBytes (sheetOf 2025 5 exampleCurves)) exampleSheet
       ∷ []
 

@@ -1,5 +1,5 @@
--- Demand 2, "charge .., to the cent": the charges of a year with the figures f under the rates r, in plain orders. M is `f .peak`,
--- H `f .high`, S `f .sum`.
+-- Demand 2, "charge .., to the cent": the charges of a year with the figures f under the rates r, in plain orders. M is
+-- `f .peak`, H `f .high`, S `f .sum`.
 use mathlib.Core.Path.{_≡_}
 use mathlib.Core.Bool.{true, false}
 use Prim.Native.Nat.{ℕ, _+_, _*_, _≤_, _<_, max}

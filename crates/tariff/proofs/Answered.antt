@@ -2,7 +2,7 @@
 -- a row.
 -- Assumes nothing.
 use mathlib.Core.Path.{_≡_, refl, sym, ap, _∙_}
-use mathlib.Core.Bool.{true, false}
+use mathlib.Core.Bool.{Bool, true, false, cond}
 use mathlib.Core.Logic.{⊎-elim}
 use Prim.Native.Nat.{ℕ, _+_, _*_, _≤_, _<_}
 use native.Mathlib.Omega.{arith}
@@ -23,6 +23,15 @@ use Rattle.tariff.proofs.Limits.{prices-legal, legal-in}
 
 pub number-is : {a b : Said} → a ≡ b → a .number ≡ b .number
 number-is e = ap (λ (s : Said). s .number) e
+
+-- 6 where a test passes, else an answer with the number 0: what is given tells which
+told-six : (t : Bool) (x : Said) → x .number ≡ 0 → only 6 ≡ cond t (only 6) x → t ≡ true
+told-six true x z e = refl
+told-six false x z e = absurd (omega (arith, number-is e, z))
+
+told-else : (t : Bool) {a x : Said} → a .number ≡ 0 → a ≡ cond t (only 6) x → (t ≡ false) × (a ≡ x)
+told-else true z e = absurd (omega (arith, number-is e, z))
+told-else false z e = (refl, e)
 
 -- the charges that an answer carries
 abbrev chargesFrom : Said → TwoCharges
@@ -48,20 +57,20 @@ module _ (f : Figures) (r : Rates) where
 
   -- and read off what they say: 6 is given for a price alone, and cents are the charges of legal prices
   pub general-six : only 6 ≡ generalAnswer f r → pricesOut (r .prices) ≡ true
-  general-six e = ⊎-elim (λ q. q) (λ q. absurd (omega (arith, number-is (e ∙ sym (general-in q refl))))) (decided _)
+  unfolding generalAnswer
+  general-six e = told-six (pricesOut (r .prices)) (withGeneral (general f r)) refl e
 
   pub general-cents : {g : ℕ} → withGeneral g ≡ generalAnswer f r → (pricesOut (r .prices) ≡ false) × (g ≡ general f r)
-  general-cents e =
-      ⊎-elim (λ q. absurd (omega (arith, number-is (e ∙ sym (general-out q)))))
-      (λ q. (q, ap payable (e ∙ sym (general-in q refl)))) (decided _)
+  unfolding generalAnswer
+  general-cents e = let k = told-else (pricesOut (r .prices)) refl e in (k .0, ap payable (k .1))
 
   pub floored-six : only 6 ≡ flooredAnswer f r → pricesOut (r .prices) ≡ true
-  floored-six e = ⊎-elim (λ q. q) (λ q. absurd (omega (arith, number-is (e ∙ sym (floored-in q refl))))) (decided _)
+  unfolding flooredAnswer
+  floored-six e = told-six (pricesOut (r .prices)) (withCharges (chargesOf f r)) refl e
 
   pub floored-cents : {a : TwoCharges} → withCharges a ≡ flooredAnswer f r → (pricesOut (r .prices) ≡ false) × (a ≡ chargesOf f r)
-  floored-cents e =
-      ⊎-elim (λ q. absurd (omega (arith, number-is (e ∙ sym (floored-out q)))))
-      (λ q. (q, ap chargesFrom (e ∙ sym (floored-in q refl)))) (decided _)
+  unfolding flooredAnswer
+  floored-cents e = let k = told-else (pricesOut (r .prices)) refl e in (k .0, ap chargesFrom (k .1))
 
 -- the rules of the first half
 module _ (f : Figures) (r : Rates) {g : ℕ} (e : g ≡ general f r) where
