@@ -152,6 +152,16 @@ fitted {t} {d} {e} {at} {r} h l =
     simp length-append (omega (arith, length-take-le at d (omega arith), length-drop (at + length t) d)) in
     record { room = l; end = end; same = ap length is ∙ long; is = is }
 
+-- what a call answers ends within the buffer that it wrote, so that the text can be taken out of it
+pub within : (t d : List ℕ) {e : List ℕ} {r : ℕ} → Put 0 t d e r → r ≤ length e
+within t d {e} {r} h = go (decLt (length d) (0 + length t))
+  where
+    go : Dec (length d < 0 + length t) → r ≤ length e
+    go (yes l) = omega (arith, h .end, short 0 t d l .end)
+    go (no l) =
+        let w = fitted h (omega arith) in
+        omega (arith, w .end, w .room, w .same)
+
 -- what was written at a buffer's start is its first part
 pub taken : {t d e : List ℕ} {r : ℕ} → Wrote d 0 t e r → take r e ≡ t
 taken {t} {d} {e} {r} h =
