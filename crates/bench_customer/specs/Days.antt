@@ -4,6 +4,7 @@ use mathlib.Core.List.{List}
 use Prim.Native.Nat.{ℕ}
 use Rattle.answers.specs.Said.{Said}
 use Rattle.dates.specs.Dates.{yearDays}
+use Rattle.readings.specs.declared.Run.the-variants.{Year}
 use Rattle.readings.specs.Days.{offered, daysOf}
 use Rattle.tariff.specs.declared.Prices.{Prices}
 use Rattle.terms.specs.Basis.{Basis}
@@ -12,7 +13,7 @@ use Rattle.customer.specs.Answers.{openCustomer, dayCustomer, closeAnswer}
 
 -- a customer's year after the first n days of a series
 abbrev pub customerAfter : Basis → List ℕ → ℕ → Customer
-customerAfter k xs n = offered dayCustomer (openCustomer k) (daysOf xs n)
+customerAfter k xs n = offered dayCustomer (openCustomer k) (daysOf (Year (openCustomer k .terms .year)) xs n)
 
 -- the days are those of the year that the opened state has
 abbrev pub openDays : Basis → ℕ

@@ -7,6 +7,7 @@ ghost use Rattle.flat.specs.Flat.{flatOf};
 ghost use Rattle.bench_customer.specs.Days.{customerAfter, openDays, customerDaysAnswer, pricesOf};
 use customer::Customer;
 use flat::Flat;
+use readings::Run;
 use tariff::Prices;
 use tariff::Row;
 
@@ -58,10 +59,10 @@ fn all_customer_days(
         r ≡ customerAfter k (now (series .entry)) (openDays k)) ⌝ }
 {
     let mut state = Customer::open(sheet, holidays, prices, option).customer;
-    for d in 0..dates::year_days(state.terms.year) {
-        state = state
-            .day(readings::day_part(series, d as usize + 1))
-            .customer;
+    let year = state.terms.year;
+    for d in 0..dates::year_days(year) {
+        let day = readings::day_part(Run::Year(year), series, d as usize + 1);
+        state = state.day(day).customer;
     }
     state
 }

@@ -4,13 +4,14 @@ use mathlib.Core.List.{List}
 use Prim.Native.Nat.{ℕ}
 use Rattle.answers.specs.Said.{Said}
 use Rattle.periods.specs.Period.{periodDays}
+use Rattle.readings.specs.declared.Run.the-variants.{Period}
 use Rattle.readings.specs.Days.{offered, daysOf}
 use Rattle.grid.specs.declared.Grid.{Grid}
 use Rattle.grid.specs.Answers.{openGrid, dayGrid, closeAnswer, closeBuffer}
 
 -- the grid after the first n days of a series
 abbrev pub gridAfter : ℕ → ℕ → List ℕ → ℕ → Grid
-gridAfter y level xs n = offered dayGrid (openGrid y level) (daysOf xs n)
+gridAfter y level xs n = offered dayGrid (openGrid y level) (daysOf (Period y) xs n)
 
 -- what closing answers after as many days as the period has, and the buffer then
 abbrev pub gridDaysAnswer : ℕ → ℕ → List ℕ → ℕ → Said

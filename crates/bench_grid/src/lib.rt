@@ -8,6 +8,7 @@ ghost use Rattle.flat.specs.Flat.{flatOf};
 ghost use Rattle.bench_grid.specs.Days.{gridAfter, gridDaysAnswer, gridDaysBuffer};
 use flat::Flat;
 use grid::Grid;
+use readings::Run;
 
 // The windows of a whole grid series.
 #[no_mangle]
@@ -24,7 +25,8 @@ fn all_grid_days(year: u16, level: u8, series: &[u32]) -> Grid
 {
     let mut state = Grid::open(year, level).grid;
     for d in 0..periods::period_days(year) {
-        state = state.day(readings::day_part(series, d as usize + 1)).grid;
+        let day = readings::day_part(Run::Period(year), series, d as usize + 1);
+        state = state.day(day).grid;
     }
     state
 }

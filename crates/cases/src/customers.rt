@@ -15,6 +15,7 @@ use super::series;
 use super::tariffs::next_prices;
 use super::tariffs::write_answer;
 use customer::Customer;
+use readings::Run;
 use tariff::Decision;
 use tariff::Prices;
 use tariff::Row;
@@ -48,9 +49,10 @@ fn ask(series: &[u32]) -> Customer {
 fn offer(series: &[u32], customer: Customer, first: usize, count: u16) -> Offered
     requires { ⌜ first < 65536 ⌝ }
 {
+    let run = Run::Year(customer.terms.year);
     let mut state = customer;
     for k in 0..count {
-        let stepped = state.day(readings::day_part(series, first + k as usize));
+        let stepped = state.day(readings::day_part(run, series, first + k as usize));
         let answer = stepped.answer;
         state = stepped.customer;
         let Decision::Taken = answer else {

@@ -15,6 +15,7 @@ use super::output;
 use super::series;
 use grid::Grid;
 use grid::GridAnswer;
+use readings::Run;
 
 // The state after some days, how many of them were taken, and what the last one offered was answered.
 struct Offered {
@@ -65,9 +66,10 @@ fn opening() -> Grid {
 fn offer(series: &[u32], grid: Grid, first: usize, count: u16) -> Offered
     requires { ⌜ first < 65536 ⌝ }
 {
+    let run = Run::Period(grid.year);
     let mut state = grid;
     for k in 0..count {
-        let stepped = state.day(readings::day_part(series, first + k as usize));
+        let stepped = state.day(readings::day_part(run, series, first + k as usize));
         let answer = stepped.answer;
         state = stepped.grid;
         let GridAnswer::Done = answer else {

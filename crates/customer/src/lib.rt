@@ -86,7 +86,7 @@ fn day_answer(year: u16, seen: u16, sum: u64, day: &[u32]) -> Decision
         return Decision::DayOut;
     }
     let run = Run::Year(year);
-    if day.len() != readings::day_len(run, seen) {
+    if day.len() != readings::day_span(run, seen).len {
         return Decision::WrongLength;
     }
     let first = legal::first_above(day, CUSTOMER_MOST);

@@ -91,7 +91,7 @@ impl CustomerFile {
             let year = self.customer.terms.year;
             let seen = self.customer.seen;
             if seen < dates::year_days(year) {
-                return fields::READING_BYTES * readings::day_len(Run::Year(year), seen);
+                return fields::READING_BYTES * readings::day_span(Run::Year(year), seen).len;
             }
             return 1;
         }
@@ -125,7 +125,7 @@ impl CustomerFile {
     fn take_day(self, b: &[u8]) -> CustomerFile
         ensures { λ r. ⌜ r ≡ dayFed customerReader self (now (b .entry)) ⌝ }
     {
-        let n = readings::day_len(Run::Year(self.customer.terms.year), self.customer.seen);
+        let n = readings::day_span(Run::Year(self.customer.terms.year), self.customer.seen).len;
         if b.len() < fields::READING_BYTES * n {
             return self.ended(Stage::Refused(4));
         }

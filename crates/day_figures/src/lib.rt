@@ -285,7 +285,7 @@ pub fn take_day(
     ensures { λ r. ⌜ (r ≡ dayTaken f year d carries (now (windows .entry)) (now (day .entry))) × (r .sum ≤ f .sum + dayMost) ⌝ }
 {
     let run = Run::Year(year);
-    if day.len() != readings::day_len(run, d) {
+    if day.len() != readings::day_span(run, d).len {
         return f;
     }
     if dates::MOST_DAYS <= d as usize {
@@ -322,7 +322,7 @@ fn take_month(
     let mut at = start;
     for d in from..end {
         let run = Run::Year(year);
-        let next = at + readings::day_len(run, d);
+        let next = at + readings::day_span(run, d).len;
         let carries = carrying[d as usize];
         let day = &series[at..next];
         let more = plain_day(figures, day);

@@ -74,17 +74,17 @@ module _ (run : Run) (many : 1 < runDays run) where
       (omega (arith, ends-last v, reading-le run (ends v) (runDays run) last (dayLen run last - 1) (omega arith) (omega (arith, len-some run last))))
 
   -- the days before the last do not tell them apart
-  part-same : (v w d : ℕ) → d < last → dayPart (ends v) (d + 1) ≡ dayPart (ends w) (d + 1)
+  part-same : (v w d : ℕ) → d < last → dayPart run (ends v) (d + 1) ≡ dayPart run (ends w) (d + 1)
   part-same v w d h = cut v ∙ sym (cut w)
     where
-      cut : (u : ℕ) → dayPart (ends u) (d + 1) ≡ take (dayLen run d) (drop (dayStart run d) before)
+      cut : (u : ℕ) → dayPart run (ends u) (d + 1) ≡ take (dayLen run d) (drop (dayStart run d) before)
       cut u =
           let inside : dayStart run d + dayLen run d ≤ length before = omega (arith, before-long, start-below run last d h, end-is, len-some run last) in
           part-of run (ends u) d (omega (arith, length-append before (u ∷ [])))
           ∙ ap (take (dayLen run d)) (drop-append-le (dayStart run d) before (u ∷ []) (omega arith))
           ∙ take-append-le (dayLen run d) (drop (dayStart run d) before) (u ∷ []) (omega (arith, length-drop (dayStart run d) before))
 
-  days-same : (v w : ℕ) → daysOf (ends v) last ≡ daysOf (ends w) last
+  days-same : (v w : ℕ) → daysOf run (ends v) last ≡ daysOf run (ends w) last
   unfolding daysOf
   days-same v w = table-cong _ _ last (λ d h. part-same v w d h)
 
@@ -96,7 +96,7 @@ module _ (run : Run) (many : 1 < runDays run) where
     legal-1 : LegalSeries run limit (ends 1)
     legal-1 = ends-legal 1 limit one
 
-    same-state : {S : Type 0} {step : S → List ℕ → S} {start : S} → WrongDays run limit step start → offered step start (daysOf (ends 0) (runDays run)) ≡ offered step start (daysOf (ends 1) (runDays run))
+    same-state : {S : Type 0} {step : S → List ℕ → S} {start : S} → WrongDays run limit step start → offered step start (daysOf run (ends 0) (runDays run)) ≡ offered step start (daysOf run (ends 1) (runDays run))
     same-state (first-day f) = f (ends 0) (ends 1) legal-0 legal-1 (part-same 0 1 0 (omega arith))
     same-state {step = step} {start = start} (last-day f) = f (ends 0) legal-0 ∙ ap (offered step start) (days-same 0 1) ∙ sym (f (ends 1) legal-1)
     same-state {step = step} {start = start} (kept f) = offered-stays step start (f start) _ ∙ sym (offered-stays step start (f start) _)

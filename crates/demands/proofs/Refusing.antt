@@ -138,7 +138,7 @@ module _ (m : Module) (d : Demands m) where
   grid-whole level z = d .days-as-whole .grid 2025 level blankBuffer (grid-opened level z)
 
   abbrev gridAt : ℕ → Grid
-  gridAt level = offered (m .gridNext) (m .gridOpened 2025 level) (daysOf same (runDays period))
+  gridAt level = offered (m .gridNext) (m .gridOpened 2025 level) (daysOf period same (runDays period))
 
   grid-closed : (level : ℕ) → gridOpens 2025 level .number ≡ 0 → gridEnd m blankBuffer (gridAt level) ≡ gridWhole m 2025 level blankBuffer same
   grid-closed level z = grid-whole level z .all-days same same-legal
@@ -175,7 +175,7 @@ module _ (m : Module) (d : Demands m) where
   -- two levels, and two price lists: an opening that hands back one state closes both alike
   one-grid : (g : Grid) → ((y level : ℕ) → m .gridOpened y level ≡ g) → ⊥
   one-grid g fixed =
-      let state : gridAt 5 ≡ gridAt 6 = ap (λ (s : Grid). offered (m .gridNext) s (daysOf same (runDays period))) (fixed 2025 5 ∙ sym (fixed 2025 6)) in
+      let state : gridAt 5 ≡ gridAt 6 = ap (λ (s : Grid). offered (m .gridNext) s (daysOf period same (runDays period))) (fixed 2025 5 ∙ sym (fixed 2025 6)) in
       let laid = ap (λ (c : Said × List ℕ). c .1) (sym (grid-closed 5 opened-5) ∙ ap (gridEnd m blankBuffer) state ∙ grid-closed 6 opened-6) in
       let five = same-laid m d 5 (level-in 5 (omega arith) (omega arith)) .level-is in
       let six = same-laid m d 6 (level-in 6 (omega arith) (omega arith)) .level-is in
@@ -184,9 +184,9 @@ module _ (m : Module) (d : Demands m) where
   one-customer : (c : Customer) → ((k : Basis) → m .customerOpened k ≡ c) → ⊥
   one-customer c fixed = omega (arith, at 100 (omega arith) (omega arith), at 200 (omega arith) (omega arith))
     where
-      at : (price : ℕ) → 100 ≤ price → price ≤ 100000 → payable (m .customerClose (offered (m .customerNext) c (daysOf year (runDays (basisRun k))))) ≡ 200 * price
+      at : (price : ℕ) → 100 ≤ price → price ≤ 100000 → payable (m .customerClose (offered (m .customerNext) c (daysOf (basisRun k) year (runDays (basisRun k))))) ≡ 200 * price
       at price least most =
-          ap (λ (s : Customer). payable (m .customerClose (offered (m .customerNext) s (daysOf year (runDays (basisRun k)))))) (sym (fixed (pricedBasis price)))
+          ap (λ (s : Customer). payable (m .customerClose (offered (m .customerNext) s (daysOf (basisRun k) year (runDays (basisRun k)))))) (sym (fixed (pricedBasis price)))
           ∙ ap payable (d .days-as-whole .customer (pricedBasis price) (opened price least most m d) .all-days (xs price least most) (legal price least most .series))
           ∙ pays price least most m d
 

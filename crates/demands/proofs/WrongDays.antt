@@ -119,10 +119,10 @@ module _ (m : Module) (d : Demands m) (twice : DayTwice m) where
   as-whole = d .days-as-whole .customer k (opened 100 (omega arith) (omega arith) m d)
 
   abbrev at : ℕ → Customer
-  at n = customerAfter m k (daysOf series n)
+  at n = customerAfter m k (daysOf run series n)
 
   -- the sum of a day that is handed out
-  day-sum : (n : ℕ) → n < runDays run → sumOver (λ p. getD (dayPart series (n + 1)) p 0) (length (dayPart series (n + 1))) ≡ sumOver (reading run series n) (dayLen run n)
+  day-sum : (n : ℕ) → n < runDays run → sumOver (λ p. getD (dayPart run series (n + 1)) p 0) (length (dayPart run series (n + 1))) ≡ sumOver (reading run series n) (dayLen run n)
   day-sum n h =
       let inside : dayStart run n + dayLen run n ≤ length series = omega (arith, run-held run n h, lawful .series .long) in
       rw (length-part run series n inside) (sum-cong _ _ (dayLen run n) (λ p l. part-at run series n inside p l))
@@ -133,8 +133,8 @@ module _ (m : Module) (d : Demands m) (twice : DayTwice m) where
   grows (suc n) h =
       let more : n + 1 ≡ suc n = omega arith in
       let before = grows n (omega arith) in
-      let step = ap (λ (c : Customer). c .figures .sum) (days-more (m .customerNext) (m .customerOpened k) series n) in
-      let added = twice (at n) (dayPart series (n + 1)) (as-whole .every-day series (lawful .series) n (omega arith)) in
+      let step = ap (λ (c : Customer). c .figures .sum) (days-more (m .customerNext) run (m .customerOpened k) series n) in
+      let added = twice (at n) (dayPart run series (n + 1)) (as-whole .every-day series (lawful .series) n (omega arith)) in
       let moved : at (n + 1) .figures .sum ≡ at (suc n) .figures .sum = ap (λ (j : ℕ). at j .figures .sum) more in
       omega (arith, before, step, added, moved, day-sum n (omega arith), sum-suc (λ e. sumOver (reading run series e) (dayLen run e)) n)
 

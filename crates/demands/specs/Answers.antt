@@ -13,6 +13,7 @@ use Rattle.answers.specs.Said.{only, badPlace}
 use Rattle.dates.specs.Dates.{seasonOf}
 use Rattle.periods.specs.Period.{periodDays}
 use Rattle.calendar.specs.Answer.{DayRow}
+use Rattle.readings.specs.declared.Run.{Run}
 use Rattle.readings.specs.declared.Run.the-variants.{Period}
 use Rattle.readings.specs.Runs.{dayLen, quarterOf, reading}
 use Rattle.readings.specs.Days.{BadThere, AsWhole}
@@ -85,11 +86,15 @@ pub record NeverLegal (m : Module) : Type 0 where
   pub customer-day : (c : Customer) (day : List ℕ) (p : ℕ) → p < length day → getD day p 0 ≡ missing → m .customerDay c day .number ≡ 0 → ⊥
 
 -- Numbered answers: "one day's ninety-six readings are handed out as a part of the year the caller lent .. for day 0, or a day the run doesn't wholly hold,
--- the part is empty". Day d, from 0, begins behind the 96 readings of each day before it.
+-- the part is empty". Day d, from 0, begins behind the 96 readings of each day before it, in every run.
 pub record HandedOut (m : Module) : Type 0 where
-  pub long : (xs : List ℕ) (d : ℕ) → 96 * (d + 1) ≤ length xs → length (m .part xs (d + 1)) ≡ 96
-  pub each : (xs : List ℕ) (d p : ℕ) → 96 * (d + 1) ≤ length xs → p < 96 → getD (m .part xs (d + 1)) p 0 ≡ getD xs (96 * d + p) 0
-  pub empty : (xs : List ℕ) (day : ℕ) → (day ≡ 0) ⊎ (length xs < 96 * day) → m .part xs day ≡ []
+  pub long : (run : Run) (xs : List ℕ) (d : ℕ) → 96 * (d + 1) ≤ length xs → length (m .part run xs (d + 1)) ≡ 96
+  pub each :
+      (run : Run) (xs : List ℕ) (d p : ℕ)
+      → 96 * (d + 1) ≤ length xs
+      → p < 96
+      → getD (m .part run xs (d + 1)) p 0 ≡ getD xs (96 * d + p) 0
+  pub empty : (run : Run) (xs : List ℕ) (day : ℕ) → (day ≡ 0) ⊎ (length xs < 96 * day) → m .part run xs day ≡ []
 
 -- "Windows .. are those of document 01, to the quarter-hour": the sheet that a reader of the first 56 bytes has which a series leaves in the buffer. Each
 -- quarter of each season is a window exactly when it is kept of the season's curve, in plain orders (specs/Windows).
@@ -158,9 +163,9 @@ pub record DaysAsWhole (m : Module) : Type 0 where
   pub grid-place :
       (y level : ℕ) (xs buffer : List ℕ) (d q : ℕ)
       → m .windows y level xs (length buffer) ≡ badPlace (record { day = d + 1; position = q })
-      → BadThere (m .gridDay) (m .gridNext) (m .gridOpened y level) xs d q
+      → BadThere (Period y) (m .gridDay) (m .gridNext) (m .gridOpened y level) xs d q
   pub customer-place :
       (k : Basis) (xs : List ℕ) (d q : ℕ)
       → m .customerOpen k ≡ only 0
       → m .decide k xs ≡ badPlace (record { day = d + 1; position = q })
-      → BadThere (m .customerDay) (m .customerNext) (m .customerOpened k) xs d q
+      → BadThere (basisRun k) (m .customerDay) (m .customerNext) (m .customerOpened k) xs d q

@@ -7,6 +7,7 @@ use Prim.Native.Nat.{ℕ}
 use lib.ListN.{length}
 use Rattle.answers.specs.Said.{Said}
 use Rattle.calendar.specs.Answer.{dayAnswer as calendarAnswer}
+use Rattle.readings.specs.declared.Run.{Run}
 use Rattle.readings.specs.Part.{dayPart}
 use Rattle.readings.specs.Days.{offered}
 use Rattle.sheet.specs.declared.Sheet.{Sheet}
@@ -24,8 +25,8 @@ use Rattle.customer.specs.Answers.{dayAnswer as customerDayAnswer, dayCustomer,
 pub record Module : Type 0 where
   -- a calendar day: year, holiday list, day
   pub calendar : ℕ → List ℕ → ℕ → Said
-  -- a day that is handed out as a part of a lent series: the series, and the day from 1
-  pub part : List ℕ → ℕ → List ℕ
+  -- a day that is handed out as a part of a lent series: the run, the series, and the day from 1
+  pub part : Run → List ℕ → ℕ → List ℕ
   -- a sheet that is read from bytes: the answer, and the sheet beside it
   pub read : List ℕ → Said
   pub sheetRead : List ℕ → Sheet

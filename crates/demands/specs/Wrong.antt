@@ -87,14 +87,14 @@ pub data WrongDays {S : Type 0} (run : Run) (limit : ℕ) (step : S → List ℕ
       ((xs ys : List ℕ)
       → LegalSeries run limit xs
       → LegalSeries run limit ys
-      → dayPart xs 1 ≡ dayPart ys 1
-      → offered step start (daysOf xs (runDays run)) ≡ offered step start (daysOf ys (runDays run)))
+      → dayPart run xs 1 ≡ dayPart run ys 1
+      → offered step start (daysOf run xs (runDays run)) ≡ offered step start (daysOf run ys (runDays run)))
       → WrongDays run limit step start
   -- the last day is lost
   last-day :
       ((xs : List ℕ)
       → LegalSeries run limit xs
-      → offered step start (daysOf xs (runDays run)) ≡ offered step start (daysOf xs (runDays run - 1)))
+      → offered step start (daysOf run xs (runDays run)) ≡ offered step start (daysOf run xs (runDays run - 1)))
       → WrongDays run limit step start
   -- every day keeps the state, whatever it is answered
   kept : ((s : S) (day : List ℕ) → step s day ≡ s) → WrongDays run limit step start

@@ -1,6 +1,6 @@
 // The high-load windows of a grid series, whole and day by day.
-// Main theorem: days given one by one, refused ones among them, close as the whole series of the taken days, sheet bytes included
-// (`days-whole`, proofs/Whole).
+// Main theorem: days given one by one, refused ones among them, close as the whole series of the taken days, sheet
+// bytes included (`days-whole`, proofs/Whole).
 ghost use mathlib.Core.Path.{_≡_};
 ghost use lib.ListN.{length};
 ghost use Rattle.answers.specs.Ruling.{gridMost};
@@ -9,7 +9,7 @@ ghost use Rattle.readings.specs.Legal.{highestOf};
 ghost use Rattle.readings.specs.Days.{nextAnswer};
 ghost use Rattle.sheet.specs.Answers.{saidOfSheet};
 ghost use Rattle.sheet.specs.Windows.{flatWindows};
-ghost use Rattle.grid.specs.Answers.{saidOfGrid, finishAnswer, finished, windowsAnswer, windowsBuffer, openAnswer, openGrid, shut, dayAnswer, dayGrid, dayCurves, closeAnswer, closeBuffer};
+ghost use Rattle.grid.specs.Answers.{saidOfGrid, Gives, finishAnswer, finished, windowsAnswer, windowsBuffer, openAnswer, openGrid, shut, dayAnswer, dayGrid, dayCurves, closeAnswer, closeBuffer};
 use answers::Place;
 use readings::Run;
 use sheet::Sheet;
@@ -68,7 +68,8 @@ pub fn flat_windows(chosen: [[bool; 96]; 4]) -> [bool; sheet::PLACES]
 // All days are in: 7 for a peak of zero, else the windows are chosen and their sheet is written.
 fn finish(year: u16, level: u8, curves: &[u32; 384], peak: u32, out: &mut [u8]) -> GridAnswer
     requires { ⌜ peak ≡ highestOf (now curves) ⌝ }
-    ensures { λ r. ⌜ (saidOfGrid r ≡ finishAnswer year level (now (curves .entry)) (length (now (out .entry)))) × (now (out .exit) ≡ finished year level (now (curves .entry)) (now (out .entry))) ⌝ }
+    ensures { λ r. ⌜ Gives r (finishAnswer year level (now (curves .entry)) (length (now (out .entry))))
+        (now (out .exit)) (finished year level (now (curves .entry)) (now (out .entry))) ⌝ }
 {
     if peak == 0 {
         return GridAnswer::NoPeak;
@@ -84,9 +85,11 @@ fn finish(year: u16, level: u8, curves: &[u32; 384], peak: u32, out: &mut [u8]) 
     ))
 }
 
-// The windows of a whole series, as a sheet in a lent buffer. Refuses 14, 1, 2, 4, 5, 7 in this order, and then changes no byte.
+// The windows of a whole series, as a sheet in a lent buffer. Refuses 14, 1, 2, 4, 5, 7 in this order, and then changes
+// no byte.
 pub fn windows(year: u16, level: u8, series: &[u32], out: &mut [u8]) -> GridAnswer
-    ensures { λ r. ⌜ (saidOfGrid r ≡ windowsAnswer year level (now (series .entry)) (length (now (out .entry)))) × (now (out .exit) ≡ windowsBuffer year level (now (series .entry)) (now (out .entry))) ⌝ }
+    ensures { λ r. ⌜ Gives r (windowsAnswer year level (now (series .entry)) (length (now (out .entry))))
+        (now (out .exit)) (windowsBuffer year level (now (series .entry)) (now (out .entry))) ⌝ }
 {
     if out.len() < sheet::SHEET_SIZE {
         return GridAnswer::Short;
@@ -116,7 +119,7 @@ fn day_answer(year: u16, seen: u16, day: &[u32]) -> GridAnswer
     if periods::period_days(year) <= seen {
         return GridAnswer::DayOut;
     }
-    if day.len() != readings::day_len(Run::Period(year), seen) {
+    if day.len() != readings::day_span(Run::Period(year), seen).len {
         return GridAnswer::WrongLength;
     }
     let first = legal::first_above(day, answers::GRID_MOST);
@@ -129,10 +132,11 @@ fn day_answer(year: u16, seen: u16, day: &[u32]) -> GridAnswer
     GridAnswer::Done
 }
 
-// One day more, laid over lent curves where so many days are taken: for a host that keeps the curves itself. Refuses 13, 4, 5 in this
-// order, and then changes no value.
+// One day more, laid over lent curves where so many days are taken: for a host that keeps the curves itself. Refuses
+// 13, 4, 5 in this order, and then changes no value.
 pub fn take_day(curves: &mut [u32; 384], year: u16, seen: u16, day: &[u32]) -> GridAnswer
-    ensures { λ r. ⌜ (saidOfGrid r ≡ nextAnswer (Period year) gridMost seen (now (day .entry))) × (now (curves .exit) ≡ dayCurves year (now (curves .entry)) seen (now (day .entry))) ⌝ }
+    ensures { λ r. ⌜ Gives r (nextAnswer (Period year) gridMost seen (now (day .entry)))
+        (now (curves .exit)) (dayCurves year (now (curves .entry)) seen (now (day .entry))) ⌝ }
 {
     let answer = day_answer(year, seen, day);
     let GridAnswer::Done = answer else {
@@ -143,10 +147,10 @@ pub fn take_day(curves: &mut [u32; 384], year: u16, seen: u16, day: &[u32]) -> G
 }
 
 impl Grid {
-    // Opens a series that comes day by day. Refuses 1, 2; a refusal hands back one fixed state, on which every day and every
-    // closing is 13.
+    // Opens a series that comes day by day. Refuses 1, 2; a refusal hands back one fixed state, on which every day and
+    // every closing is 13.
     pub fn open(year: u16, level: u8) -> Stepped
-        ensures { λ r. ⌜ (saidOfGrid (r .answer) ≡ openAnswer year level) × (r .grid ≡ openGrid year level) ⌝ }
+        ensures { λ r. ⌜ Gives (r .answer) (openAnswer year level) (r .grid) (openGrid year level) ⌝ }
     {
         if answers::year_out(year) {
             return Stepped {
@@ -182,10 +186,10 @@ impl Grid {
         }
     }
 
-    // One day more, laid over the curves of the state that is handed back. Refuses 13, 4, 5 in this order, and then hands back the state as
-    // it was.
+    // One day more, laid over the curves of the state that is handed back. Refuses 13, 4, 5 in this order, and then
+    // hands back the state as it was.
     pub fn day(self, day: &[u32]) -> Stepped
-        ensures { λ r. ⌜ (saidOfGrid (r .answer) ≡ dayAnswer self (now (day .entry))) × (r .grid ≡ dayGrid self (now (day .entry))) ⌝ }
+        ensures { λ r. ⌜ Gives (r .answer) (dayAnswer self (now (day .entry))) (r .grid) (dayGrid self (now (day .entry))) ⌝ }
     {
         let year = self.year;
         let seen = self.seen;
@@ -198,9 +202,11 @@ impl Grid {
         Stepped { answer, grid }
     }
 
-    // The windows of the days taken, as a sheet in a lent buffer. Refuses 14, 13, 7 in this order, and then changes no byte.
+    // The windows of the days taken, as a sheet in a lent buffer. Refuses 14, 13, 7 in this order, and then changes no
+    // byte.
     pub fn close(self, out: &mut [u8]) -> GridAnswer
-        ensures { λ r. ⌜ (saidOfGrid r ≡ closeAnswer self (length (now (out .entry)))) × (now (out .exit) ≡ closeBuffer self (now (out .entry))) ⌝ }
+        ensures { λ r. ⌜ Gives r (closeAnswer self (length (now (out .entry))))
+            (now (out .exit)) (closeBuffer self (now (out .entry))) ⌝ }
     {
         let curves = self.curves;
         if out.len() < sheet::SHEET_SIZE {

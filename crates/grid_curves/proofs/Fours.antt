@@ -1,4 +1,5 @@
--- Four days of one season are laid over the curves quarter by quarter: what the loop keeps, and that it comes to four days more.
+-- Four days of one season are laid over the curves quarter by quarter: what the loop keeps, and that it comes to four
+-- days more.
 -- Assumes nothing.
 use mathlib.Core.Path.{_≡_, refl, sym, ap, _∙_}
 use mathlib.Core.Bool.{Bool, true, false}
@@ -122,11 +123,17 @@ max-pairs u v w x =
 
 largest-four : (g : ℕ → ℕ) → largestOver g 4 ≡ max (max (max (max 0 (g 0)) (g 1)) (g 2)) (g 3)
 largest-four g =
-    largest-more g 3
-    ∙ ap (λ (z : ℕ). max z (g 3)) (largest-more g 2 ∙ ap (λ (z : ℕ). max z (g 2)) (largest-more g 1 ∙ ap (λ (z : ℕ). max z (g 1)) (largest-more g 0 ∙ ap (λ (z : ℕ). max z (g 0)) (largest-none g))))
+    let one = largest-more g 0 ∙ ap (λ (z : ℕ). max z (g 0)) (largest-none g) in
+    let two = largest-more g 1 ∙ ap (λ (z : ℕ). max z (g 1)) one in
+    let three = largest-more g 2 ∙ ap (λ (z : ℕ). max z (g 2)) two in
+    largest-more g 3 ∙ ap (λ (z : ℕ). max z (g 3)) three
 
 -- the four readings of a quarter, as the code joins them
-pub four-top : (four : List ℕ) (q : ℕ) → max (max (getD four q 0) (getD four (dayQuarters + q) 0)) (max (getD four (2 * dayQuarters + q) 0) (getD four (3 * dayQuarters + q) 0)) ≡ fourTop four q
+pub four-top :
+    (four : List ℕ) (q : ℕ)
+    → max (max (getD four q 0) (getD four (dayQuarters + q) 0))
+    (max (getD four (2 * dayQuarters + q) 0) (getD four (3 * dayQuarters + q) 0))
+    ≡ fourTop four q
 unfolding fourTop
 four-top four q =
     let g : ℕ → ℕ = λ k. getD four (dayQuarters * k + q) 0 in
@@ -155,11 +162,14 @@ module _
     -- a day of the four brings its reading
     brings : (k q t : ℕ) → k < 4 → q < dayQuarters → topOf y (d + k) (reading (Period y) xs (d + k)) t q ≡ counted (eqb s t) (getD four (dayQuarters * k + q) 0)
     brings k q t l m =
-        let stands : dayStart (Period y) (d + k) + q ≡ at + (dayQuarters * k + q) = omega (arith, start-formula (Period y) d, start-formula (Period y) (d + k)) in
+        let stands : dayStart (Period y) (d + k) + q ≡ at + (dayQuarters * k + q) =
+        omega (arith, start-formula (Period y) d, start-formula (Period y) (d + k)) in
         let inside : dayQuarters * k + q < size = omega arith in
         top-plain y (d + k) (reading (Period y) xs (d + k)) t q m
         ∙ ap (λ (z : ℕ). counted (eqb z t) (reading (Period y) xs (d + k) q)) (alike k l)
-        ∙ ap (counted (eqb s t)) (ap (λ (z : ℕ). getD xs z 0) stands ∙ sym (getD-take size (drop at xs) (dayQuarters * k + q) 0 inside ∙ getD-drop at xs (dayQuarters * k + q) 0))
+        ∙ ap (counted (eqb s t))
+        (ap (λ (z : ℕ). getD xs z 0) stands
+        ∙ sym (getD-take size (drop at xs) (dayQuarters * k + q) 0 inside ∙ getD-drop at xs (dayQuarters * k + q) 0))
 
     four-value : (t q : ℕ) → q < dayQuarters → max (curveAt y xs d t q) (counted (eqb s t) (fourTop four q)) ≡ curveAt y xs (d + 4) t q
     unfolding curveAt fourTop

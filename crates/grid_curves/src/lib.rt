@@ -1,13 +1,14 @@
-// The four curves of a grid series: for each season and quarter the highest reading, over all days. Document 01, High-load windows.
-// Main theorem: the highest value of the curves is the period's peak, since every reading goes into one of them (`peak-curves`,
-// proofs/Curves).
+// The four curves of a grid series: for each season and quarter the highest reading, over all days. Document 01,
+// High-load windows.
+// Main theorem: the highest value of the curves is the period's peak, since every reading goes into one of them
+// (`peak-curves`, proofs/Curves).
 ghost use mathlib.Core.Path.{_≡_};
 ghost use Prim.Native.Nat.{ℕ, _<_, _≤_, _+_, min};
 ghost use lib.ListN.{length};
 ghost use Rattle.periods.specs.Period.{periodDays, periodSeason};
 ghost use Rattle.readings.specs.declared.Run.the-variants.{Period};
-ghost use Rattle.readings.specs.Runs.{dayLen, dayStart};
-ghost use Rattle.grid_curves.specs.Curves.{flatCurves, merged};
+ghost use Rattle.readings.specs.Runs.{dayLen};
+ghost use Rattle.grid_curves.specs.Curves.{flatCurves, merged, LaidTo};
 ghost use Rattle.grid_curves.specs.Four.{fourDays, overlaid};
 use readings::Run;
 
@@ -18,12 +19,6 @@ const FOUR_DAYS: usize = 384;
 const LAST_DAY: u16 = 65535;
 
 const WINTER: u8 = 1;
-
-// How far a pass over a series has come: the days that are laid, and the readings before the next.
-struct Reach {
-    d: u16,
-    at: usize,
-}
 
 fn smaller(a: usize, b: usize) -> usize
     ensures { λ r. ⌜ r ≡ min a b ⌝ }
@@ -57,11 +52,12 @@ fn lay(curves: &mut [u32; 384], year: u16, d: u16, season: u8, day: &[u32])
 pub fn lay_day(curves: &mut [u32; 384], year: u16, d: u16, day: &[u32])
     ensures { λ r. ⌜ now (curves .exit) ≡ merged year (now (curves .entry)) d (now (day .entry)) ⌝ }
 {
-    let n = smaller(day.len(), readings::day_len(Run::Period(year), d));
+    let n = smaller(day.len(), readings::day_span(Run::Period(year), d).len);
     lay(&mut *curves, year, d, season_of(year, d), &day[..n]);
 }
 
-// Lays four days of one season, which stand one after the other, over the curves: a curve's value is read and written once for all four.
+// Lays four days of one season, which stand one after the other, over the curves: a curve's value is read and written
+// once for all four.
 fn lay_four(curves: &mut [u32; 384], season: u8, four: &[u32])
     requires { ⌜ (length (now four) ≡ fourDays) × (1 ≤ season) × (season ≤ 4) ⌝ }
     ensures { λ r. ⌜ now (curves .exit) ≡ overlaid season (now (curves .entry)) (now (four .entry)) ⌝ }
@@ -78,63 +74,52 @@ fn lay_four(curves: &mut [u32; 384], season: u8, four: &[u32])
     }
 }
 
-// Lays the next four of a season's days up to `end` over the curves, or the next one where there are no four, or no readings for them.
-fn lay_next(
-    curves: &mut [u32; 384],
-    year: u16,
-    season: u8,
-    end: u16,
-    d: u16,
-    at: usize,
-    series: &[u32],
-) -> Reach
-    requires { ⌜ (d < end) × (end ≤ periodDays year) × ((k : ℕ) → d ≤ k → k < end → periodSeason year (k + 1) ≡ season) × (at ≡ dayStart (Period year) d) × (now curves ≡ flatCurves year (now series) d) ⌝ }
-    ensures { λ r. ⌜ (d < r .d) × (r .d ≤ end) × (r .at ≡ dayStart (Period year) (r .d)) × (now (curves .exit) ≡ flatCurves year (now (series .entry)) (r .d)) ⌝ }
+// Lays the next four of a season's days up to `end` over the curves, or the next one where there are no four, or no
+// readings for them: the number of days that are laid then.
+fn lay_next(curves: &mut [u32; 384], year: u16, season: u8, end: u16, d: u16, series: &[u32]) -> u16
+    requires { ⌜ (d < end) × (end ≤ periodDays year)
+        × ((k : ℕ) → d ≤ k → k < end → periodSeason year (k + 1) ≡ season)
+        × (now curves ≡ flatCurves year (now series) d) ⌝ }
+    ensures { λ r. ⌜ LaidTo year (now (series .entry)) d end r (now (curves .exit)) ⌝ }
 {
-    let after = at + FOUR_DAYS;
+    let span = readings::day_span(Run::Period(year), d);
+    let start = span.start;
+    let after = start + FOUR_DAYS;
     if (d + 4 <= end) & (after <= series.len()) {
-        lay_four(&mut *curves, season, &series[at..after]);
-        return Reach {
-            d: d + 4,
-            at: after,
-        };
+        lay_four(&mut *curves, season, &series[start..after]);
+        return d + 4;
     }
-    let next = at + readings::day_len(Run::Period(year), d);
-    let from = smaller(at, series.len());
-    let to = smaller(next, series.len());
+    let from = smaller(start, series.len());
+    let to = smaller(start + span.len, series.len());
     lay(&mut *curves, year, d, season, &series[from..to]);
-    Reach { d: d + 1, at: next }
+    d + 1
 }
 
-// Lays the days from day d on to the end of their month over the curves: they lie in one season.
-fn lay_month(curves: &mut [u32; 384], year: u16, from: u16, start: usize, series: &[u32]) -> Reach
-    requires { ⌜ (from < periodDays year) × (start ≡ dayStart (Period year) from) × (now curves ≡ flatCurves year (now series) from) ⌝ }
-    ensures { λ r. ⌜ (from < r .d) × (r .d ≤ periodDays year) × (r .at ≡ dayStart (Period year) (r .d)) × (now (curves .exit) ≡ flatCurves year (now (series .entry)) (r .d)) ⌝ }
+// Lays the days from day d on to the end of their month over the curves: they lie in one season. The number of days
+// that are laid then.
+fn lay_month(curves: &mut [u32; 384], year: u16, from: u16, series: &[u32]) -> u16
+    requires { ⌜ (from < periodDays year) × (now curves ≡ flatCurves year (now series) from) ⌝ }
+    ensures { λ r. ⌜ LaidTo year (now (series .entry)) from (periodDays year) r (now (curves .exit)) ⌝ }
 {
     let season = periods::period_season(year, from + 1);
     let end = from + 1 + periods::period_left(year, from + 1);
     let mut d = from;
-    let mut at = start;
     while d < end {
-        let next = lay_next(&mut *curves, year, season, end, d, at, series);
-        d = next.d;
-        at = next.at;
+        d = lay_next(&mut *curves, year, season, end, d, series);
     }
-    Reach { d, at }
+    d
 }
 
-// The curves of the period's days in any series, month by month: one pass, over one array. Behind the last reading there is 0.
+// The curves of the period's days in any series, month by month: one pass, over one array. Behind the last reading
+// there is 0.
 pub fn collect(year: u16, series: &[u32]) -> [u32; 384]
     ensures { λ r. ⌜ r ≡ flatCurves year (now (series .entry)) (periodDays year) ⌝ }
 {
     let days = periods::period_days(year);
     let mut curves = [0; 384];
-    let mut at = 0;
     let mut d = 0;
     while d < days {
-        let next = lay_month(&mut curves, year, d, at, series);
-        d = next.d;
-        at = next.at;
+        d = lay_month(&mut curves, year, d, series);
     }
     curves
 }

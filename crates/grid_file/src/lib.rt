@@ -143,7 +143,7 @@ impl GridFile {
             let year = self.grid.year;
             let seen = self.grid.seen;
             if seen < periods::period_days(year) {
-                return fields::READING_BYTES * readings::day_len(Run::Period(year), seen);
+                return fields::READING_BYTES * readings::day_span(Run::Period(year), seen).len;
             }
             return 1;
         }
@@ -177,7 +177,7 @@ impl GridFile {
     fn take_day(self, b: &[u8]) -> GridFile
         ensures { λ r. ⌜ r ≡ dayFed gridReader self (now (b .entry)) ⌝ }
     {
-        let n = readings::day_len(Run::Period(self.grid.year), self.grid.seen);
+        let n = readings::day_span(Run::Period(self.grid.year), self.grid.seen).len;
         if b.len() < fields::READING_BYTES * n {
             return self.ended(Stage::Refused(4));
         }

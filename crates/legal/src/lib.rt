@@ -1,5 +1,7 @@
-// Legal readings of document 01: the highest of some readings, the first above a limit, and the first illegal reading of a run.
-// Main theorem: the first illegal reading is found by day and then by position, in any series, and nothing is read past its end.
+// Legal readings of document 01: the highest of some readings, the first above a limit, and the first illegal reading
+// of a run.
+// Main theorem: the first illegal reading is found by day and then by position, in any series, and nothing is read past
+// its end.
 ghost use mathlib.Core.Path.{_≡_};
 ghost use Prim.Native.Nat.{max};
 ghost use lib.ListN.{getD};
@@ -36,7 +38,8 @@ fn any_above(readings: &[u32], limit: u32) -> bool
     any
 }
 
-// The place of the first reading above a limit, or how many readings there are. It is searched for only where there is one.
+// The place of the first reading above a limit, or how many readings there are. It is searched for only where there is
+// one.
 pub fn first_above(readings: &[u32], limit: u32) -> usize
     ensures { λ r. ⌜ r ≡ firstAbove limit (now (readings .entry)) ⌝ }
 {
@@ -65,17 +68,15 @@ pub fn first_illegal(run: Run, series: &[u32], limit: u32) -> Place
     let days = readings::run_days(run);
     let mut day = 0;
     let mut position = 0;
-    let mut start: usize = 0;
     'search: for d in 0..days {
-        let len = readings::day_len(run, d);
-        for p in 0..len {
-            if limit < reading_at(series, start + p) {
+        let span = readings::day_span(run, d);
+        for p in 0..span.len {
+            if limit < reading_at(series, span.start + p) {
                 day = d + 1;
                 position = p as u16;
                 break 'search;
             }
         }
-        start += len;
     }
     Place { day, position }
 }

@@ -1,4 +1,5 @@
--- Laws of series that are given whole or day by day: the cases of their answers, and readings with one more day after them.
+-- Laws of series that are given whole or day by day: the cases of their answers, and readings with one more day after
+-- them.
 -- Assumes nothing.
 use mathlib.Core.Path.{_≡_, refl, sym, ap, _∙_}
 use mathlib.Core.Logic.{_↔_}
@@ -43,7 +44,10 @@ module _ (run : Run) (limit : ℕ) (xs : List ℕ) where
 
   -- it is accepted exactly when it is complete and legal
   pub legal-series : (seriesAnswer run limit xs ≡ only 0) ↔ LegalSeries run limit xs
-  legal-series = (there (ℕ-discrete (length xs) (runReadings run)) (decLt limit (peakOf run xs (runDays run))), λ s. sym (series-legal (s .long) (all-legal-in run limit xs .1 (s .legal))))
+  legal-series = (
+    there (ℕ-discrete (length xs) (runReadings run)) (decLt limit (peakOf run xs (runDays run))),
+    λ s. sym (series-legal (s .long) (all-legal-in run limit xs .1 (s .legal))),
+  )
     where
       there : Dec (length xs ≡ runReadings run) → Dec (limit < peakOf run xs (runDays run)) → seriesAnswer run limit xs ≡ only 0 → LegalSeries run limit xs
       there (no l) v e = absurd (omega (arith, ap (λ (a : Said). a .number) (series-length l ∙ e)))

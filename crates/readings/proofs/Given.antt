@@ -1,4 +1,5 @@
--- A machine that is given the days of a series one by one: no day, and one day more; and the first n days as a part of the series.
+-- A machine that is given the days of a series one by one: no day, and one day more; and the first n days as a part of
+-- the series.
 -- Assumes nothing.
 use mathlib.Core.Path.{_≡_, refl, sym, ap, _∙_}
 use mathlib.Core.Bool.{Bool, true, false, cond}
@@ -28,16 +29,16 @@ module _ {S : Type 0} (step : S → List ℕ → S) where
   offered-stays s keeps [] = refl
   offered-stays s keeps (day ∷ days) = ap (λ (t : S). offered step t days) (keeps day) ∙ offered-stays s keeps days
 
-  module _ (start : S) (xs : List ℕ) where
-    pub days-none : offered step start (daysOf xs 0) ≡ start
+  module _ (run : Run) (start : S) (xs : List ℕ) where
+    pub days-none : offered step start (daysOf run xs 0) ≡ start
     unfolding offered daysOf
-    days-none = ap (offered step start) (table-none (λ d. dayPart xs (d + 1)))
+    days-none = ap (offered step start) (table-none (λ d. dayPart run xs (d + 1)))
 
-    pub days-more : (n : ℕ) → offered step start (daysOf xs (n + 1)) ≡ step (offered step start (daysOf xs n)) (dayPart xs (n + 1))
+    pub days-more : (n : ℕ) → offered step start (daysOf run xs (n + 1)) ≡ step (offered step start (daysOf run xs n)) (dayPart run xs (n + 1))
     unfolding daysOf
     days-more n =
-        ap (offered step start) (table-more (λ d. dayPart xs (d + 1)) n)
-        ∙ offered-more (daysOf xs n) start (dayPart xs (n + 1))
+        ap (offered step start) (table-more (λ d. dayPart run xs (d + 1)) n)
+        ∙ offered-more (daysOf run xs n) start (dayPart run xs (n + 1))
 
 -- the readings of the taken days, one day more at the front
 module _ {S : Type 0} (answer : S → List ℕ → Said) (step : S → List ℕ → S) where
@@ -57,7 +58,10 @@ module _ (run : Run) (xs : List ℕ) where
   pub part-none-yet : take (dayStart run 0) xs ≡ []
   part-none-yet = ap (λ (k : ℕ). take k xs) (start-none run)
 
-  pub part-more : (n : ℕ) → dayStart run n + dayLen run n ≤ length xs → take (dayStart run n) xs ++ dayPart xs (n + 1) ≡ take (dayStart run (n + 1)) xs
+  pub part-more :
+      (n : ℕ)
+      → dayStart run n + dayLen run n ≤ length xs
+      → take (dayStart run n) xs ++ dayPart run xs (n + 1) ≡ take (dayStart run (n + 1)) xs
   part-more n h =
       ap (λ (day : List ℕ). take (dayStart run n) xs ++ day) (part-of run xs n h)
       ∙ sym (take-add (dayStart run n) (dayLen run n) xs)

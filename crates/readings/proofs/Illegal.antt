@@ -82,6 +82,9 @@ module _ (run : Run) (limit : ℕ) (xs : List ℕ) where
 
   pub some-illegal-in : (limit < peakOf run xs (runDays run)) ↔ SomeIllegalIn run limit xs
   some-illegal-in = (
-    λ v. let f = first-illegal-in v in record { on = badDay run limit xs; at = badAt run limit xs (badDay run limit xs); on-in = f .on-in; at-in = f .at-in; above = f .above },
+    λ v.
+        let f = first-illegal-in v in
+        let on = badDay run limit xs in
+        record { on = on; at = badAt run limit xs on; on-in = f .on-in; at-in = f .at-in; above = f .above },
     λ s. omega (arith, s .above, reading-le run xs (runDays run) (s .on) (s .at) (s .on-in) (s .at-in)),
   )

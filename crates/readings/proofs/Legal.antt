@@ -1,4 +1,5 @@
--- Laws of legal readings: the search for the first illegal one, and that there is one exactly where the highest is illegal.
+-- Laws of legal readings: the search for the first illegal one, and that there is one exactly where the highest is
+-- illegal.
 -- Assumes nothing.
 use mathlib.Core.Path.{_≡_, sym, _∙_}
 use mathlib.Core.Bool.{Bool, true}
@@ -132,19 +133,19 @@ module _ (run : Run) (limit : ℕ) (xs : List ℕ) where
   illegal-at h = simp (lt-ltb (badDay run limit xs) (runDays run) (peak-illegal h))
 
   -- what the search keeps before day d, and before position p of that day
-  pub record Searching (days day position start d : ℕ) : Type 0 where
+  pub record Searching (days day position d : ℕ) : Type 0 where
     pub some : d ≤ days
     pub all : days ≡ runDays run
     pub few : days ≤ mostDays
     pub no-day : day ≡ 0
     pub no-position : position ≡ 0
-    pub from : start ≡ dayStart run d
-    pub low : start ≤ 100 * d
     pub passed : Passed (badIn run limit xs) d
 
-  pub record InDay (days day position start d len p : ℕ) : Type 0 where
-    pub outer : Searching days day position start d
+  pub record InDay (days day position d start len p : ℕ) : Type 0 where
+    pub outer : Searching days day position d
     pub less : d < days
+    pub from : start ≡ dayStart run d
+    pub low : start ≤ 100 * d
     pub size : len ≡ dayLen run d
     pub most : len ≤ 100
     pub upto : p ≤ len

@@ -13,12 +13,16 @@ use Rattle.dates.proofs.Leaps.{leap-small}
 use Rattle.periods.proofs.Periods.{period-most}
 use Rattle.readings.specs.declared.Run.{Run}
 use Rattle.readings.specs.declared.Run.the-variants.{Year, Period}
-use Rattle.readings.specs.Runs.{runDays, dayLen, quarterOf, dayStart, runReadings}
+use Rattle.readings.specs.declared.DaySpan.{DaySpan}
+use Rattle.readings.specs.Runs.{runDays, dayLen, quarterOf, dayStart, runReadings, daySpan}
 
--- a day has at least one reading and at most 100, and a position stands for one of 96 quarters
-pub len-some : (run : Run) (d : ℕ) → 1 ≤ dayLen run d
+-- a day has from 92 to 100 readings, and a position stands for one of 96 quarters
+pub len-least : (run : Run) (d : ℕ) → 92 ≤ dayLen run d
 unfolding dayLen
-len-some run d = omega arith
+len-least run d = omega arith
+
+pub len-some : (run : Run) (d : ℕ) → 1 ≤ dayLen run d
+len-some run d = omega (arith, len-least run d)
 
 pub len-most : (run : Run) (d : ℕ) → dayLen run d ≤ 100
 unfolding dayLen
@@ -65,6 +69,10 @@ module _ (run : Run) where
   unfolding dayStart
   start-more d = sum-more (dayLen run) d
 
+  pub start-least : (d : ℕ) → 92 * d ≤ dayStart run d
+  start-least zero = omega arith
+  start-least (suc d) = omega (arith, start-least d, start-suc d, len-least run d)
+
   pub start-most : (d : ℕ) → dayStart run d ≤ 100 * d
   start-most zero = omega (arith, start-none)
   start-most (suc d) = omega (arith, start-most d, start-suc d, len-most run d)
@@ -85,9 +93,20 @@ module _ (run : Run) where
   start-formula zero = omega (arith, start-none)
   start-formula (suc d) = omega (arith, start-formula d, start-suc d, len-is run d)
 
+  pub span-formula : (d : ℕ) → record { start = dayQuarters * d; len = dayQuarters } ≡ daySpan run d
+  span-formula d = simp (start-formula d, len-is run d)
+
   pub readings-formula : (n : ℕ) → n ≡ runDays run → dayQuarters * n ≡ runReadings run
   unfolding runReadings
   readings-formula n e = sym (start-formula n) ∙ ap (dayStart run) e
+
+  -- a span that is a day's, by its parts
+  module _ (d : ℕ) {span : DaySpan} (e : span ≡ daySpan run d) where
+    pub span-start : span .start ≡ dayStart run d
+    span-start = ap (λ (s : DaySpan). s .start) e
+
+    pub span-len : span .len ≡ dayLen run d
+    span-len = ap (λ (s : DaySpan). s .len) e
 
   -- all days of a run have its readings
   pub run-all : dayStart run (runDays run) ≡ runReadings run

@@ -1,5 +1,6 @@
--- Document 01, Numbered answers, last paragraph: "Both series may be given whole or day by day." What readings alone decide, for a run's
--- whole series and for one day after the other; a machine of days is any state with its answer to a day and its next state.
+-- Document 01, Numbered answers, last paragraph: "Both series may be given whole or day by day." What readings alone
+-- decide, for a run's whole series and for one day after the other; a machine of days is any state with its answer to a
+-- day and its next state.
 use mathlib.Core.Path.{_≡_}
 use mathlib.Core.Bool.{cond, not}
 use mathlib.Core.List.{List, [], _∷_, _++_}
@@ -47,22 +48,35 @@ abbrev pub takenReadings : {S : Type 0} → (S → List ℕ → Said) → (S →
 takenReadings answer step s days = oneAfterOther (takenDays answer step s days)
 
 -- the first n days of a series, each as it is handed out
-unfoldable pub daysOf : List ℕ → ℕ → List (List ℕ)
-daysOf xs n = table (λ d. dayPart xs (d + 1)) n
+unfoldable pub daysOf : Run → List ℕ → ℕ → List (List ℕ)
+daysOf run xs n = table (λ d. dayPart run xs (d + 1)) n
 
--- a series whose days are offered to a machine: those before day d (from 0) are taken, and day d answers 5 at position q
-pub record BadThere {S : Type 0} (answer : S → List ℕ → Said) (step : S → List ℕ → S) (start : S) (xs : List ℕ) (d q : ℕ) : Type 0 where
-  pub before : (n : ℕ) → n < d → answer (offered step start (daysOf xs n)) (dayPart xs (n + 1)) ≡ only 0
-  pub there : answer (offered step start (daysOf xs d)) (dayPart xs (d + 1)) ≡ badPlace (record { day = d + 1; position = q })
+-- a series whose days are offered to a machine: those before day d, from 0, are taken, and day d answers 5 at
+-- position q
+pub record BadThere
+    {S : Type 0} (run : Run) (answer : S → List ℕ → Said) (step : S → List ℕ → S) (start : S)
+    (xs : List ℕ) (d q : ℕ) : Type 0
+  where
+    pub before : (n : ℕ) → n < d → answer (offered step start (daysOf run xs n)) (dayPart run xs (n + 1)) ≡ only 0
+    pub there : answer (offered step start (daysOf run xs d)) (dayPart run xs (d + 1)) ≡ badPlace (record { day = d + 1; position = q })
 
--- Days from `start` on close as the whole series does: `closes` is what closing a state gives, `whole` what the call for whole series gives. Said of what
--- the caller sees, for any machine: its answers, and not a number that it keeps itself.
-pub record AsWhole {S A : Type 0} (run : Run) (limit : ℕ) (answer : S → List ℕ → Said) (step : S → List ℕ → S) (start : S) (closes : S → A) (whole : List ℕ → A) : Type 0 where
-  -- whenever as many days were answered 0 as the run has, refused days among the offered or not
-  pub taken :
-      (days : List (List ℕ))
-      → length (takenDays answer step start days) ≡ runDays run
-      → closes (offered step start days) ≡ whole (takenReadings answer step start days)
-  -- a complete legal series, offered day by day, is answered 0 every day, and closes as the whole
-  pub every-day : (xs : List ℕ) → LegalSeries run limit xs → (d : ℕ) → d < runDays run → answer (offered step start (daysOf xs d)) (dayPart xs (d + 1)) ≡ only 0
-  pub all-days : (xs : List ℕ) → LegalSeries run limit xs → closes (offered step start (daysOf xs (runDays run))) ≡ whole xs
+-- Days from `start` on close as the whole series does: `closes` is what closing a state gives, `whole` what the call
+-- for whole series gives. Said of what the caller sees, for any machine: its answers, and not a number that it keeps
+-- itself.
+pub record AsWhole
+    {S A : Type 0} (run : Run) (limit : ℕ) (answer : S → List ℕ → Said) (step : S → List ℕ → S) (start : S)
+    (closes : S → A) (whole : List ℕ → A) : Type 0
+  where
+    -- whenever as many days were answered 0 as the run has, refused days among the offered or not
+    pub taken :
+        (days : List (List ℕ))
+        → length (takenDays answer step start days) ≡ runDays run
+        → closes (offered step start days) ≡ whole (takenReadings answer step start days)
+    -- a complete legal series, offered day by day, is answered 0 every day, and closes as the whole
+    pub every-day :
+        (xs : List ℕ)
+        → LegalSeries run limit xs
+        → (d : ℕ)
+        → d < runDays run
+        → answer (offered step start (daysOf run xs d)) (dayPart run xs (d + 1)) ≡ only 0
+    pub all-days : (xs : List ℕ) → LegalSeries run limit xs → closes (offered step start (daysOf run xs (runDays run))) ≡ whole xs

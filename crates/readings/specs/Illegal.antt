@@ -1,5 +1,5 @@
--- Document 01, Numbered answers: "reading not legal" and "the first one", in plain orders. Of a day's readings that are given alone, and of the days of
--- a run's series; days d and positions p count from 0.
+-- Document 01, Numbered answers: "reading not legal" and "the first one", in plain orders. Of a day's readings that are
+-- given alone, and of the days of a run's series; days d and positions p count from 0.
 use Prim.Native.Nat.{ℕ, _≤_, _<_}
 use mathlib.Core.Path.{_≡_}
 use mathlib.Core.List.{List}

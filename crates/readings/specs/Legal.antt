@@ -1,5 +1,6 @@
--- Document 01, Numbers: a reading is legal up to a limit, 200,000,000 kW for the grid and 1,000,000,000 W for a customer; so a missing
--- reading, 4,294,967,295, is never legal. Numbered answers: "The first bad reading, by day and then by quarter, ends the search."
+-- Document 01, Numbers: a reading is legal up to a limit, 200,000,000 kW for the grid and 1,000,000,000 W for a
+-- customer; so a missing reading, 4,294,967,295, is never legal. Numbered answers: "The first bad reading, by day and
+-- then by quarter, ends the search."
 use mathlib.Core.Bool.{Bool, cond}
 use mathlib.Core.List.{List}
 use Prim.Native.Nat.{ℕ, _+_}

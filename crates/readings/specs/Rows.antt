@@ -1,5 +1,5 @@
--- Document 01, Numbered answers: what each number that a day is answered is given for, where n days of a run are taken and no number
--- before it in the order 13, 4, 5 is given. In plain orders.
+-- Document 01, Numbered answers: what each number that a day is answered is given for, where n days of a run are taken
+-- and no number before it in the order 13, 4, 5 is given. In plain orders.
 use mathlib.Core.Path.{_≡_}
 use mathlib.Core.List.{List}
 use Prim.Native.Nat.{ℕ, _≤_, _<_}

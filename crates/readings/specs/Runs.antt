@@ -1,6 +1,6 @@
--- Document 01, Numbers: "Every day has quarters 0 to 95 (house rule)." A run is the days whose readings a series holds, one day after
--- the other: a charge year's, or those of its reference period. A run's days d and a day's positions p count from 0. How a day is
--- laid out in a series is said here, by `dayLen` and `quarterOf`; only the day part (specs/Part) knows no run and takes 96 for each day.
+-- Document 01, Numbers: "Every day has quarters 0 to 95 (house rule)." A run is the days whose readings a series holds,
+-- one day after the other: a charge year's, or those of its reference period. A run's days d and a day's positions p
+-- count from 0. How a day is laid out in a series is said here alone, by `dayLen` and `quarterOf`.
 use mathlib.Core.List.{List}
 use Prim.Native.Nat.{ℕ, _+_}
 use lib.ListN.{getD}
@@ -10,6 +10,7 @@ use Rattle.dates.specs.Dates.{yearDays}
 use Rattle.periods.specs.Period.{periodDays}
 use Rattle.readings.specs.declared.Run.{Run}
 use Rattle.readings.specs.declared.Run.the-variants.{Year, Period}
+use Rattle.readings.specs.declared.DaySpan.{DaySpan}
 
 -- the days of a run
 unfoldable pub runDays : Run → ℕ
@@ -27,6 +28,10 @@ quarterOf run d p = p
 -- the readings before a day, and those of the whole run
 unfoldable pub dayStart : Run → ℕ → ℕ
 dayStart run d = sumOver (dayLen run) d
+
+-- where a day stands in a series
+abbrev pub daySpan : Run → ℕ → DaySpan
+daySpan run d = record { start = dayStart run d; len = dayLen run d }
 
 unfoldable pub runReadings : Run → ℕ
 runReadings run = dayStart run (runDays run)

@@ -1,7 +1,8 @@
 // Readings of document 01: a lent series by days, and the part that is one day.
 // Main theorem: a series says the same whole and day by day (`Machine`, `as-whole`, `same-bad`, proofs/Machines).
 ghost use mathlib.Core.Path.{_≡_};
-ghost use Rattle.readings.specs.Runs.{runDays, dayLen, quarterOf, runReadings};
+ghost use Prim.Native.Nat.{_≤_};
+ghost use Rattle.readings.specs.Runs.{runDays, quarterOf, runReadings, daySpan};
 ghost use Rattle.readings.specs.Part.{dayPart};
 
 // The days whose readings a series holds: those of a charge year, or of its reference period.
@@ -9,6 +10,15 @@ pub enum Run {
     Year(u16),
     Period(u16),
 }
+
+// Where a day of a run stands in its series: behind how many readings, and how many are its own.
+pub struct DaySpan {
+    pub start: usize,
+    pub len: usize,
+}
+
+// Days up to this number, 2^57, start within 64 bits; and no series in memory is so long that it holds one behind it.
+const FAR_DAY: usize = 144_115_188_075_855_872;
 
 // How many days a run has.
 pub fn run_days(run: Run) -> u16
@@ -20,11 +30,23 @@ pub fn run_days(run: Run) -> u16
     }
 }
 
-// How many readings a day of a run, from 0, has. (Every day has as many, so far; the run and the day are asked all the same.)
-pub fn day_len(run: Run, d: u16) -> usize
-    ensures { λ r. ⌜ r ≡ dayLen run d ⌝ }
+// The span of a day, from 0, as far as 64 bits reach. (Every day has as many readings, so far; the run is asked all the
+// same.)
+fn span_at(run: Run, d: usize) -> DaySpan
+    requires { ⌜ d ≤ 144115188075855872 ⌝ }
+    ensures { λ r. ⌜ r ≡ daySpan run d ⌝ }
 {
-    answers::DAY_QUARTERS
+    DaySpan {
+        start: answers::DAY_QUARTERS * d,
+        len: answers::DAY_QUARTERS,
+    }
+}
+
+// Where a day of a run, from 0, stands in its series.
+pub fn day_span(run: Run, d: u16) -> DaySpan
+    ensures { λ r. ⌜ r ≡ daySpan run d ⌝ }
+{
+    span_at(run, d as usize)
 }
 
 // The quarter that a position of a day, both from 0, stands for.
@@ -42,16 +64,20 @@ pub fn run_readings(run: Run) -> usize
 }
 
 // The part of a series that is a day, from 1: empty for day 0 and for a day that the series does not wholly hold.
-pub fn day_part(series: &[u32], day: usize) -> &[u32]
-    ensures { λ r. ⌜ now r ≡ dayPart (now (series .entry)) day ⌝ }
+pub fn day_part(run: Run, series: &[u32], day: usize) -> &[u32]
+    ensures { λ r. ⌜ now r ≡ dayPart run (now (series .entry)) day ⌝ }
 {
     if day == 0 {
         return &series[0..0];
     }
-    if series.len() / answers::DAY_QUARTERS < day {
+    if FAR_DAY < day {
         return &series[0..0];
     }
-    let end = answers::DAY_QUARTERS * day;
-    let at = end - answers::DAY_QUARTERS;
-    &series[at..end]
+    let span = span_at(run, day - 1);
+    let start = span.start;
+    let end = start + span.len;
+    if series.len() < end {
+        return &series[0..0];
+    }
+    &series[start..end]
 }

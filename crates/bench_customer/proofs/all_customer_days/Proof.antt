@@ -5,6 +5,7 @@ use Prim.Native.Nat.{_≤_, _-_, _+_}
 use native.Mathlib.Omega.{arith}
 use borrow.Author.Needs.{needs}
 use Rattle.dates.specs.Dates.{yearDays}
+use Rattle.readings.specs.declared.Run.the-variants.{Year}
 use Rattle.readings.specs.Days.{offered, daysOf}
 use Rattle.readings.specs.Part.{dayPart}
 use Rattle.terms.specs.Basis.{basis}
@@ -16,40 +17,43 @@ use Rattle.bench_customer.proofs.all_customer_days.Statement.{statement
 use Rattle.bench_customer.proofs.all_customer_days.Tie as tie
 
 abbrev Inv-loop : tie.InvT-loop
-Inv-loop sheet holidays option series state₀ d₀ d-end state d =
-    (d-end ≡ yearDays (state₀ .terms .year)) × (d ≤ d-end) × (state ≡ offered dayCustomer state₀ (daysOf series d))
+Inv-loop sheet holidays option series state₀ year d₀ d-end state d =
+    (d-end ≡ yearDays year) × (d ≤ d-end) × (state ≡ offered dayCustomer state₀ (daysOf (Year year) series d))
 
 abbrev μ-loop : tie.MeasureT-loop
-μ-loop sheet holidays option series state₀ d₀ d-end state d = d-end - d
+μ-loop sheet holidays option series state₀ year d₀ d-end state d = d-end - d
 
 loop-holds : tie.Need-loop-holds Inv-loop μ-loop
-loop-holds c = (c .year-days .ensures, omega arith, sym (days-none dayCustomer _ _))
+loop-holds c = (c .year-days .ensures, omega arith, sym (days-none dayCustomer _ _ _))
 
 loop-again : tie.Need-loop-again Inv-loop μ-loop
 loop-again c =
-    let turn = c .before .before .before .before in
-    let at = turn .loop in
-    let first = turn .before .before .before in
-    let series = first .before .before .before .before .args .series .now in (
+    let head = c .before .before .before .before in
+    let at = head .loop in
+    let opened = head .before .before .before in
+    let series = opened .before .before .before .before .args .series .now in
+    let run = Year (opened .«open» .result .customer .terms .year) in (
       at .inv .0,
       omega arith,
       c .before .day .ensures .state
           ∙ ap (dayCustomer (at .state)) (c .before .before .day-part .ensures)
-          ∙ ap (λ (s : Customer). dayCustomer s (dayPart series (at .d + 1))) (at .inv .2)
-          ∙ sym (days-more dayCustomer _ series (at .d)),
+          ∙ ap (λ (s : Customer). dayCustomer s (dayPart run series (at .d + 1))) (at .inv .2)
+          ∙ sym (days-more dayCustomer run _ series (at .d)),
     )
 
 returns : tie.Need-returns Inv-loop μ-loop
 returns c =
     let at = c .before .loop in
-    let first = c .before .before .before .before in
-    let opened = first .«open» in
-    let a = first .before .before .before .before .args in
-    let all : at .d ≡ yearDays (opened .result .customer .terms .year) = omega arith in
+    let opened = c .before .before .before .before in
+    let a = opened .before .before .before .before .args in
+    let same = opened .«open» .ensures .state in
+    let days : at .d ≡ yearDays (opened .«open» .result .customer .terms .year) = omega arith in
+    let after : Customer → Customer =
+    λ s. offered dayCustomer s (daysOf (Year (s .terms .year)) (a .series .now) (at .d)) in
     at .inv .2
-    ∙ ap (λ (s : Customer). offered dayCustomer s (daysOf (a .series .now) (at .d))) (opened .ensures .state)
+    ∙ ap after same
     ∙ ap (customerAfter (basis (a .sheet .now) (a .holidays .now) (a .prices) (a .option)) (a .series .now))
-    (all ∙ ap (λ (s : Customer). yearDays (s .terms .year)) (opened .ensures .state))
+    (days ∙ ap (λ (s : Customer). yearDays (s .terms .year)) same)
 
 pub all-customer-days-spec : {M : Type 1} → statement M
 all-customer-days-spec =

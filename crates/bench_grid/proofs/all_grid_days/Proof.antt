@@ -6,6 +6,7 @@ use Prim.Native.Nat.{_≤_, _-_, _+_}
 use native.Mathlib.Omega.{arith}
 use borrow.Author.Needs.{needs}
 use Rattle.periods.specs.Period.{periodDays}
+use Rattle.readings.specs.declared.Run.the-variants.{Period}
 use Rattle.readings.specs.Days.{offered, daysOf}
 use Rattle.readings.specs.Part.{dayPart}
 use Rattle.grid.specs.declared.Grid.{Grid}
@@ -16,25 +17,26 @@ use Rattle.bench_grid.proofs.all_grid_days.Statement.{statement}
 use Rattle.bench_grid.proofs.all_grid_days.Tie as tie
 
 abbrev Inv-loop : tie.InvT-loop
-Inv-loop year level series state₀ d₀ d-end state d = (d-end ≡ periodDays year) × (d ≤ d-end) × (state ≡ offered dayGrid state₀ (daysOf series d))
+Inv-loop year level series state₀ d₀ d-end state d =
+    (d-end ≡ periodDays year) × (d ≤ d-end) × (state ≡ offered dayGrid state₀ (daysOf (Period year) series d))
 
 abbrev μ-loop : tie.MeasureT-loop
 μ-loop year level series state₀ d₀ d-end state d = d-end - d
 
 loop-holds : tie.Need-loop-holds Inv-loop μ-loop
-loop-holds c = (c .period-days .ensures, omega arith, sym (days-none dayGrid _ _))
+loop-holds c = (c .period-days .ensures, omega arith, sym (days-none dayGrid _ _ _))
 
 loop-again : tie.Need-loop-again Inv-loop μ-loop
 loop-again c =
     let turn = c .before .before .before .before in
     let at = turn .loop in
-    let series = turn .before .before .before .before .before .args .series .now in (
+    let a = turn .before .before .before .before .before .args in (
       at .inv .0,
       omega arith,
       c .before .day .ensures .1
           ∙ ap (dayGrid (at .state)) (c .before .before .day-part .ensures)
-          ∙ ap (λ (s : Grid). dayGrid s (dayPart series (at .d + 1))) (at .inv .2)
-          ∙ sym (days-more dayGrid _ series (at .d)),
+          ∙ ap (λ (s : Grid). dayGrid s (dayPart (Period (a .year)) (a .series .now) (at .d + 1))) (at .inv .2)
+          ∙ sym (days-more dayGrid (Period (a .year)) _ (a .series .now) (at .d)),
     )
 
 returns : tie.Need-returns Inv-loop μ-loop
@@ -44,7 +46,8 @@ returns c =
     let a = ended .before .before .before .before .before .args in
     let all : at .d ≡ periodDays (a .year) = omega arith in
     at .inv .2
-    ∙ ap (λ (s : Grid). offered dayGrid s (daysOf (a .series .now) (at .d))) (ended .before .before .before .«open» .ensures .1)
+    ∙ ap (λ (s : Grid). offered dayGrid s (daysOf (Period (a .year)) (a .series .now) (at .d)))
+    (ended .before .before .before .«open» .ensures .1)
     ∙ ap (gridAfter (a .year) (a .level) (a .series .now)) all
 
 pub all-grid-days-spec : {M : Type 1} → statement M

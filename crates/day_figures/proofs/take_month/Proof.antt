@@ -11,7 +11,7 @@ use Rattle.dates.proofs.Leaps.{leap-small}
 use Rattle.dates.proofs.Seasons.{season-stays, year-room}
 use Rattle.readings.specs.declared.Run.the-variants.{Year}
 use Rattle.readings.specs.Runs.{dayLen, dayStart}
-use Rattle.readings.proofs.Runs.{start-more, run-held, year-run, len-most}
+use Rattle.readings.proofs.Runs.{start-more, run-held, year-run, len-most, span-len}
 use Rattle.readings.proofs.Part.{cut-at, cut-long}
 use Rattle.sheet.specs.Windows.{placeOf}
 use Rattle.tariff.specs.declared.Figures.{Figures}
@@ -40,7 +40,7 @@ within : (e : tie.In-loop Inv-loop μ-loop) → e .before .loop .d < mostDays
 within e = omega (arith, leap-small (e .before .before .before .before .before .before .before .args .year))
 
 room :
-    (e : tie.After-day-len Inv-loop μ-loop)
+    (e : tie.After-day-span Inv-loop μ-loop)
     → let a = e .before .before .before .before .before .before .before .before .args in
     let run = Year (a .year) in
     dayStart run (e .before .before .loop .d) + dayLen run (e .before .before .loop .d) ≤ length (a .series .now)
@@ -65,25 +65,28 @@ same-base e =
 
 -- the day's readings
 long :
-    (e : tie.After-day-len Inv-loop μ-loop)
+    (e : tie.After-day-span Inv-loop μ-loop)
     → let a = e .before .before .before .before .before .before .before .before .args in
     let at = e .before .before .loop in
-    length (take (at .at + e .day-len .result - at .at) (drop (at .at) (a .series .now))) ≡ dayLen (Year (a .year)) (at .d)
+    length (take (at .at + e .day-span .result .len - at .at) (drop (at .at) (a .series .now))) ≡ dayLen (Year (a .year)) (at .d)
 long e =
     let a = e .before .before .before .before .before .before .before .before .args in
     let at = e .before .before .loop in
-    cut-long (Year (a .year)) (a .series .now) (at .d) {size = at .at + e .day-len .result - at .at} (at .inv .3) (omega arith) (omega (arith, room e))
+    let len = span-len _ _ (e .day-span .ensures) in
+    cut-long (Year (a .year)) (a .series .now) (at .d) {size = at .at + e .day-span .result .len - at .at} (at .inv .3)
+    (omega (arith, len))
+    (omega (arith, room e, len))
 
 plain-day-requires : tie.Need-plain-day-requires Inv-loop μ-loop
 plain-day-requires c κs =
-    let e = c .before .before in
+    let e = c .before .before .before in
     let a = e .before .before .before .before .before .before .before .before .args in
     let at = e .before .before .loop in
     (omega (arith, long e, len-most (Year (a .year)) (at .d)), omega (arith, at .inv .4, within (e .before)))
 
 take-fit-requires : tie.Need-take-fit-requires Inv-loop μ-loop
 take-fit-requires c κs =
-    let e = c .before .before .before .before in
+    let e = c .before .before .before .before .before in
     let m = e .before .before .before in
     let at = e .before .before .loop in
     let p = c .before .plain-day .ensures in (
@@ -100,19 +103,21 @@ take-fit-requires c κs =
 loop-again : tie.Need-loop-again Inv-loop μ-loop
 unfolding anyOn highOn quarterOn
 loop-again c =
-    let e = c .before .before .before .before .before in
+    let masked = c .before in
+    let e = masked .before .before .before .before .before in
     let a = e .before .before .before .before .before .before .before .before .args in
     let at = e .before .before .loop in
-    let size = at .at + e .day-len .result - at .at in
+    let len = span-len _ _ (e .day-span .ensures) in
+    let size = at .at + e .day-span .result .len - at .at in
     let run = Year (a .year) in
     let counts : ℕ → ℕ → Bool = λ k. countsOn (a .year) (getD (a .carrying .now) k false) (a .windows .now) k in
-    let part = cut-at run (a .series .now) (at .d) {size = size} (at .inv .3) (omega arith) in
+    let part = cut-at run (a .series .now) (at .d) {size = size} (at .inv .3) (omega (arith, len)) in
     let taken : Figures → Figures = λ f. takenIn f (at .d + 1) (recordOf run counts (at .d) (alone (take size (drop (at .at) (a .series .now))))) in
     let next : c .take-fit .result ≡ taken (at .figures) = c .take-fit .ensures .0 in (
       omega arith,
       omega arith,
       at .inv .2,
-      omega (arith, start-more run (at .d)),
+      omega (arith, start-more run (at .d), len),
       omega (arith, c .take-fit .ensures .1, at .inv .4),
       next ∙ ap taken (at .inv .5) ∙ taken-more run counts (a .series .now) (at .d) _ part,
     )
@@ -140,17 +145,17 @@ take-month-spec =
     (λ c κs. search needs)  -- month-left-requires
     (λ c. omega (arith, ends c, leap-small (c .before .before .before .before .before .args .year)))  -- add-end-2
     (λ c. let s = c .before .before .before .before .before in (omega arith, omega arith, ends c, s .pre .2, s .pre .4, s .pre .3))  -- loop-holds
-    (λ c κs. search needs)  -- day-len-requires
-    (λ c. let h = room c in omega arith)  -- add-next
+    (λ c κs. search needs)  -- day-span-requires
+    (λ c. let h = room (c .before) in omega (arith, span-len _ _ (c .before .day-span .ensures)))  -- add-next
     (λ c. search needs)  -- cast-carries
-    (λ c. within (c .before))  -- element-copy-out-carries
-    (λ c. let h = room (c .before) in omega arith)  -- mul-day
+    (λ c. within (c .before .before))  -- element-copy-out-carries
+    (λ c. let h = room (c .before .before) in omega (arith, span-len _ _ (c .before .before .day-span .ensures)))  -- mul-day
     (λ c. search needs)  -- sub-day
     (λ c. search needs)  -- part-day-start
-    (λ c. let h = room (c .before) in search needs)  -- part-day-end
+    (λ c. let h = room (c .before .before) in omega (arith, span-len _ _ (c .before .before .day-span .ensures)))  -- part-day-end
     plain-day-requires
     take-fit-requires
-    (λ c. let r = within (c .before .before .before .before .before .before) in omega arith)  -- add-d
+    (λ c. let e = c .before .before .before in let r = within (e .before .before .before .before) in omega arith)  -- add-d
     (λ c. search needs)  -- loop-less
     loop-again
     returns)

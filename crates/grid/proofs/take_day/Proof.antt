@@ -12,7 +12,8 @@ returns : tie.Need-returns
 returns c =
     let a = c .before .before .before .args in
     let said = c .before .day-answer in
-    curves-refused (a .year) (a .curves .now) (a .seen) (a .day .now) _ (refuses (said .result) (λ k. miss others 0 tt (rw k at (c .match .keys2)))) (said .ensures)
+    let refused = refuses (said .result) (λ k. miss others 0 tt (rw k at (c .match .keys2))) in
+    curves-refused (a .year) (a .curves .now) (a .seen) (a .day .now) _ refused (said .ensures)
 
 returns-2 : tie.Need-returns-2
 returns-2 c =

@@ -7,13 +7,17 @@ use borrow.Author.Needs.{needs}
 use lib.ListN.{length, length-take}
 use Rattle.readings.specs.declared.Run.the-variants.{Period}
 use Rattle.readings.specs.Runs.{dayLen}
+use Rattle.readings.proofs.Runs.{span-len}
 use Rattle.grid_curves.proofs.Curves.{merged-held}
 use Rattle.grid_curves.proofs.lay_day.Statement.{statement}
 use Rattle.grid_curves.proofs.lay_day.Tie as tie
 
 -- how many readings are laid
-many : (e : tie.After-smaller) → let a = e .before .before .before .args in e .smaller .result ≡ min (length (a .day .now)) (dayLen (Period (a .year)) (a .d))
-many e = omega (arith, e .smaller .ensures, e .before .day-len .ensures)
+many :
+    (e : tie.After-smaller)
+    → let a = e .before .before .before .args in
+    e .smaller .result ≡ min (length (a .day .now)) (dayLen (Period (a .year)) (a .d))
+many e = omega (arith, e .smaller .ensures, span-len _ _ (e .before .day-span .ensures))
 
 returns : tie.Need-returns
 returns c = c .lay .ensures ∙ merged-held _ _ _ _ (many (c .before .before .before .before))
@@ -22,7 +26,7 @@ pub lay-day-spec : {M : Type 1} → statement M
 lay-day-spec =
     tie.close
     (tie.spec
-    (λ c κs. search needs)  -- day-len-requires
+    (λ c κs. search needs)  -- day-span-requires
     (λ c κs. search needs)  -- smaller-requires
     (λ c κs. search needs)  -- season-of-requires
     (λ c. simp length-take (let h = many (c .before .before .before) in omega arith))  -- slice-aggregate-lay

@@ -1,4 +1,5 @@
--- `grid_curves::lay_four` meets its contract. The loop's invariant: the first q quarters of the four days are laid over the curves.
+-- `grid_curves::lay_four` meets its contract. The loop's invariant: the first q quarters of the four days are laid over
+-- the curves.
 -- Assumes nothing.
 use mathlib.Core.Path.{_≡_, ap, _∙_}
 use Prim.Native.Nat.{_+_, _-_, _*_, _≤_, max}
@@ -12,18 +13,24 @@ use Rattle.grid_curves.proofs.lay_four.Statement.{statement}
 use Rattle.grid_curves.proofs.lay_four.Tie as tie
 
 abbrev Inv-loop : tie.InvT-loop
-Inv-loop curves₀ season four base q₀ curves q = (base ≡ dayQuarters * (season - 1)) × (length four ≡ fourDays) × (1 ≤ season) × (season ≤ 4) × Over season curves₀ four q curves
+Inv-loop curves₀ season four base q₀ curves q =
+    (base ≡ dayQuarters * (season - 1)) × (length four ≡ fourDays) × (1 ≤ season) × (season ≤ 4)
+    × Over season curves₀ four q curves
 
 abbrev μ-loop : tie.MeasureT-loop
 μ-loop curves₀ season four base q₀ curves q = dayQuarters - q
 
 loop-again : tie.Need-loop-again Inv-loop μ-loop
 loop-again c =
-    let at = c .before .before .before .before .before .before .before .before .before .before in
+    let two = c .before .before .before in
+    let one = two .before .before .before in
+    let at = one .before .before .before .before in
     let h = at .loop .inv in
-    let early = c .before .before .before .before .before .before .larger .ensures in
-    let late = c .before .before .before .larger2 .ensures in
-    (h .0, h .1, h .2, h .3, over-more _ _ _ (h .4) (omega arith) (h .2) (h .3) (omega arith) (c .larger4 .ensures ∙ ap (max _) (c .before .larger3 .ensures ∙ (λ i. max (early i) (late i)) ∙ four-top _ (at .loop .q))))
+    let early = one .larger .ensures in
+    let late = two .larger2 .ensures in
+    let top = c .before .larger3 .ensures ∙ (λ i. max (early i) (late i)) ∙ four-top _ (at .loop .q) in
+    let laid = over-more _ _ _ (h .4) (omega arith) (h .2) (h .3) (omega arith) (c .larger4 .ensures ∙ ap (max _) top) in
+    (h .0, h .1, h .2, h .3, laid)
 
 pub lay-four-spec : {M : Type 1} → statement M
 lay-four-spec =

@@ -6,20 +6,20 @@ use native.Mathlib.Omega.{arith}
 use borrow.Author.Needs.{needs}
 use Rattle.periods.specs.Period.{periodDays, periodSeason, periodLeft}
 use Rattle.periods.proofs.Periods.{period-most, period-stays, period-room}
-use Rattle.readings.specs.declared.Run.the-variants.{Period}
-use Rattle.readings.specs.Runs.{dayStart}
 use Rattle.grid_curves.specs.Curves.{flatCurves}
 use Rattle.grid_curves.proofs.lay_month.Statement.{statement}
 use Rattle.grid_curves.proofs.lay_month.Tie as tie
 
 abbrev Inv-loop : tie.InvT-loop
-Inv-loop curves₀ year from start series season end d₀ at₀ curves d at = (from ≤ d) × (d ≤ end) × (at ≡ dayStart (Period year) d) × (curves ≡ flatCurves year series d)
+Inv-loop curves₀ year from series season end d₀ curves d = (from ≤ d) × (d ≤ end) × (curves ≡ flatCurves year series d)
 
 abbrev μ-loop : tie.MeasureT-loop
-μ-loop curves₀ year from start series season end d₀ at₀ curves d at = end - d
+μ-loop curves₀ year from series season end d₀ curves d = end - d
 
 -- the days that are left of the month lie in the period
-room : (s : tie.Start Inv-loop μ-loop) → s .args .from + 1 + periodLeft (s .args .year) (s .args .from + 1) ≤ periodDays (s .args .year)
+room :
+    (s : tie.Start Inv-loop μ-loop)
+    → s .args .from + 1 + periodLeft (s .args .year) (s .args .from + 1) ≤ periodDays (s .args .year)
 room s = period-room (s .args .year) (s .args .from + 1) (omega (arith, s .pre .0))
 
 -- and in its season
@@ -36,9 +36,10 @@ lay-next-requires c κs =
     let r = room s in (
       omega arith,
       omega (arith, e .period-left .ensures),
-      λ k a b. stays (s .args .year) (s .args .from) k (omega arith) (omega (arith, e .period-left .ensures)) ∙ sym (e .before .period-season .ensures),
+      λ k a b.
+          stays (s .args .year) (s .args .from) k (omega arith) (omega (arith, e .period-left .ensures))
+          ∙ sym (e .before .period-season .ensures),
       at .inv .2,
-      at .inv .3,
     )
 
 returns : tie.Need-returns Inv-loop μ-loop
@@ -46,7 +47,7 @@ returns c =
     let at = c .before .loop in
     let e = c .before .before in
     let r = room (e .before .before .before) in
-    (omega arith, omega (arith, e .period-left .ensures), at .inv .2, at .inv .3)
+    record { more = omega arith; upto = omega (arith, e .period-left .ensures); are = at .inv .2 }
 
 pub lay-month-spec : {M : Type 1} → statement M
 lay-month-spec =
@@ -59,9 +60,9 @@ lay-month-spec =
     (λ c. let m = period-most (c .before .before .args .year) in omega arith)  -- add-end
     (λ c. let m = period-most (c .before .before .args .year) in omega arith)  -- add-period-left
     (λ c κs. search needs)  -- period-left-requires
-    (λ c. let m = period-most (c .before .before .before .args .year) in let r = room (c .before .before .before) in omega (arith, c .period-left .ensures))  -- add-end-2
-    (λ c. let s = c .before .before .before in (omega arith, omega arith, s .pre .1, s .pre .2))  -- loop-holds
+    (λ c. let s = c .before .before .before in let m = period-most (s .args .year) in let r = room s in omega (arith, c .period-left .ensures))  -- add-end-2
+    (λ c. (omega arith, omega arith, c .before .before .before .pre .1))  -- loop-holds
     lay-next-requires
     (λ c. let h = c .lay-next .ensures in omega arith)  -- loop-less
-    (λ c. let h = c .lay-next .ensures in (omega arith, h .1, h .2, h .3))  -- loop-again
+    (λ c. let h = c .lay-next .ensures in (omega arith, h .upto, h .are))  -- loop-again
     returns)

@@ -29,7 +29,9 @@ unfolding firstAbove
 returns c =
     let a = c .before .before .before .args in
     let xs = a .readings .now in
-    let legal = highest-legal (a .limit) xs (ltb-false (a .limit) (highestOf xs) (sym (c .before .any-above .ensures) ∙ not-so (c .before .any-above .result) (c .if1 .taken))) in
+    let any = c .before .any-above in
+    let none = sym (any .ensures) ∙ not-so (any .result) (c .if1 .taken) in
+    let legal = highest-legal (a .limit) xs (ltb-false (a .limit) (highestOf xs) none) in
     omega (arith, legal, first-le (above (a .limit) xs) (length xs))
 
 loop-again : tie.Need-loop-again Inv-loop μ-loop

@@ -1,26 +1,28 @@
--- `legal::first_illegal` meets its contract. The invariants: no day before d, and no position before p of day d, has an illegal reading.
+-- `legal::first_illegal` meets its contract. The invariants: no day before d, and no position before p of day d, has an
+-- illegal reading.
 -- Assumes nothing.
-use mathlib.Core.Path.{refl, sym}
+use mathlib.Core.Path.{refl}
 use Prim.Native.Nat.{_-_, _+_}
 use native.Mathlib.Omega.{arith}
 use borrow.Author.Needs.{needs}
 use Rattle.over.proofs.Tests.{passed-none}
-use Rattle.readings.proofs.Runs.{days-most, start-none, start-more, len-most}
+use Rattle.readings.proofs.Runs.{days-most, start-most, len-most, span-start, span-len}
 use Rattle.readings.proofs.Legal.{Searching, InDay, legal-more, day-legal, illegal-none, illegal-found}
 use Rattle.legal.proofs.first_illegal.Statement.{statement}
 use Rattle.legal.proofs.first_illegal.Tie as tie
 
 abbrev Inv-loop : tie.InvT-loop
-Inv-loop run series limit days day₀ position₀ start d len p₀ day position p = InDay run limit series days day position start d len p
+Inv-loop run series limit days day₀ position₀ d span p₀ p-end day position p =
+    InDay run limit series days day position d (span .start) p-end p
 
 abbrev μ-loop : tie.MeasureT-loop
-μ-loop run series limit days day₀ position₀ start d len p₀ day position p = len - p
+μ-loop run series limit days day₀ position₀ d span p₀ p-end day position p = p-end - p
 
 abbrev Inv-search : tie.InvT-search
-Inv-search run series limit days day₀ position₀ start₀ d₀ day position start d = Searching run limit series days day position start d
+Inv-search run series limit days day₀ position₀ d₀ day position d = Searching run limit series days day position d
 
 abbrev μ-search : tie.MeasureT-search
-μ-search run series limit days day₀ position₀ start₀ d₀ day position start d = days - d
+μ-search run series limit days day₀ position₀ d₀ day position d = days - d
 
 search-holds : tie.Need-search-holds Inv-loop μ-loop Inv-search μ-search
 search-holds c =
@@ -30,52 +32,61 @@ search-holds c =
       few = omega (arith, days-most (c .before .before .args .run));
       no-day = refl;
       no-position = refl;
-      from = sym (start-none _);
-      low = omega arith;
       passed = passed-none;
     }
 
 loop-holds : tie.Need-loop-holds Inv-loop μ-loop Inv-search μ-search
 loop-holds c =
     let at = c .before .before in
+    let run = at .before .before .before .args .run in
+    let from = span-start _ _ (c .day-span .ensures) in
+    let size = span-len _ _ (c .day-span .ensures) in
     record {
       outer = at .search .inv;
       less = omega arith;
-      size = c .day-len .ensures;
-      most = omega (arith, len-most (at .before .before .before .args .run) (at .search .d));
+      from = from;
+      low = omega (arith, from, start-most run (at .search .d));
+      size = size;
+      most = omega (arith, size, len-most run (at .search .d));
       upto = omega arith;
       legal = passed-none;
     }
 
 loop-again : tie.Need-loop-again Inv-loop μ-loop Inv-search μ-search
 loop-again c =
-    let at = c .before .before .before in
-    let a = at .before .before .before .before .before .before .args in
-    let s = at .before .before .before .search in
+    let known = c .before .before in
+    let at = known .before .before in
+    let s = at .before .before .before in
+    let a = s .before .before .before .args in
+    let inv = at .loop .inv in
     record {
-      outer = at .loop .inv .outer;
-      less = at .loop .inv .less;
-      size = at .loop .inv .size;
-      most = at .loop .inv .most;
+      outer = inv .outer;
+      less = inv .less;
+      from = inv .from;
+      low = inv .low;
+      size = inv .size;
+      most = inv .most;
       upto = omega arith;
-      legal = legal-more (a .run) (a .limit) (a .series .now) (s .d) {i = s .start + at .loop .p} (at .loop .inv .legal) (omega arith) (omega arith);
+      legal =
+          legal-more (a .run) (a .limit) (a .series .now) (s .search .d) {i = at .before .day-span .result .start + at .loop .p}
+          (inv .legal)
+          (omega (arith, inv .from))
+          (omega arith);
     }
 
 search-again : tie.Need-search-again Inv-loop μ-loop Inv-search μ-search
 search-again c =
     let at = c .before in
-    let a = at .before .before .before .before .before .before .args in
-    let s = at .before .before .before .search in
-    let more = start-more (a .run) (s .d) in
+    let s = at .before .before .before in
+    let a = s .before .before .before .args in
+    let outer = at .loop .inv .outer in
     record {
       some = omega arith;
-      all = at .loop .inv .outer .all;
-      few = at .loop .inv .outer .few;
-      no-day = at .loop .inv .outer .no-day;
-      no-position = at .loop .inv .outer .no-position;
-      from = omega arith;
-      low = omega arith;
-      passed = day-legal (a .run) (a .limit) (a .series .now) (s .d) (at .loop .inv .outer .passed) (at .loop .inv .legal) (omega arith);
+      all = outer .all;
+      few = outer .few;
+      no-day = outer .no-day;
+      no-position = outer .no-position;
+      passed = day-legal (a .run) (a .limit) (a .series .now) (s .search .d) (outer .passed) (at .loop .inv .legal) (omega arith);
     }
 
 returns : tie.Need-returns Inv-loop μ-loop Inv-search μ-search
@@ -85,9 +96,14 @@ returns c =
 
 returns-2 : tie.Need-returns-2 Inv-loop μ-loop Inv-search μ-search
 returns-2 c =
-    let at = c .before .before .before in
-    let s = at .before .before .before .search in
-    illegal-found _ _ _ {i = s .start + at .loop .p} (at .loop .inv .outer .passed) (at .loop .inv .legal) (omega arith) (omega arith) (omega arith) (omega arith)
+    let known = c .before .before in
+    let at = known .before .before in
+    let inv = at .loop .inv in
+    illegal-found _ _ _ {i = at .before .day-span .result .start + at .loop .p} (inv .outer .passed) (inv .legal)
+    (omega arith)
+    (omega arith)
+    (omega (arith, inv .from))
+    (omega arith)
 
 pub first-illegal-spec : {M : Type 1} → statement M
 first-illegal-spec =
@@ -99,7 +115,7 @@ first-illegal-spec =
     μ-search
     (λ c κs. search needs)  -- run-days-requires
     search-holds
-    (λ c κs. search needs)  -- day-len-requires
+    (λ c κs. search needs)  -- day-span-requires
     loop-holds
     (λ c. search needs)  -- add-reading-at
     (λ c κs. search needs)  -- reading-at-requires
@@ -108,7 +124,6 @@ first-illegal-spec =
     (λ c. search needs)  -- add-p
     (λ c. search needs)  -- loop-less
     loop-again
-    (λ c. search needs)  -- add-start
     (λ c. search needs)  -- add-d
     (λ c. search needs)  -- search-less
     search-again
