@@ -5,16 +5,18 @@ ghost use mathlib.Core.Path.{_≡_};
 ghost use Rattle.tariff.specs.Answers.{saidOf};
 ghost use Rattle.terms.specs.Basis.{basis};
 ghost use Rattle.terms.specs.Opening.{openAnswer};
+ghost use Rattle.customer.specs.Counts.{takenFigures};
 ghost use Rattle.customer.specs.Answers.{openCustomer, dayUnder, dayAnswer, taken, dayCustomer, closeAnswer, decideAnswer, Steps};
 ghost use Rattle.customer.specs.Rows.{DayFits};
 use answers::Place;
-use day_figures::YearFigures;
+use day_figures::Taking;
 use readings::Run;
 use tariff::Decision;
 use tariff::Figures;
 use tariff::Prices;
 use tariff::Rates;
 use terms::Terms;
+use year_figures::YearFigures;
 
 // The highest legal reading of a customer, W.
 const CUSTOMER_MOST: u32 = 1_000_000_000;
@@ -52,7 +54,7 @@ pub fn decide(
         return answer;
     };
     let year = opening.terms.year;
-    let collected = day_figures::year_figures(
+    let collected = year_figures::year_figures(
         year,
         &opening.terms.carrying,
         &opening.terms.windows,
@@ -99,6 +101,17 @@ fn day_answer(year: u16, seen: u16, sum: u64, day: &[u32]) -> Decision
     Decision::Taken
 }
 
+// The figures in what taking a day answered, and none where it refused.
+fn figures_of(taking: Taking) -> Figures
+    ensures { λ r. ⌜ r ≡ takenFigures taking ⌝ }
+{
+    match taking {
+        Taking::Taken(figures) => figures,
+        Taking::WrongLength => tariff::NO_FIGURES,
+        Taking::DayOut => tariff::NO_FIGURES,
+    }
+}
+
 impl Customer {
     // Opens a year that comes day by day. Refuses 12, 1, 2, 12, 3, 6 in this order; a refusal hands back one fixed state, on which
     // every day and every closing is 13.
@@ -129,25 +142,19 @@ impl Customer {
         }
     }
 
-    // A legal day is taken in.
+    // A legal day is taken in: it fits, so that taking it never answers 13 or 4.
     fn add(self, day: &[u32]) -> Customer
         requires { ⌜ DayFits self (now day) ⌝ }
         ensures { λ r. ⌜ r ≡ taken self (now (day .entry)) ⌝ }
     {
         let terms = self.terms;
         let seen = self.seen;
-        let figures = day_figures::take_day(
-            self.figures,
-            terms.year,
-            seen,
-            terms.carrying[seen as usize],
-            &terms.windows,
-            day,
-        );
+        let row = year_figures::day_row(terms.year, seen, &terms.carrying, &terms.windows);
+        let taking = day_figures::take_day(self.figures, Run::Year(terms.year), seen, row, day);
         Customer {
             terms,
             seen: seen + 1,
-            figures,
+            figures: figures_of(taking),
         }
     }
 

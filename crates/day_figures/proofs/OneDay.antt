@@ -1,4 +1,4 @@
--- Laws of one day: where its quarters stand in the windows, what the masks leave of its readings, and the cases of taking it in.
+-- Laws of one day: what the masks of a row leave of its readings, and the cases of taking it in.
 -- Assumes nothing.
 use mathlib.Core.Path.{_≡_, refl, sym, ap, _∙_}
 use mathlib.Core.Bool.{Bool, true, false, cond, _&&_, _||_, and-false, or-true, or-false}
@@ -9,9 +9,9 @@ use native.Mathlib.Nat.{mod-eq-of-lt}
 use native.Mathlib.Omega.{arith}
 use borrow.Author.Tests.{lt-ltb, le-ltb}
 use lib.Bits.{bitAnd, and-mask, and-zero-r}
-use lib.Dec.{eqb}
+use lib.Dec.{ltb, eqb}
 use lib.ListN.{length, getD}
-use Rattle.over.specs.Over.{largestOver, sumOver, anyOver, firstOver, counted, largestIn, placeIn}
+use Rattle.over.specs.Over.{largestOver, sumOver, anyOver, firstOver, counted, largestIn, placeIn, table}
 use Rattle.over.proofs.Bools.{decided, both}
 use Rattle.over.proofs.Largest.{largest-cong}
 use Rattle.over.proofs.Tests.{any-at, any-fails, all-passed}
@@ -19,82 +19,84 @@ use Rattle.over.proofs.First.{first-holds}
 use Rattle.over.proofs.Tables.{getD-table}
 use Rattle.over.proofs.Inside.{place-in}
 use Rattle.answers.specs.Ruling.{dayQuarters}
-use Rattle.dates.specs.Dates.{seasonOf}
-use Rattle.dates.proofs.Seasons.{season-range}
 use Rattle.readings.specs.declared.Run.{Run}
-use Rattle.readings.specs.declared.Run.the-variants.{Year}
 use Rattle.readings.specs.Legal.{highestOf}
 use Rattle.readings.specs.Runs.{dayLen, quarterOf}
 use Rattle.readings.proofs.Runs.{quarter-in}
-use Rattle.sheet.specs.Windows.{places, placeOf}
-use Rattle.sheet.proofs.Windows.{set-at}
 use Rattle.tariff.specs.declared.Figures.{Figures}
-use Rattle.day_figures.specs.declared.Tops.{Tops}
-use Rattle.day_figures.specs.Counts.{setOn, countsOn}
-use Rattle.day_figures.specs.Day.{alone}
-use Rattle.day_figures.specs.Within.{topsOf, someSet, allOnes, masksOf, maskedHigh, plainly}
 use Rattle.figures.specs.Figures.{anyOn, highOn, quarterOn, DayRecord, recordOf, better, takenIn}
+use Rattle.day_figures.specs.declared.Tops.{Tops}
+use Rattle.day_figures.specs.Day.{alone, inRow, rowIf}
+use Rattle.day_figures.specs.Within.{topsOf, allOnes, masksOf, someLeft, maskedHigh, plainly}
 
 -- a mask leaves a reading of 32 bits where the quarter is set, and else nothing
 mask-leaves : (b : Bool) (v : ℕ) → v ≤ allOnes → bitAnd v (counted b allOnes) ≡ counted b v
 mask-leaves true v l = and-mask v 32 ∙ mod-eq-of-lt (omega arith)
 mask-leaves false v l = and-zero-r v
 
--- the windows of the day's season begin at `base`
-module _ (y : ℕ) (ws : List Bool) (d : ℕ) {base : ℕ} (e : base ≡ placeOf (seasonOf y (d + 1)) 0) where
-  module _ (p : ℕ) (l : p < dayLen (Year y) d) where
-    pub place-fits : base + quarterOf (Year y) d p < places
-    place-fits = omega (arith, season-range y (d + 1), quarter-in (Year y) d p l)
+module _ (run : Run) (row : List Bool) (d : ℕ) where
+  masked-is :
+      (p v : ℕ)
+      → p < dayLen run d
+      → v ≤ allOnes
+      → bitAnd v (getD (masksOf row) (quarterOf run d p) 0) ≡ counted (inRow run row d p) v
+  unfolding masksOf
+  masked-is p v l s =
+      let q = quarterOf run d p in
+      ap (bitAnd v) (getD-table (λ k. counted (getD row k false) allOnes) dayQuarters q 0 (quarter-in run d p l))
+      ∙ mask-leaves (getD row q false) v s
 
-    pub set-on : {q : ℕ} → q ≡ quarterOf (Year y) d p → getD ws (base + q) false ≡ setOn y ws d p
-    unfolding setOn
-    set-on {q} f =
-        let at : base + q ≡ placeOf (seasonOf y (d + 1)) (quarterOf (Year y) d p) = omega arith in
-        ap (λ (k : ℕ). getD ws k false) at ∙ set-at ws (seasonOf y (d + 1)) (quarterOf (Year y) d p) (season-range y (d + 1)) (quarter-in (Year y) d p l)
-
-    masked-is : (v : ℕ) → v ≤ allOnes → bitAnd v (getD (masksOf ws base) (quarterOf (Year y) d p) 0) ≡ counted (setOn y ws d p) v
-    unfolding masksOf
-    masked-is v s =
-        let q = quarterOf (Year y) d p in
-        ap (bitAnd v) (getD-table (λ k. counted (getD ws (base + k) false) allOnes) dayQuarters q 0 (quarter-in (Year y) d p l))
-        ∙ mask-leaves (getD ws (base + q) false) v s ∙ ap (λ (b : Bool). counted b v) (set-on refl)
-
-    -- without set quarters in the season, or on a day that carries none, no position counts
-    silent : (c : Bool) → (c && someSet ws base) ≡ false → countsOn y c ws d p ≡ false
-    unfolding someSet
-    silent false h = refl
-    silent true h = sym (set-on refl) ∙ all-passed (λ q. getD ws (base + q) false) dayQuarters h .fails (quarterOf (Year y) d p) (quarter-in (Year y) d p l)
-
-  pub counts-none : (c : Bool) → (c && someSet ws base) ≡ false → anyOver (countsOn y c ws d) (dayLen (Year y) d) ≡ false
-  counts-none c h = any-fails _ _ (λ p l. silent p l c h)
-
-  -- what the masks leave of a day's readings is what is in a window
+  -- what the masks leave of a day's readings is what counts
   pub masked-in :
       (day : List ℕ) {masks : List ℕ}
-      → length day ≡ dayLen (Year y) d
+      → length day ≡ dayLen run d
       → ((k : ℕ) → alone day k ≤ allOnes)
-      → masks ≡ masksOf ws base
-      → maskedHigh masks y d day ≡ largestIn (setOn y ws d) (alone day) (length day)
+      → masks ≡ masksOf row
+      → maskedHigh masks run d day ≡ largestIn (inRow run row d) (alone day) (length day)
   unfolding maskedHigh largestIn
-  masked-in day l s m = ap (λ (ms : List ℕ). maskedHigh ms y d day) m ∙ largest-cong _ _ (length day) (λ k b. masked-is k (omega arith) (alone day k) (s k))
+  masked-in day l s m =
+      ap (λ (ms : List ℕ). maskedHigh ms run d day) m
+      ∙ largest-cong _ _ (length day) (λ k b. masked-is k (alone day k) (omega arith) (s k))
 
--- a position that is set and has the value
-module _ (y : ℕ) (ws : List Bool) (d : ℕ) (day : List ℕ) (high : ℕ) where
-  abbrev pub hits : ℕ → Bool
-  hits p = setOn y ws d p && eqb (alone day p) high
+-- masks that leave nothing are those of a row without a set quarter
+unset : (row : List Bool) (q : ℕ) → someLeft (masksOf row) ≡ false → q < dayQuarters → getD row q false ≡ false
+unfolding masksOf someLeft
+unset row q h l =
+    let mask : ℕ → ℕ = λ k. counted (getD row k false) allOnes in
+    let none = all-passed (λ k. ltb 0 (getD (table mask dayQuarters) k 0)) dayQuarters h .fails q l in
+    go (getD row q false) (rw (getD-table mask dayQuarters q 0 l) at none)
+  where
+    go : (b : Bool) → ltb 0 (counted b allOnes) ≡ false → b ≡ false
+    go false e = refl
+    go true e = e
 
-  pub hit-at : (p : ℕ) {b t : Bool} → b ≡ setOn y ws d p → (b && eqb (alone day p) high) ≡ t → hits p ≡ t
-  hit-at p e h = (λ i. sym e i && eqb (alone day p) high) ∙ h
+-- so no position counts, nor where the flag is not set
+pub counts-none :
+    (run : Run) (row : List Bool) (d : ℕ) (flag : Bool)
+    → (flag && someLeft (masksOf row)) ≡ false
+    → anyOver (inRow run (rowIf flag row) d) (dayLen run d) ≡ false
+counts-none run row d false h = any-fails _ _ (λ p l. refl)
+counts-none run row d true h = any-fails _ _ (λ p l. unset row (quarterOf run d p) h (quarter-in run d p l))
 
 -- a day's tops, figure by figure
-pub tops-are : (day : List ℕ) {peak sum : ℕ} → peak ≡ highestOf day → sum ≡ sumOver (alone day) (length day) → record { peak = peak; sum = sum } ≡ topsOf day
+pub tops-are :
+    (day : List ℕ) {peak sum : ℕ}
+    → peak ≡ highestOf day
+    → sum ≡ sumOver (alone day) (length day)
+    → record { peak = peak; sum = sum } ≡ topsOf day
 unfolding topsOf
 tops-are day a b = λ i. record { peak = a i; sum = b i }
 
 -- taking a day's record in
 module _ (f : Figures) (d : ℕ) (r : DayRecord) where
   -- its in-window peak does not count
-  taken-plain : (t : Tops) → t .peak ≡ r .peak → t .sum ≡ r .sum → better f r ≡ false → (f .any || r .any) ≡ f .any → plainly f t ≡ takenIn f d r
+  taken-plain :
+      (t : Tops)
+      → t .peak ≡ r .peak
+      → t .sum ≡ r .sum
+      → better f r ≡ false
+      → (f .any || r .any) ≡ f .any
+      → plainly f t ≡ takenIn f d r
   unfolding takenIn
   taken-plain t a b n e =
       λ i. record {
@@ -152,7 +154,9 @@ module _ (run : Run) (test : ℕ → ℕ → Bool) (d : ℕ) (day : List ℕ) (l
 
     -- its in-window peak, if it has one, is not above the year's
     pub taken-old : f .any ≡ true → high ≤ f .high → plainly f t ≡ takenIn f (d + 1) today
-    taken-old a h = taken-plain f (d + 1) today t peak-of sum-of (rw (a, le-ltb (f .high) (today .high) (omega (arith, high-of))) (and-false (today .any))) (rw a)
+    taken-old a h =
+        taken-plain f (d + 1) today t peak-of sum-of
+        (rw (a, le-ltb (f .high) (today .high) (omega (arith, high-of))) (and-false (today .any))) (rw a)
 
     -- the first position that has it
     module _ {p : ℕ} (at : p ≡ firstOver (λ k. test d k && eqb (alone day k) high) (length day)) where

@@ -1,30 +1,26 @@
-// A day of a customer's year, taken into the year's figures by short passes over its readings, and a whole year, month by month.
-// Document 01, Customer's year and decision.
-// Main theorem: the figures of the days before and the day's readings give the figures with the day, for every day that fits
-// (`day-fits`, proofs/Fits); one that does not leaves them as they are.
+// A day of a run, taken into the figures of the days before by the quarters that count, and a stretch of days at once:
+// short passes over the readings. Document 01, Customer's year and decision.
+// Main theorem: where the run has the day, the sum has room and the day is as long as the run says, its record is taken
+// in (`day-fits`, proofs/Fits); else the answer is 13 or 4.
 ghost use mathlib.Core.Path.{_≡_};
-ghost use mathlib.Core.Bool.{_&&_};
-ghost use Prim.Native.Nat.{ℕ, _+_, _*_, _%_, _≤_, _<_};
+ghost use mathlib.Core.Bool.{false, _&&_};
+ghost use Prim.Native.Nat.{ℕ, _+_, _%_, _≤_, _<_, min};
 ghost use lib.Bits.{bitAnd};
 ghost use lib.Dec.{eqb};
-ghost use lib.ListN.{length};
-ghost use Rattle.over.specs.Over.{firstOver, counted, sumOver};
+ghost use lib.ListN.{length, getD};
+ghost use Rattle.over.specs.Over.{firstOver, counted};
 ghost use Rattle.answers.specs.Ruling.{dayQuarters};
-ghost use Rattle.dates.specs.Dates.{mostDays, yearDays, seasonOf};
-ghost use Rattle.readings.specs.declared.Run.the-variants.{Year};
-ghost use Rattle.readings.specs.Runs.{dayLen, dayStart, runReadings};
+ghost use Rattle.readings.specs.Runs.{dayLen};
 ghost use Rattle.readings.specs.Legal.{highestOf};
-ghost use Rattle.sheet.specs.Windows.{places, placeOf};
-ghost use Rattle.figures.specs.Figures.{noFigures, recordOf, takenIn};
-ghost use Rattle.day_figures.specs.Counts.{setOn, countsOn};
-ghost use Rattle.day_figures.specs.Day.{alone, dayMost, sumEnd, dayTaken};
-ghost use Rattle.day_figures.specs.Year.{figuresIn, yearFigures};
-ghost use Rattle.day_figures.specs.Within.{fourEnd, allOnes, someSet, masksOf, maskedHigh, topsOf, plainly};
+ghost use Rattle.day_figures.specs.Day.{alone, inRow, withDay, dayMost, sumEnd, daysOut, dayTaken, rowIf, daysTaken};
+ghost use Rattle.day_figures.specs.Within.{fourEnd, allOnes, masksOf, someLeft, maskedHigh, topsOf, plainly, Fits, DaySum};
 use readings::Run;
 use tariff::Figures;
 
-// The highest sum to which a day, at most 100 readings of 32 bits, can be added within 64 bits.
-const SUM_ROOM: u64 = 18_446_743_644_212_822_115;
+// What a day of at most 100 readings of 32 bits can add to a sum, and the highest sum of 64 bits.
+const DAY_MOST: u64 = 429_496_729_500;
+
+const SUM_MOST: u64 = 18_446_744_073_709_551_615;
 
 // A mask that leaves every bit.
 const ALL_ONES: u32 = 4_294_967_295;
@@ -38,17 +34,11 @@ struct Tops {
     sum: u64,
 }
 
-// How far a pass over a year has come: the figures of the first days, the number of these days, and the readings before the next.
-struct Reach {
-    figures: Figures,
-    d: u16,
-    at: usize,
-}
-
-// The figures of a whole year, or 4.
-pub enum YearFigures {
-    All(Figures),
+// What taking days into figures answers: 0 with the figures, 4, 13.
+pub enum Taking {
+    Taken(Figures),
     WrongLength,
+    DayOut,
 }
 
 fn wide(x: u32) -> u64
@@ -65,10 +55,11 @@ fn sum_four(a: u32, b: u32, c: u32, e: u32) -> u64
     wide(a + b + c + e)
 }
 
-// The sum of a day whose readings are all below 2^30: its four fourths side by side, so that only sums of four are widened.
+// The sum of a day whose readings are all below 2^30: its four fourths side by side, so that only sums of four are
+// widened.
 fn sum_fourths(day: &[u32]) -> u64
     requires { ⌜ (length (now day) ≤ 100) × (length (now day) % 4 ≡ 0) × (highestOf (now day) < fourEnd) ⌝ }
-    ensures { λ r. ⌜ (r ≡ sumOver (alone (now (day .entry))) (length (now (day .entry)))) × (r ≤ dayMost) ⌝ }
+    ensures { λ r. ⌜ DaySum (now (day .entry)) r ⌝ }
 {
     let n = day.len() / 4;
     let mut sum: u64 = 0;
@@ -81,7 +72,7 @@ fn sum_fourths(day: &[u32]) -> u64
 // The sum of any day, reading by reading.
 fn sum_each(day: &[u32]) -> u64
     requires { ⌜ length (now day) ≤ 100 ⌝ }
-    ensures { λ r. ⌜ (r ≡ sumOver (alone (now (day .entry))) (length (now (day .entry)))) × (r ≤ dayMost) ⌝ }
+    ensures { λ r. ⌜ DaySum (now (day .entry)) r ⌝ }
 {
     let mut sum: u64 = 0;
     for p in 0..day.len() {
@@ -93,7 +84,7 @@ fn sum_each(day: &[u32]) -> u64
 // The sum of a day with this peak: legal readings are below 2^30.
 fn sum_of(day: &[u32], peak: u32) -> u64
     requires { ⌜ (length (now day) ≤ 100) × (peak ≡ highestOf (now day)) ⌝ }
-    ensures { λ r. ⌜ (r ≡ sumOver (alone (now (day .entry))) (length (now (day .entry)))) × (r ≤ dayMost) ⌝ }
+    ensures { λ r. ⌜ DaySum (now (day .entry)) r ⌝ }
 {
     if peak < FOUR_END {
         if day.len() % 4 == 0 {
@@ -113,42 +104,43 @@ fn tops_of(day: &[u32]) -> Tops
     Tops { peak, sum }
 }
 
-// Where the windows of day d's season begin.
-fn base_of(year: u16, d: u16) -> usize
-    requires { ⌜ d < mostDays ⌝ }
-    ensures { λ r. ⌜ (r ≡ placeOf (seasonOf year (d + 1)) 0) × (r + dayQuarters ≤ places) ⌝ }
-{
-    answers::DAY_QUARTERS * (dates::season(year, d + 1) as usize - 1)
-}
-
-// Is any quarter of the season set that begins at `base`? No way out of the loop, so that it costs next to nothing.
-fn some_set(windows: &[bool; sheet::PLACES], base: usize) -> bool
-    requires { ⌜ base + dayQuarters ≤ places ⌝ }
-    ensures { λ r. ⌜ r ≡ someSet (now (windows .entry)) base ⌝ }
-{
-    let mut any = false;
-    for q in 0..answers::DAY_QUARTERS {
-        any = any | windows[base + q];
-    }
-    any
-}
-
 fn mask_if(set: bool) -> u32
     ensures { λ r. ⌜ r ≡ counted set allOnes ⌝ }
 {
     if set { ALL_ONES } else { 0 }
 }
 
-// The windows of the season that begins at `base` as masks of 32 bits, all ones where a quarter is set: no reading widens them then.
-fn masks_of(windows: &[bool; sheet::PLACES], base: usize) -> [u32; 96]
-    requires { ⌜ base + dayQuarters ≤ places ⌝ }
-    ensures { λ r. ⌜ r ≡ masksOf (now (windows .entry)) base ⌝ }
+// How many quarters a row says something about: no day has more than 96.
+fn row_end(row: &[bool]) -> usize
+    ensures { λ r. ⌜ r ≡ min (length (now (row .entry))) dayQuarters ⌝ }
+{
+    if row.len() < answers::DAY_QUARTERS {
+        row.len()
+    } else {
+        answers::DAY_QUARTERS
+    }
+}
+
+// The row as masks of 32 bits, all ones where a quarter is set: no reading widens them then.
+fn masks_of(row: &[bool]) -> [u32; 96]
+    ensures { λ r. ⌜ r ≡ masksOf (now (row .entry)) ⌝ }
 {
     let mut out = [0; 96];
-    for q in 0..answers::DAY_QUARTERS {
-        out[q] = mask_if(windows[base + q]);
+    for q in 0..row_end(row) {
+        out[q] = mask_if(row[q]);
     }
     out
+}
+
+// Does any mask leave something? No way out of the loop, so that it costs next to nothing.
+fn some_left(masks: &[u32; 96]) -> bool
+    ensures { λ r. ⌜ r ≡ someLeft (now (masks .entry)) ⌝ }
+{
+    let mut any = false;
+    for q in 0..answers::DAY_QUARTERS {
+        any = any | (0 < masks[q]);
+    }
+    any
 }
 
 // What a mask leaves of a reading.
@@ -159,11 +151,10 @@ fn masked(reading: u32, mask: u32) -> u32
 }
 
 // The highest reading of day d that the masks leave.
-fn masked_high(masks: &[u32; 96], year: u16, d: u16, day: &[u32]) -> u32
-    requires { ⌜ length (now day) ≡ dayLen (Year year) d ⌝ }
-    ensures { λ r. ⌜ r ≡ maskedHigh (now (masks .entry)) year d (now (day .entry)) ⌝ }
+fn masked_high(masks: &[u32; 96], run: Run, d: u16, day: &[u32]) -> u32
+    requires { ⌜ length (now day) ≡ dayLen run d ⌝ }
+    ensures { λ r. ⌜ r ≡ maskedHigh (now (masks .entry)) run d (now (day .entry)) ⌝ }
 {
-    let run = Run::Year(year);
     let mut high = 0;
     for p in 0..day.len() {
         high = legal::larger(high, masked(day[p], masks[readings::quarter_of(run, d, p)]));
@@ -171,21 +162,21 @@ fn masked_high(masks: &[u32; 96], year: u16, d: u16, day: &[u32]) -> u32
     high
 }
 
-// The first in-window position of day d whose reading is `high`, or the day's length: searched only where the year's H moves.
-fn first_in(
-    windows: &[bool; sheet::PLACES],
-    base: usize,
-    year: u16,
-    d: u16,
-    day: &[u32],
-    high: u32,
-) -> usize
-    requires { ⌜ (base ≡ placeOf (seasonOf year (d + 1)) 0) × (length (now day) ≡ dayLen (Year year) d) ⌝ }
-    ensures { λ r. ⌜ r ≡ firstOver (λ (p : ℕ). setOn year (now (windows .entry)) d p && eqb (alone (now (day .entry)) p) high) (length (now (day .entry))) ⌝ }
+// Is a quarter set in a row? None is behind its end.
+fn is_in(row: &[bool], q: usize) -> bool
+    ensures { λ r. ⌜ r ≡ getD (now (row .entry)) q false ⌝ }
 {
-    let run = Run::Year(year);
+    if q < row.len() { row[q] } else { false }
+}
+
+// The first position of day d that counts and whose reading is `high`, or the day's length: searched only where H
+// moves.
+fn first_in(row: &[bool], run: Run, d: u16, day: &[u32], high: u32) -> usize
+    ensures { λ r. ⌜ r ≡ firstOver (λ (p : ℕ). inRow run (now (row .entry)) d p && eqb (alone (now (day .entry)) p) high)
+        (length (now (day .entry))) ⌝ }
+{
     for p in 0..day.len() {
-        if windows[base + readings::quarter_of(run, d, p)] & (day[p] == high) {
+        if is_in(row, readings::quarter_of(run, d, p)) & (day[p] == high) {
             return p;
         }
     }
@@ -210,34 +201,32 @@ fn take_plain(f: Figures, t: Tops) -> Figures
 // The same of a day's readings.
 fn plain_day(f: Figures, day: &[u32]) -> Figures
     requires { ⌜ (length (now day) ≤ 100) × (f .sum + dayMost < sumEnd) ⌝ }
-    ensures { λ r. ⌜ (r ≡ plainly f (topsOf (now (day .entry)))) × (r .sum ≤ f .sum + dayMost) ⌝ }
+    ensures { λ r. ⌜ r ≡ plainly f (topsOf (now (day .entry))) ⌝ }
 {
     take_plain(f, tops_of(day))
 }
 
-// The figures with day d, from 0, taken in, which carries windows; `next` has its highest reading and sum.
+// The figures with day d taken in, of which some quarter may count; `next` has its highest reading and sum.
 fn take_masked(
     f: Figures,
     next: Figures,
-    year: u16,
+    run: Run,
     d: u16,
-    windows: &[bool; sheet::PLACES],
-    base: usize,
+    row: &[bool],
     masks: &[u32; 96],
     day: &[u32],
 ) -> Figures
-    requires { ⌜ (length (now day) ≡ dayLen (Year year) d) × (d < mostDays) × (f .sum + dayMost < sumEnd) × (base ≡ placeOf (seasonOf year (d + 1)) 0) × (now masks ≡ masksOf (now windows) base) × (next ≡ plainly f (topsOf (now day))) × (next .sum ≤ f .sum + dayMost) ⌝ }
-    ensures { λ r. ⌜ (r ≡ takenIn f (d + 1) (recordOf (Year year) (setOn year (now (windows .entry))) d (alone (now (day .entry))))) × (r .sum ≤ f .sum + dayMost) ⌝ }
+    requires { ⌜ Fits f run d (now day) next × (now masks ≡ masksOf (now row)) ⌝ }
+    ensures { λ r. ⌜ r ≡ withDay f run d (now (row .entry)) (alone (now (day .entry))) ⌝ }
 {
-    let high = masked_high(masks, year, d, day);
+    let high = masked_high(masks, run, d, day);
     if f.any & (high <= f.high) {
         return next;
     }
-    let position = first_in(windows, base, year, d, day, high);
+    let position = first_in(row, run, d, day, high);
     if day.len() <= position {
         return next;
     }
-    let run = Run::Year(year);
     Figures {
         peak: next.peak,
         sum: next.sum,
@@ -248,126 +237,88 @@ fn take_masked(
     }
 }
 
-// The figures with day d, from 0, taken in, which fits. `next` has its highest reading and sum, and `some` tells whether its season has
-// windows: without in-window quarters nothing else is looked for. (The pass that finds these two is the callers': this function is then
-// small enough to be laid into both of them.)
+// The figures with day d taken in, by the row where the flag is set. `next` has its highest reading and sum, and `some`
+// tells whether the masks leave anything: else nothing more is looked for. (The pass that finds these two is the
+// callers': this function is then small enough to be laid into both of them.)
 fn take_fit(
     f: Figures,
     next: Figures,
-    year: u16,
+    run: Run,
     d: u16,
-    carries: bool,
+    flag: bool,
     some: bool,
-    windows: &[bool; sheet::PLACES],
-    base: usize,
+    row: &[bool],
     masks: &[u32; 96],
     day: &[u32],
 ) -> Figures
-    requires { ⌜ (length (now day) ≡ dayLen (Year year) d) × (d < mostDays) × (f .sum + dayMost < sumEnd) × (base ≡ placeOf (seasonOf year (d + 1)) 0) × (now masks ≡ masksOf (now windows) base) × (some ≡ someSet (now windows) base) × (next ≡ plainly f (topsOf (now day))) × (next .sum ≤ f .sum + dayMost) ⌝ }
-    ensures { λ r. ⌜ (r ≡ takenIn f (d + 1) (recordOf (Year year) (countsOn year carries (now (windows .entry))) d (alone (now (day .entry))))) × (r .sum ≤ f .sum + dayMost) ⌝ }
+    requires { ⌜ Fits f run d (now day) next × (now masks ≡ masksOf (now row)) × (some ≡ someLeft (now masks)) ⌝ }
+    ensures { λ r. ⌜ r ≡ withDay f run d (rowIf flag (now (row .entry))) (alone (now (day .entry))) ⌝ }
 {
-    if carries & some {
-        return take_masked(f, next, year, d, windows, base, masks, day);
+    if flag & some {
+        return take_masked(f, next, run, d, row, masks, day);
     }
     next
 }
 
-// The figures with day d, from 0, taken in. A day of another length than its own, one past the longest year, and any day once the sum
-// has no room for it leave the figures as they are.
-pub fn take_day(
-    f: Figures,
-    year: u16,
-    d: u16,
-    carries: bool,
-    windows: &[bool; sheet::PLACES],
-    day: &[u32],
-) -> Figures
-    ensures { λ r. ⌜ (r ≡ dayTaken f year d carries (now (windows .entry)) (now (day .entry))) × (r .sum ≤ f .sum + dayMost) ⌝ }
+// 13: has the run no such days, or the sum no room for so many?
+fn days_out(run: Run, from: u16, n: usize, sum: u64) -> bool
+    ensures { λ r. ⌜ r ≡ daysOut run from n sum ⌝ }
 {
-    let run = Run::Year(year);
+    let days = readings::run_days(run);
+    if days < from {
+        return true;
+    }
+    if ((days - from) as usize) < n {
+        return true;
+    }
+    SUM_MOST - DAY_MOST * (n as u64) < sum
+}
+
+// The figures with day d of a run, from 0, taken in: position p counts where the row has its quarter. Refuses 13, 4.
+pub fn take_day(f: Figures, run: Run, d: u16, row: &[bool], day: &[u32]) -> Taking
+    ensures { λ r. ⌜ r ≡ dayTaken f run d (now (row .entry)) (now (day .entry)) ⌝ }
+{
+    if days_out(run, d, 1, f.sum) {
+        return Taking::DayOut;
+    }
     if day.len() != readings::day_span(run, d).len {
-        return f;
+        return Taking::WrongLength;
     }
-    if dates::MOST_DAYS <= d as usize {
-        return f;
-    }
-    if SUM_ROOM < f.sum {
-        return f;
-    }
-    let base = base_of(year, d);
-    let some = some_set(windows, base);
-    let masks = masks_of(windows, base);
+    let masks = masks_of(row);
+    let some = some_left(&masks);
     let next = plain_day(f, day);
-    take_fit(f, next, year, d, carries, some, windows, base, &masks, day)
+    Taking::Taken(take_fit(f, next, run, d, true, some, row, &masks, day))
 }
 
-// Takes in the days from day `from` on to the end of their month: they lie in one season, so its masks are made once.
-fn take_month(
+// The figures with as many days of a whole series taken in as there are flags, from day `from` on: the row counts on
+// those whose flag is set. Refuses 13, 4. The masks are made once for all of them.
+pub fn take_days(
     f: Figures,
-    year: u16,
+    run: Run,
     from: u16,
-    start: usize,
-    carrying: &[bool; dates::MOST_DAYS],
-    windows: &[bool; sheet::PLACES],
+    flags: &[bool],
+    row: &[bool],
     series: &[u32],
-) -> Reach
-    requires { ⌜ (length (now series) ≡ runReadings (Year year)) × (from < yearDays year) × (start ≡ dayStart (Year year) from) × (f ≡ figuresIn year (now carrying) (now windows) (now series) from) × (f .sum ≤ dayMost * from) ⌝ }
-    ensures { λ r. ⌜ (from < r .d) × (r .d ≤ yearDays year) × (r .at ≡ dayStart (Year year) (r .d)) × (r .figures ≡ figuresIn year (now (carrying .entry)) (now (windows .entry)) (now (series .entry)) (r .d)) × (r .figures .sum ≤ dayMost * (r .d)) ⌝ }
+) -> Taking
+    ensures { λ r. ⌜ r ≡ daysTaken f run from (now (flags .entry)) (now (row .entry)) (now (series .entry)) ⌝ }
 {
-    let base = base_of(year, from);
-    let some = some_set(windows, base);
-    let masks = masks_of(windows, base);
-    let end = from + 1 + dates::month_left(year, from + 1);
-    let mut figures = f;
-    let mut at = start;
-    for d in from..end {
-        let run = Run::Year(year);
-        let next = at + readings::day_span(run, d).len;
-        let carries = carrying[d as usize];
-        let day = &series[at..next];
-        let more = plain_day(figures, day);
-        figures = take_fit(
-            figures,
-            more,
-            year,
-            d,
-            carries,
-            some,
-            windows,
-            base,
-            &masks,
-            day,
-        );
-        at = next;
+    if days_out(run, from, flags.len(), f.sum) {
+        return Taking::DayOut;
     }
-    Reach {
-        figures,
-        d: end,
-        at,
-    }
-}
-
-// The figures of a year's series, month by month; 4 for a series of another length.
-pub fn year_figures<'a>(
-    year: u16,
-    carrying: &'a [bool; dates::MOST_DAYS],
-    windows: &'a [bool; sheet::PLACES],
-    series: &[u32],
-) -> YearFigures
-    ensures { λ r. ⌜ r ≡ yearFigures year (now (carrying .entry)) (now (windows .entry)) (now (series .entry)) ⌝ }
-{
-    let run = Run::Year(year);
     if series.len() != readings::run_readings(run) {
-        return YearFigures::WrongLength;
+        return Taking::WrongLength;
     }
-    let mut figures = tariff::NO_FIGURES;
-    let mut at = 0;
-    let mut d = 0;
-    while d < dates::year_days(year) {
-        let next = take_month(figures, year, d, at, carrying, windows, series);
-        figures = next.figures;
-        d = next.d;
-        at = next.at;
+    let masks = masks_of(row);
+    let some = some_left(&masks);
+    let mut figures = f;
+    for k in 0..flags.len() {
+        let d = from + k as u16;
+        let span = readings::day_span(run, d);
+        let start = span.start;
+        let end = start + span.len;
+        let day = &series[start..end];
+        let next = plain_day(figures, day);
+        figures = take_fit(figures, next, run, d, flags[k], some, row, &masks, day);
     }
-    YearFigures::All(figures)
+    Taking::Taken(figures)
 }

@@ -37,7 +37,7 @@ use Rattle.tariff.proofs.Exactly.{judge-exactly}
 use Rattle.figures.specs.Figures.{anyOn, figuresOf, FirstPlace}
 use Rattle.figures.proofs.Sum.{sum-flat}
 use Rattle.figures.proofs.Peak.{first-place, nowhere-in}
-use Rattle.day_figures.specs.Counts.{setOn}
+use Rattle.year_figures.specs.Counts.{setOn}
 use Rattle.terms.specs.declared.Terms.{Terms}
 use Rattle.terms.specs.Basis.{Basis, basisYear}
 use Rattle.terms.specs.Opening.{termsOf, openAnswer}

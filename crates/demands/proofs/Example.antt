@@ -17,7 +17,7 @@ use Rattle.sheet.specs.Windows.{isSet, setIn, tooFull}
 use Rattle.packed.specs.Bytes.{twoAt, unlike}
 use Rattle.sheet.specs.Bytes.{windowsIn, sheetIn}
 use Rattle.sheet.specs.Answers.{readAnswer}
-use Rattle.day_figures.specs.Counts.{setOn}
+use Rattle.year_figures.specs.Counts.{setOn}
 use Rattle.demands.specs.Cases.{exampleSheet}
 
 -- the printed example's sheet

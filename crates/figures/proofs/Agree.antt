@@ -1,5 +1,5 @@
--- Two series of a run: where they agree in every in-window quarter, H and its place are the same; where none of the second's in-window
--- readings exceeds the first's in the same quarter, its H is no higher.
+-- Two series of a run: where they agree in every in-window quarter, H and its place are the same; where none of the
+-- second's in-window readings exceeds the first's in the same quarter, its H is no higher.
 -- Assumes nothing.
 use mathlib.Core.Path.{_≡_, refl, ap, _∙_}
 use mathlib.Core.Bool.{Bool, true, false, cond}

@@ -7,7 +7,7 @@ use Prim.Native.Nat.{ℕ, _+_, _<_}
 use Rattle.over.specs.Over.{sumOver, anyOver, largestIn, placeIn}
 use Rattle.over.proofs.Largest.{largest-none, largest-more, largest-cong}
 use Rattle.over.proofs.Sums.{sum-none, sum-more, sum-cong}
-use Rattle.over.proofs.Tests.{any-none, any-more}
+use Rattle.over.proofs.Tests.{any-none, any-more, any-cong}
 use Rattle.over.proofs.Inside.{in-none, in-cong, place-cong, newer, Placed, placed}
 use Rattle.over.proofs.Inside.Placed.{nowhere, stays, moves}
 use Rattle.readings.specs.declared.Run.{Run}
@@ -37,17 +37,23 @@ module _ (p : ℕ → Bool) (f : ℕ → ℕ) (n : ℕ) where
       go (stays s b e) = rw (b, any-more p n, s, e .place-is)
       go (moves t b e) = rw (b, any-more p n, t, or-true (anyOver p n), e .place-is)
 
-module _ (run : Run) (inWindow : ℕ → ℕ → Bool) where
-  -- a day's record depends on the day's own readings only
-  pub record-cong : (d : ℕ) (f g : ℕ → ℕ) → ((p : ℕ) → p < dayLen run d → f p ≡ g p) → recordOf run inWindow d f ≡ recordOf run inWindow d g
-  unfolding highOn quarterOn
-  record-cong d f g equal =
-      let p = largest-cong f g (dayLen run d) equal in
-      let s = sum-cong f g (dayLen run d) equal in
-      let h = in-cong (inWindow d) (inWindow d) f g (dayLen run d) (λ k l. refl) (λ k l e. equal k l) in
-      let q = place-cong (inWindow d) (inWindow d) f g (dayLen run d) (λ k l. refl) (λ k l e. equal k l) in
-      λ i. record { peak = p i; sum = s i; any = anyOn run inWindow d; high = h i; quarter = quarterOf run d (q i) }
+-- a day's record depends on the day's own positions only: which of them count, and their readings
+pub record-cong :
+    (run : Run) (t u : ℕ → ℕ → Bool) (d : ℕ) (f g : ℕ → ℕ)
+    → ((p : ℕ) → p < dayLen run d → t d p ≡ u d p)
+    → ((p : ℕ) → p < dayLen run d → f p ≡ g p)
+    → recordOf run t d f ≡ recordOf run u d g
+unfolding anyOn highOn quarterOn
+record-cong run t u d f g alike equal =
+    let n = dayLen run d in
+    let p = largest-cong f g n equal in
+    let s = sum-cong f g n equal in
+    let a = any-cong (t d) (u d) n alike in
+    let h = in-cong (t d) (u d) f g n alike (λ k l e. equal k l) in
+    let q = place-cong (t d) (u d) f g n alike (λ k l e. equal k l) in
+    λ i. record { peak = p i; sum = s i; any = a i; high = h i; quarter = quarterOf run d (q i) }
 
+module _ (run : Run) (inWindow : ℕ → ℕ → Bool) where
   pub figures-none : (xs : List ℕ) → noFigures ≡ figuresOf run inWindow xs 0
   unfolding figuresOf peakOf sumOf highIn highDay
   figures-none xs =
@@ -107,4 +113,5 @@ module _ (run : Run) (inWindow : ℕ → ℕ → Bool) where
         (day : ℕ → ℕ)
         → ((p : ℕ) → p < dayLen run n → day p ≡ reading run xs n p)
         → takenIn before (n + 1) (recordOf run inWindow n day) ≡ after
-    taken-more day same = ap (takenIn before (n + 1)) (record-cong n day (reading run xs n) same) ∙ taken-series
+    taken-more day same =
+        ap (takenIn before (n + 1)) (record-cong run inWindow inWindow n day (reading run xs n) (λ p l. refl) same) ∙ taken-series

@@ -1,6 +1,6 @@
--- Document 01, Customer's year and decision: "Annual peak M: highest reading. In-window peak H: highest in-window reading, with the day and
--- quarter where it first occurs. S: sum of all readings". `inWindow d p` says whether position p of day d is in a window; days d and
--- positions p count from 0. A year goes by days, a day by positions.
+-- Document 01, Customer's year and decision: "Annual peak M: highest reading. In-window peak H: highest in-window
+-- reading, with the day and quarter where it first occurs. S: sum of all readings". `inWindow d p` says whether
+-- position p of day d is in a window; days d and positions p count from 0. A year goes by days, a day by positions.
 use mathlib.Core.Path.{_≡_}
 use mathlib.Core.Bool.{Bool, true, false, cond, not, _&&_, _||_}
 use mathlib.Core.List.{List}
@@ -35,7 +35,8 @@ module _ (run : Run) (inWindow : ℕ → ℕ → Bool) where
   unfoldable pub highDay : List ℕ → ℕ → ℕ
   highDay xs n = placeIn anyOn (λ d. highOn d (reading run xs d)) n
 
-  -- the figures of the first n days: M, S, and H with the day, from 1, and the quarter where it first occurs; 0 where no quarter is in a window
+  -- the figures of the first n days: M, S, and H with the day, from 1, and the quarter where it first occurs; 0 where
+  -- no quarter is in a window
   unfoldable pub figuresOf : List ℕ → ℕ → Figures
   figuresOf xs n =
       record {
@@ -51,7 +52,8 @@ module _ (run : Run) (inWindow : ℕ → ℕ → Bool) where
 abbrev pub noFigures : Figures
 noFigures = record { peak = 0; sum = 0; any = false; high = 0; day = 0; quarter = 0 }
 
--- a day's record: highest reading, sum, whether a quarter is in a window, and the highest such reading with its first quarter
+-- a day's record: highest reading, sum, whether a quarter is in a window, and the highest such reading with its first
+-- quarter
 pub record DayRecord : Type 0 where
   pub peak : ℕ
   pub sum : ℕ
@@ -85,7 +87,8 @@ takenIn f d r =
       quarter = cond (better f r) (r .quarter) (f .quarter);
     }
 
--- what H's place is, in plain orders: an in-window quarter that has H, no in-window reading being above it, and every earlier one below
+-- what H's place is, in plain orders: an in-window quarter that has H, no in-window reading being above it, and every
+-- earlier one below
 pub record FirstPlace (run : Run) (inWindow : ℕ → ℕ → Bool) (xs : List ℕ) (n : ℕ) (f : Figures) : Type 0 where
   pub on : ℕ
   pub at : ℕ

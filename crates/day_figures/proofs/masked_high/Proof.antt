@@ -1,4 +1,5 @@
--- `day_figures::masked_high` meets its contract. The loop's invariant: `high` is the highest of what is left of the first p readings.
+-- `day_figures::masked_high` meets its contract. The loop's invariant: `high` is the highest of what is left of the
+-- first p readings.
 -- Assumes nothing.
 use mathlib.Core.Path.{_≡_, sym, ap, _∙_}
 use Prim.Native.Nat.{ℕ, _≤_, _<_, _-_, max}
@@ -9,7 +10,6 @@ use lib.ListN.{length, getD}
 use Rattle.over.specs.Over.{largestOver}
 use Rattle.over.proofs.Largest.{largest-none, largest-more}
 use Rattle.answers.specs.Ruling.{dayQuarters}
-use Rattle.readings.specs.declared.Run.the-variants.{Year}
 use Rattle.readings.specs.Runs.{quarterOf}
 use Rattle.readings.proofs.Runs.{quarter-in}
 use Rattle.day_figures.specs.Day.{alone}
@@ -18,17 +18,17 @@ use Rattle.day_figures.proofs.masked_high.Statement.{statement}
 use Rattle.day_figures.proofs.masked_high.Tie as tie
 
 abbrev Inv-loop : tie.InvT-loop
-Inv-loop masks year d day run high₀ p₀ p-end high p =
-    (p ≤ length day) × (high ≡ largestOver (λ (k : ℕ). bitAnd (alone day k) (getD masks (quarterOf (Year year) d k) 0)) p)
+Inv-loop masks run d day high₀ p₀ p-end high p =
+    (p ≤ length day) × (high ≡ largestOver (λ (k : ℕ). bitAnd (alone day k) (getD masks (quarterOf run d k) 0)) p)
 
 abbrev μ-loop : tie.MeasureT-loop
-μ-loop masks year d day run high₀ p₀ p-end high p = length day - p
+μ-loop masks run d day high₀ p₀ p-end high p = length day - p
 
 -- a mask stands for each quarter
 within : (e : tie.After-quarter-of Inv-loop μ-loop) → e .quarter-of .result < dayQuarters
 within e =
     let a = e .before .before .before .before .before .args in
-    omega (arith, e .quarter-of .ensures, quarter-in (Year (a .year)) (a .d) (e .before .before .before .loop .p) (omega arith))
+    omega (arith, e .quarter-of .ensures, quarter-in (a .run) (a .d) (e .before .before .before .loop .p) (omega arith))
 
 loop-again : tie.Need-loop-again Inv-loop μ-loop
 loop-again c =

@@ -12,7 +12,8 @@ use Rattle.day_figures.proofs.sum_each.Statement.{statement}
 use Rattle.day_figures.proofs.sum_each.Tie as tie
 
 abbrev Inv-loop : tie.InvT-loop
-Inv-loop day sum₀ p₀ p-end sum p = (length day ≤ 100) × (p ≤ length day) × (sum ≡ sumOver (alone day) p) × (sum ≤ 4294967295 * p)
+Inv-loop day sum₀ p₀ p-end sum p =
+    (length day ≤ 100) × (p ≤ length day) × (sum ≡ sumOver (alone day) p) × (sum ≤ 4294967295 * p)
 
 abbrev μ-loop : tie.MeasureT-loop
 μ-loop day sum₀ p₀ p-end sum p = length day - p
@@ -21,13 +22,18 @@ loop-again : tie.Need-loop-again Inv-loop μ-loop
 loop-again c =
     let at = c .before .before .before .loop in
     let day = c .before .before .before .before .before .args .day .now in
-    (at .inv .0, omega arith, omega (arith, at .inv .2, c .wide .ensures .0, sum-more (alone day) (at .p)), omega (arith, at .inv .3, c .wide .ensures .1))
+    let wide = c .wide .ensures in (
+      at .inv .0,
+      omega arith,
+      omega (arith, at .inv .2, wide .0, sum-more (alone day) (at .p)),
+      omega (arith, at .inv .3, wide .1),
+    )
 
 returns : tie.Need-returns Inv-loop μ-loop
 returns c =
     let at = c .before .loop in
     let all : at .p ≡ length (c .before .before .before .args .day .now) = omega arith in
-    (at .inv .2 ∙ ap (sumOver _) all, omega arith)
+    record { is = at .inv .2 ∙ ap (sumOver _) all; most = omega arith }
 
 pub sum-each-spec : {M : Type 1} → statement M
 sum-each-spec =

@@ -1,11 +1,13 @@
--- `day_figures::sum_fourths` meets its contract. The loop's invariant: the sum is that of the first p places of each fourth.
+-- `day_figures::sum_fourths` meets its contract. The loop's invariant: the sum is that of the first p places of each
+-- fourth.
 -- Assumes nothing.
 use mathlib.Core.Path.{_≡_}
-use Prim.Native.Nat.{_*_, _-_, _≤_}
+use Prim.Native.Nat.{ℕ, _*_, _-_, _≤_, _<_}
 use native.Mathlib.Omega.{arith}
 use borrow.Author.Needs.{needs}
-use lib.ListN.{length}
+use lib.ListN.{length, getD}
 use Rattle.day_figures.specs.Day.{alone}
+use Rattle.day_figures.specs.Within.{fourEnd}
 use Rattle.day_figures.proofs.DaySums.{Fourths, fourths-none, fourths-more, fourths-all, below-peak}
 use Rattle.day_figures.proofs.sum_fourths.Statement.{statement}
 use Rattle.day_figures.proofs.sum_fourths.Tie as tie
@@ -18,19 +20,22 @@ abbrev μ-loop : tie.MeasureT-loop
 
 sum-four-requires : tie.Need-sum-four-requires Inv-loop μ-loop
 sum-four-requires c κs =
-    let s = c .before .before .before .before .before .before .before in
-    let under = below-peak (s .args .day .now) in
-    (under _ (s .pre .2) (omega arith), under _ (s .pre .2) (omega arith), under _ (s .pre .2) (omega arith), under _ (s .pre .2) (omega arith))
+    let loop = c .before .before .before .before .before in
+    let s = loop .before .before in
+    let under : (k : ℕ) → k < length (s .args .day .now) → getD (s .args .day .now) k 0 < fourEnd =
+    λ k. below-peak (s .args .day .now) k (s .pre .2) in
+    (under _ (omega arith), under _ (omega arith), under _ (omega arith), under _ (omega arith))
 
 loop-again : tie.Need-loop-again Inv-loop μ-loop
 loop-again c =
-    let l = c .before .before .before .before .before .before .loop in
+    let last = c .before .before .before .before .before in
+    let l = last .before .loop in
     (l .inv .0, l .inv .1, fourths-more _ _ (l .inv .2) (omega arith) (c .sum-four .ensures))
 
 returns : tie.Need-returns Inv-loop μ-loop
 returns c =
     let l = c .before .loop .inv in
-    (fourths-all _ _ (l .2) (omega arith) (l .0), omega (arith, l .1, l .2 .some, l .2 .small))
+    record { is = fourths-all _ _ (l .2) (omega arith) (l .0); most = omega (arith, l .1, l .2 .some, l .2 .small) }
 
 pub sum-fourths-spec : {M : Type 1} → statement M
 sum-fourths-spec =

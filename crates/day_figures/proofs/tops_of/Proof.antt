@@ -11,4 +11,4 @@ tops-of-spec =
     (tie.spec
     (λ c κs. search needs)  -- highest-requires
     (λ c κs. search needs)  -- sum-of-requires
-    (λ c. (tops-are _ (c .before .highest .ensures) (c .sum-of .ensures .0), c .sum-of .ensures .1)))
+    (λ c. let s = c .sum-of .ensures in (tops-are _ (c .before .highest .ensures) (s .is), s .most)))

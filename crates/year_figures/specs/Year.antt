@@ -1,5 +1,5 @@
--- Document 01, Customer's year and decision: M, S and H with its place, of a whole year. A series of another length than the year's is
--- answered 4. Days d and positions p count from 0.
+-- Document 01, Customer's year and decision: M, S and H with its place, of a whole year. A series of another length
+-- than the year's is answered 4. Days d and positions p count from 0.
 use mathlib.Core.Bool.{Bool, false, cond}
 use mathlib.Core.List.{List}
 use Prim.Native.Nat.{ℕ}
@@ -10,9 +10,9 @@ use Rattle.readings.specs.declared.Run.the-variants.{Year}
 use Rattle.readings.specs.Runs.{runReadings}
 use Rattle.tariff.specs.declared.Figures.{Figures}
 use Rattle.figures.specs.Figures.{figuresOf}
-use Rattle.day_figures.specs.declared.YearFigures.{YearFigures}
-use Rattle.day_figures.specs.declared.YearFigures.the-variants.{All, WrongLength}
-use Rattle.day_figures.specs.Counts.{countsOn}
+use Rattle.year_figures.specs.declared.YearFigures.{YearFigures}
+use Rattle.year_figures.specs.declared.YearFigures.the-variants.{All, WrongLength}
+use Rattle.year_figures.specs.Counts.{countsOn}
 
 -- the figures of the first n days of year y's series, by the days that carry windows
 abbrev pub figuresIn : ℕ → List Bool → List Bool → List ℕ → ℕ → Figures

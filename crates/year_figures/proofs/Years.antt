@@ -13,9 +13,9 @@ use Rattle.readings.specs.declared.Run.the-variants.{Year}
 use Rattle.readings.specs.Runs.{runReadings}
 use Rattle.tariff.specs.declared.Figures.{Figures}
 use Rattle.figures.specs.Figures.{noFigures}
-use Rattle.day_figures.specs.declared.YearFigures.{YearFigures}
-use Rattle.day_figures.specs.declared.YearFigures.the-variants.{All, WrongLength}
-use Rattle.day_figures.specs.Year.{figuresIn, yearFigures}
+use Rattle.year_figures.specs.declared.YearFigures.{YearFigures}
+use Rattle.year_figures.specs.declared.YearFigures.the-variants.{All, WrongLength}
+use Rattle.year_figures.specs.Year.{figuresIn, yearFigures}
 
 module _ (y : ℕ) (carrying windows : List Bool) (xs : List ℕ) where
   pub year-none : (length xs ≡ runReadings (Year y) → ⊥) → WrongLength ≡ yearFigures y carrying windows xs

@@ -1,0 +1,106 @@
+-- Laws of a day's row: by it a position counts exactly when the day carries windows and the quarter is set in the
+-- windows of the day's season; and the rows of a month, which lies in one season.
+-- Assumes nothing.
+use mathlib.Core.Path.{_≡_, refl, sym, ap, _∙_}
+use mathlib.Core.Bool.{Bool, true, false}
+use mathlib.Core.List.{List, []}
+use Prim.Native.Nat.{ℕ, _+_, _≤_, _<_}
+use native.Mathlib.Omega.{arith}
+use lib.ListN.{getD, take, drop}
+use lib.Seq.{getD-take, getD-drop}
+use Rattle.answers.specs.Ruling.{dayQuarters}
+use Rattle.dates.specs.Dates.{monthLeft, seasonOf}
+use Rattle.dates.proofs.Seasons.{season-range, season-stays}
+use Rattle.readings.specs.declared.Run.the-variants.{Year}
+use Rattle.readings.specs.Runs.{dayLen, quarterOf}
+use Rattle.readings.proofs.Runs.{quarter-in}
+use Rattle.sheet.specs.Windows.{placeOf}
+use Rattle.sheet.proofs.Windows.{set-at}
+use Rattle.tariff.specs.declared.Figures.{Figures}
+use Rattle.figures.specs.Figures.{recordOf, takenIn}
+use Rattle.figures.proofs.Taken.{record-cong}
+use Rattle.day_figures.specs.Day.{inRow, withDay, rowIf, withDays}
+use Rattle.day_figures.proofs.Days.{days-figures}
+use Rattle.year_figures.specs.Counts.{setOn, countsOn, seasonRow, dayRow}
+use Rattle.year_figures.specs.Year.{figuresIn}
+
+-- the part of the windows that is a season's
+pub season-cut :
+    (windows : List Bool) (s : ℕ) {start size : ℕ}
+    → start ≡ placeOf s 0
+    → size ≡ dayQuarters
+    → take size (drop start windows) ≡ seasonRow windows s
+season-cut windows s a b = λ i. take (b i) (drop (a i) windows)
+
+-- the cases of a day's row
+module _ (y : ℕ) (carrying windows : List Bool) (d : ℕ) where
+  pub row-none : getD carrying d false ≡ false → [] ≡ dayRow y carrying windows d
+  unfolding dayRow
+  row-none e = rw e
+
+  pub row-some : getD carrying d false ≡ true → seasonRow windows (seasonOf y (d + 1)) ≡ dayRow y carrying windows d
+  unfolding dayRow
+  row-some e = rw e
+
+module _ (y : ℕ) (windows : List Bool) (d p : ℕ) (l : p < dayLen (Year y) d) where
+  season-counts : getD (seasonRow windows (seasonOf y (d + 1))) (quarterOf (Year y) d p) false ≡ setOn y windows d p
+  unfolding setOn
+  season-counts =
+      let s = seasonOf y (d + 1) in
+      let q = quarterOf (Year y) d p in
+      let h = quarter-in (Year y) d p l in
+      let at : placeOf s 0 + q ≡ placeOf s q = omega arith in
+      getD-take dayQuarters (drop (placeOf s 0) windows) q false h
+      ∙ getD-drop (placeOf s 0) windows q false
+      ∙ ap (λ (k : ℕ). getD windows k false) at
+      ∙ set-at windows s q (season-range y (d + 1)) h
+
+  -- the season's row, on a day with this flag
+  pub flag-counts : (flag : Bool) → inRow (Year y) (rowIf flag (seasonRow windows (seasonOf y (d + 1)))) d p ≡ countsOn y flag windows d p
+  flag-counts false = refl
+  flag-counts true = season-counts
+
+  -- the day's own row
+  pub row-counts :
+      (carrying : List Bool)
+      → inRow (Year y) (dayRow y carrying windows d) d p ≡ countsOn y (getD carrying d false) windows d p
+  unfolding dayRow
+  row-counts carrying = flag-counts (getD carrying d false)
+
+-- so taking a day in by its row is taking in what counts
+pub row-taken :
+    (y : ℕ) (carrying windows : List Bool) (d : ℕ) {row : List Bool} (f : Figures) (at : ℕ → ℕ)
+    → row ≡ dayRow y carrying windows d
+    → withDay f (Year y) d row at
+    ≡ takenIn f (d + 1) (recordOf (Year y) (λ k. countsOn y (getD carrying k false) windows k) d at)
+row-taken y carrying windows d f at e =
+    ap (λ (r : List Bool). withDay f (Year y) d r at) e
+    ∙ ap (takenIn f (d + 1))
+    (record-cong (Year y) (inRow (Year y) (dayRow y carrying windows d)) _ d at at (λ p l. row-counts y windows d p l carrying) (λ p l. refl))
+
+-- days of one month from day d on: their flags, and the row of its season, which all of them have
+module _ (y : ℕ) (carrying windows : List Bool) (d n : ℕ) (left : n ≤ monthLeft y (d + 1) + 1) where
+  abbrev flags : List Bool
+  flags = take n (drop d carrying)
+
+  module _ {row : List Bool} (is : row ≡ seasonRow windows (seasonOf y (d + 1))) where
+    month-counts :
+        (k p : ℕ)
+        → k < n
+        → p < dayLen (Year y) (d + k)
+        → inRow (Year y) (rowIf (getD flags k false) row) (d + k) p ≡ countsOn y (getD carrying (d + k) false) windows (d + k) p
+    month-counts k p l m =
+        let on : d + 1 + k ≡ d + k + 1 = omega arith in
+        let season = sym (season-stays y (d + 1) k (omega arith)) ∙ ap (seasonOf y) on in
+        let flag = getD-take n (drop d carrying) k false l ∙ getD-drop d carrying k false in
+        ap (λ (b : Bool). inRow (Year y) (rowIf b row) (d + k) p) flag
+        ∙ ap (λ (r : List Bool). inRow (Year y) (rowIf (getD carrying (d + k) false) r) (d + k) p)
+        (is ∙ ap (seasonRow windows) season)
+        ∙ flag-counts y windows (d + k) p m (getD carrying (d + k) false)
+
+    pub month-taken :
+        (xs : List ℕ) {f : Figures}
+        → f ≡ figuresIn y carrying windows xs d
+        → withDays f (Year y) d flags row xs n ≡ figuresIn y carrying windows xs (d + n)
+    month-taken xs e =
+        days-figures _ (Year y) d flags row xs (λ k. countsOn y (getD carrying k false) windows k) e n (λ k l p m. month-counts k p l m)

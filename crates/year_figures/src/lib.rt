@@ -1,0 +1,80 @@
+// A charge year's figures: the quarters of a day that count as a lent row, and the pass over a whole year, month by
+// month.
+// Document 01, High-load windows, and Customer's year and decision.
+// Main theorem: by its row a position of a day counts exactly when the day carries windows and the quarter is set in
+// the windows of the day's season (`row-counts`, proofs/Rows).
+ghost use mathlib.Core.Path.{_≡_};
+ghost use Prim.Native.Nat.{_+_, _<_};
+ghost use Rattle.dates.specs.Dates.{mostDays, seasonOf};
+ghost use Rattle.year_figures.specs.Counts.{seasonRow, dayRow};
+ghost use Rattle.year_figures.specs.Year.{yearFigures};
+use day_figures::Taking;
+use readings::Run;
+use tariff::Figures;
+
+// The figures of a whole year, or 4.
+pub enum YearFigures {
+    All(Figures),
+    WrongLength,
+}
+
+// The windows of day d's season, from 0, as a row.
+fn season_row(year: u16, d: u16, windows: &[bool; sheet::PLACES]) -> &[bool]
+    requires { ⌜ d < mostDays ⌝ }
+    ensures { λ r. ⌜ now r ≡ seasonRow (now (windows .entry)) (seasonOf year (d + 1)) ⌝ }
+{
+    let all = &windows[..];
+    let end = answers::DAY_QUARTERS * dates::season(year, d + 1) as usize;
+    let start = end - answers::DAY_QUARTERS;
+    &all[start..end]
+}
+
+// The quarters that count on day d, from 0: those of its season's windows where the day carries windows, else a row of
+// none.
+pub fn day_row<'a>(
+    year: u16,
+    d: u16,
+    carrying: &'a [bool; dates::MOST_DAYS],
+    windows: &'a [bool; sheet::PLACES],
+) -> &'a [bool]
+    ensures { λ r. ⌜ now r ≡ dayRow year (now (carrying .entry)) (now (windows .entry)) d ⌝ }
+{
+    let all = &windows[..];
+    let flags = &carrying[..];
+    let at = d as usize;
+    if flags.len() <= at {
+        return &all[0..0];
+    }
+    if flags[at] {
+        return season_row(year, d, windows);
+    }
+    &all[0..0]
+}
+
+// The figures of a year's series, month by month, since a month lies in one season; 4 for a series of another length.
+pub fn year_figures<'a>(
+    year: u16,
+    carrying: &'a [bool; dates::MOST_DAYS],
+    windows: &'a [bool; sheet::PLACES],
+    series: &[u32],
+) -> YearFigures
+    ensures { λ r. ⌜ r ≡ yearFigures year (now (carrying .entry)) (now (windows .entry)) (now (series .entry)) ⌝ }
+{
+    let all = &carrying[..];
+    let mut figures = tariff::NO_FIGURES;
+    let mut d = 0;
+    while d < dates::year_days(year) {
+        let next = d + 1 + dates::month_left(year, d + 1);
+        let start = d as usize;
+        let end = next as usize;
+        let flags = &all[start..end];
+        let row = season_row(year, d, windows);
+        let taking = day_figures::take_days(figures, Run::Year(year), d, flags, row, series);
+        let Taking::Taken(more) = taking else {
+            return YearFigures::WrongLength;
+        };
+        figures = more;
+        d = next;
+    }
+    YearFigures::All(figures)
+}
