@@ -1,5 +1,6 @@
--- Document 01, Calendar: "A day carries windows when it is Monday to Friday, not a listed holiday, not 24 December to 1 January, and
--- not a bridge day." (Tenor 2.e; bridge days are a house rule.) In these rules isListed says which days are listed.
+-- Document 01, Calendar: "A day carries windows when it is Monday to Friday, not a listed holiday, not 24
+-- December to 1 January, and not a bridge day." (Tenor 2.e; bridge days are a house rule.) In these rules
+-- isListed says which days are listed.
 use mathlib.Core.Bool.{Bool, true, false, cond, not, _&&_, _||_}
 use mathlib.Core.List.{List}
 use Prim.Native.Nat.{ℕ, _+_, _-_}
@@ -26,15 +27,16 @@ free y isListed d = weekend y d || (isListed d || christmas y d)
 unfoldable pub candidate : ℕ → (ℕ → Bool) → ℕ → ℕ → ℕ → Bool
 candidate y isListed weekday neighbour d = eqb (weekdayOf y d) weekday && (isListed neighbour && not (free y isListed d))
 
--- "in a Monday-to-Sunday week the candidates are a Monday whose Tuesday is listed and a Friday whose Thursday is listed"
+-- "in a Monday-to-Sunday week the candidates are a Monday whose Tuesday is listed and a Friday whose Thursday is
+-- listed"
 abbrev pub mondayCandidate : ℕ → (ℕ → Bool) → ℕ → Bool
 mondayCandidate y isListed d = candidate y isListed monday (d + 1) d
 
 abbrev pub fridayCandidate : ℕ → (ℕ → Bool) → ℕ → Bool
 fridayCandidate y isListed d = candidate y isListed friday (d - 1) d
 
--- "the first candidate alone is a bridge day": a week's Monday is four days before its Friday. (A Monday that lies in the year
--- before is free, 24 to 31 December, and no candidate; d - 4 is then 0, which is none either.)
+-- "the first candidate alone is a bridge day": a week's Monday is four days before its Friday. (A Monday that lies in
+-- the year before is free, 24 to 31 December, and no candidate; d - 4 is then 0, which is none either.)
 unfoldable pub bridge : ℕ → (ℕ → Bool) → ℕ → Bool
 bridge y isListed d = mondayCandidate y isListed d || (fridayCandidate y isListed d && not (mondayCandidate y isListed (d - 4)))
 

@@ -7,8 +7,8 @@ use lib.Dec.{ltb}
 use lib.ListN.{getD}
 use Rattle.holidays.specs.Holidays.{listed}
 
--- the places that mark days: one for each of days 0 to 367, so for a year's days and the days beside them, and a last one
--- for all others
+-- the places that mark days: one for each of days 0 to 367, so for a year's days and the days beside
+-- them, and a last one for all others
 abbrev pub lastPlace : ℕ
 lastPlace = 368
 

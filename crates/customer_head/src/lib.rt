@@ -15,8 +15,8 @@ use fields::Span;
 use tariff::Prices;
 use tariff::Row;
 
-// Fields before the holidays, and prices behind them; how wide the former are, where they start, and the numbers that
-// refuse them.
+// Fields before the holidays, and prices behind them; how wide the former are, where they
+// start, and the numbers that refuse them.
 const FIRST_FIELDS: usize = 12;
 
 const PRICE_FIELDS: usize = 4;

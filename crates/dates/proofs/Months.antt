@@ -1,5 +1,6 @@
--- The table of the days before each month says what the months add up to: a year enters only through its leap day, so two computed tests
--- cover every year. A day's month is the first that does not end before it, and the days that are left of it lie in it.
+-- The table of the days before each month says what the months add up to: a year enters only through its leap
+-- day, so two computed tests cover every year. A day's month is the first that does not end before it, and the
+-- days that are left of it lie in it.
 -- Assumes nothing.
 use mathlib.Core.Path.{_≡_, refl, sym, ap, _∙_}
 use mathlib.Core.Bool.{Bool, true, cond, _||_}
@@ -95,7 +96,9 @@ module _ (y d : ℕ) where
   later : (m : ℕ) → m ≤ 11 → d ≤ daysTo y (m + 1) → countOver ended 11 ≡ countOver ended m
   later m h l =
       let e : 11 ≡ m + (11 - m) = omega arith in
-      let none = count-fails (λ k. ended (m + k)) (11 - m) (λ k b. le-ltb (daysTo y (m + k + 1)) d (omega (arith, grows y (m + 1) (m + k + 1) (omega arith)))) in
+      let none =
+      count-fails (λ k. ended (m + k)) (11 - m)
+      (λ k b. le-ltb (daysTo y (m + k + 1)) d (omega (arith, grows y (m + 1) (m + k + 1) (omega arith)))) in
       omega (arith, ap (countOver ended) e, count-add ended m (11 - m), none)
 
   -- the first month that does not end before it, and December where all others do

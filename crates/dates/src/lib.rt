@@ -1,5 +1,6 @@
 // Dates of document 01's calendar: leap years, weekdays, months and seasons.
-// Main theorem: the weekday by three divisions is the weekday by counting every day, each 29 February with them, in every year.
+// Main theorem: the weekday by three divisions is the weekday by counting every day, each
+// 29 February with them, in every year.
 ghost use mathlib.Core.Path.{_≡_};
 ghost use Prim.Native.Nat.{_<_};
 ghost use Rattle.dates.specs.Dates.{leap, leapDay, yearDays, daysTo, monthOf, weekdayOf, seasonOf, monthLeft};
@@ -73,8 +74,8 @@ pub fn month_left(year: u16, day: u16) -> u16
     if end < day { 0 } else { end - day }
 }
 
-// The weekday of any day of any year: 0 Monday .. 6 Sunday. Years are not looped over: the leap days before a year are counted
-// by three divisions.
+// The weekday of any day of any year: 0 Monday .. 6 Sunday. Years are not looped over: the leap days before a year are
+// counted by three divisions.
 pub fn weekday(year: u16, day: u16) -> u8
     ensures { λ r. ⌜ r ≡ weekdayOf year day ⌝ }
 {

@@ -1,4 +1,5 @@
--- Document 01, Numbers: "holidays: day of the year, from 1; at most 40, strictly rising, inside the year". hs is the operator's list.
+-- Document 01, Numbers: "holidays: day of the year, from 1; at most 40, strictly rising, inside
+-- the year". hs is the operator's list.
 use mathlib.Core.Bool.{Bool, _||_}
 use mathlib.Core.List.{List}
 use Prim.Native.Nat.{ℕ, zero, suc, _+_, _≤_, _<_}

@@ -3,8 +3,8 @@
 ghost use mathlib.Core.Path.{_≡_};
 ghost use Rattle.holidays.specs.Holidays.{unfit, badHolidays};
 
-// Does a listed day break its rule: it does not rise above the one before (0 before the first), or lies past the year's end? Any day
-// has an answer.
+// Does a listed day break its rule: it does not rise above the one before (0 before the first), or lies past the year's
+// end? Any day has an answer.
 pub fn unfit(year: u16, last: u16, day: u16) -> bool
     ensures { λ r. ⌜ r ≡ unfit year last day ⌝ }
 {

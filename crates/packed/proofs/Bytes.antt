@@ -33,7 +33,10 @@ module _ (b : List ℕ) (i : ℕ) where
   -- a mark by its bytes
   pub unlike-bytes :
       (mark : List ℕ)
-      → (not (eqb (getD b (i + 0) 0) (getD mark 0 0)) || not (eqb (getD b (i + 1) 0) (getD mark 1 0)) || not (eqb (getD b (i + 2) 0) (getD mark 2 0))) ≡ unlike mark b i
+      → (not (eqb (getD b (i + 0) 0) (getD mark 0 0))
+      || not (eqb (getD b (i + 1) 0) (getD mark 1 0))
+      || not (eqb (getD b (i + 2) 0) (getD mark 2 0)))
+      ≡ unlike mark b i
   unfolding unlike anyOver joined
   unlike-bytes mark = refl
 

@@ -1,5 +1,6 @@
--- Document 01, Window sheet: "numbers here and in files with the high byte first"; the sheet and both files begin with a mark of three bytes and
--- with version 1. Numbers, marks and versions at place i of the bytes b; behind the last byte there is 0.
+-- Document 01, Window sheet: "numbers here and in files with the high byte first"; the sheet and both files
+-- begin with a mark of three bytes and with version 1. Numbers, marks and versions at place i of the bytes
+-- b; behind the last byte there is 0.
 use mathlib.Core.Bool.{Bool, not}
 use mathlib.Core.List.{List}
 use Prim.Native.Nat.{ℕ, _+_, _-_, min}

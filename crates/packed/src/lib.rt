@@ -1,5 +1,5 @@
-// Numbers and marks in bytes, for the sheet and for both files. Document 01, Window sheet: "numbers here and in files with the high byte
-// first". Behind the last byte there is 0, so that every call answers for any bytes and any place.
+// Numbers and marks in bytes, for the sheet and for both files. Document 01, Window sheet: "numbers here and in files
+// with the high byte first". Behind the last byte there is 0, so that every call answers for any bytes and any place.
 ghost use mathlib.Core.Path.{_≡_};
 ghost use Prim.Native.Nat.{_+_, _-_, _<_, min};
 ghost use lib.ListN.{getD};

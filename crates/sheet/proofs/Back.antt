@@ -1,5 +1,5 @@
--- Demand 2's theorems of the sheet: what is written reads back as the same meaning, what is read is written back as the same bytes;
--- so two accepted sheets with one meaning have the same bytes, and two meanings never share bytes.
+-- Demand 2's theorems of the sheet: what is written reads back as the same meaning, what is read is written back as the
+-- same bytes; so two accepted sheets with one meaning have the same bytes, and two meanings never share bytes.
 -- Assumes nothing.
 use mathlib.Core.Path.{_≡_, refl, sym, ap, _∙_}
 use mathlib.Core.Bool.{Bool, false}
@@ -59,7 +59,13 @@ module _ (y l : ℕ) (w : List Bool) where
 
   formed : Formed (bytesOf y l w)
   unfolding bytesOf
-  formed = record { size = length-bytes y l w; marked = λ k h. List·getD-append mark (twoBytes formatVersion ++ (twoBytes y ++ ((l ∷ []) ++ table (windowByte w) windowBytes))) 0 k h; version = two-bytes (bytesOf y l w) versionAt }
+  formed =
+      let rest = twoBytes formatVersion ++ (twoBytes y ++ ((l ∷ []) ++ table (windowByte w) windowBytes)) in
+      record {
+        size = length-bytes y l w;
+        marked = λ k h. List·getD-append mark rest 0 k h;
+        version = two-bytes (bytesOf y l w) versionAt;
+      }
 
   -- the meaning of the bytes is what was written
   meaning : length w ≡ places → sheetIn (bytesOf y l w) ≡ record { year = y; level = l; windows = w }

@@ -44,7 +44,11 @@ pub full-bytes :
     (b : List ℕ)
     → (seasonFull b 8 || seasonFull b 20 || seasonFull b 32 || seasonFull b 44) ≡ tooFull (windowsIn b)
 full-bytes b =
-    too-full (windowsIn b) _ _ _ _ (sym (season-set b 0 (omega arith))) (sym (season-set b 1 (omega arith))) (sym (season-set b 2 (omega arith))) (sym (season-set b 3 (omega arith)))
+    too-full (windowsIn b) _ _ _ _
+    (sym (season-set b 0 (omega arith)))
+    (sym (season-set b 1 (omega arith)))
+    (sym (season-set b 2 (omega arith)))
+    (sym (season-set b 3 (omega arith)))
 
 -- a bit is the digit 0 or 1, and says whether it is set
 bit-digit : (b : Bool) → eqb (bit b) 1 ≡ b

@@ -1,5 +1,5 @@
--- Each number is given exactly when its row holds and no number before it in the call's order is given; and nothing else meets the
--- promises of `read` and `write`.
+-- Each number is given exactly when its row holds and no number before it in the call's order is given; and nothing
+-- else meets the promises of `read` and `write`.
 -- Assumes nothing.
 use mathlib.Core.Path.{_≡_, refl, sym, ap, _∙_}
 use mathlib.Core.Bool.{cond}

@@ -30,7 +30,9 @@ pub roomy : (w : List Bool) → (tooFull w ≡ false) ↔ Roomy w
 unfolding tooFull
 roomy w = (
   λ e s h. let p : s - 1 + 1 ≡ s = omega arith in rw p at (full-at w e (s - 1) (omega arith)),
-  λ h. any-fails (λ j. ltb windowsMost (setIn w (j + 1))) seasons (λ k l. le-ltb windowsMost (setIn w (k + 1)) (h (k + 1) (record { from = omega arith; to = omega arith }))),
+  λ h.
+      any-fails (λ j. ltb windowsMost (setIn w (j + 1))) seasons
+      (λ k l. le-ltb windowsMost (setIn w (k + 1)) (h (k + 1) (record { from = omega arith; to = omega arith }))),
 )
 
 pub too-full :
@@ -52,7 +54,11 @@ pub length-flat : (chosen : List (List Bool)) → length (flatWindows chosen) �
 unfolding flatWindows
 length-flat chosen = length-table _ places
 
-pub flat-at : (chosen : List (List Bool)) (s q : ℕ) → Within 1 seasons s → q < dayQuarters → getD (flatWindows chosen) (placeOf s q) false ≡ getD (getD chosen (s - 1) []) q false
+pub flat-at :
+    (chosen : List (List Bool)) (s q : ℕ)
+    → Within 1 seasons s
+    → q < dayQuarters
+    → getD (flatWindows chosen) (placeOf s q) false ≡ getD (getD chosen (s - 1) []) q false
 unfolding flatWindows
 flat-at chosen s q h l =
     let d : placeOf s q / dayQuarters ≡ s - 1 = omega arith in

@@ -1,5 +1,6 @@
--- Document 01, Numbered answers. Reading a sheet alone: "sheet length, mark, version (12), year (1), level (2), set bits (12)".
--- Writing one: 14 for a buffer shorter than 56 bytes, then 1, 2, 12. "An accepted sheet fills 56 bytes; all further bytes stay."
+-- Document 01, Numbered answers. Reading a sheet alone: "sheet length, mark, version (12), year (1), level
+-- (2), set bits (12)". Writing one: 14 for a buffer shorter than 56 bytes, then 1, 2, 12. "An accepted sheet
+-- fills 56 bytes; all further bytes stay."
 use mathlib.Core.Bool.{false, cond, not}
 use mathlib.Core.List.{List, _++_}
 use Prim.Native.Nat.{ℕ}

@@ -1,5 +1,5 @@
--- Document 01, Window sheet: "56 bytes, numbers here and in files with the high byte first: "HLZ", version 1 (16 bits), year (16
--- bits), level (8 bits), then 12 bytes for each season 1 to 4; quarter 0 is the top bit of the first byte."
+-- Document 01, Window sheet: "56 bytes, numbers here and in files with the high byte first: "HLZ", version 1 (16 bits),
+-- year (16 bits), level (8 bits), then 12 bytes for each season 1 to 4; quarter 0 is the top bit of the first byte."
 use mathlib.Core.Bool.{Bool, false, cond}
 use mathlib.Core.List.{List, [], _∷_, _++_}
 use Prim.Native.Nat.{ℕ, _+_, _-_, _*_, _/_, _%_, _<_}

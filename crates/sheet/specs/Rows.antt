@@ -1,5 +1,5 @@
--- Document 01, Numbered answers: what each number is given for, where no number before it in the call's order is given. In plain
--- orders; the bytes b, or the meaning s and the room of the lent buffer.
+-- Document 01, Numbered answers: what each number is given for, where no number before it in the call's order is given.
+-- In plain orders; the bytes b, or the meaning s and the room of the lent buffer.
 use mathlib.Core.Path.{_≡_}
 use mathlib.Core.List.{List}
 use Prim.Native.Nat.{ℕ, _≤_, _<_}

@@ -1,5 +1,6 @@
--- Document 01, Window sheet: "A sheet's meaning is its year, its level and its windows." The windows of the four seasons stand one
--- after the other, 96 quarters each. "Any bits are legal with at most 40 set in a season; an empty sheet is legal."
+-- Document 01, Window sheet: "A sheet's meaning is its year, its level and its windows." The windows of
+-- the four seasons stand one after the other, 96 quarters each. "Any bits are legal with at most 40 set in
+-- a season; an empty sheet is legal."
 use mathlib.Core.Bool.{Bool, false, _&&_}
 use mathlib.Core.List.{List, []}
 use Prim.Native.Nat.{ℕ, _+_, _-_, _*_, _/_, _%_, _≤_}

@@ -37,7 +37,8 @@ fn unpack(b: &[u8]) -> [bool; sheet::PLACES]
     windows
 }
 
-// Are more than 40 quarters set in the twelve bytes of a season, which begin at place i? Any bytes and any place have an answer.
+// Are more than 40 quarters set in the twelve bytes of a season, which begin at place i? Any
+// bytes and any place have an answer.
 pub fn season_full(b: &[u8], i: usize) -> bool
     ensures { λ r. ⌜ r ≡ seasonFull (now (b .entry)) i ⌝ }
 {

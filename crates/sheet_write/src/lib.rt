@@ -1,5 +1,5 @@
-// Writing document 01's window sheet into a lent buffer. What its 56 bytes are, and that they read back as the same meaning, stands in
-// crate `sheet`.
+// Writing document 01's window sheet into a lent buffer. What its 56 bytes are, and that they read back as the same
+// meaning, stands in crate `sheet`.
 ghost use mathlib.Core.Path.{_≡_};
 ghost use Prim.Native.Nat.{_≤_, _<_};
 ghost use mathlib.Core.List.{_++_};

@@ -1,4 +1,5 @@
--- The quarters that are equal to a limit are added one after the other: what the loop keeps, and that it comes to `keptBy`.
+-- The quarters that are equal to a limit are added one after the other: what the loop
+-- keeps, and that it comes to `keptBy`.
 -- Assumes nothing.
 use mathlib.Core.Path.{_≡_, sym, ap, _∙_}
 use mathlib.Core.Bool.{Bool, false, _&&_, _||_}
@@ -19,7 +20,8 @@ module _ (curve : List ℕ) (limit equals : ℕ) where
   abbrev higher : ℕ → Bool
   higher k = ltb limit (getD curve k 0)
 
-  -- what the loop keeps: the equals before quarter q are counted, the quarters before it decided, the others as they were
+  -- what the loop keeps: the equals before quarter q are counted, the quarters before
+  -- it decided, the others as they were
   pub record Added (q n : ℕ) (out : List Bool) : Type 0 where
     pub some : q ≤ dayQuarters
     pub few : n ≤ q

@@ -1,5 +1,5 @@
--- Where a season is cut: the line as a value; what a limit leaves out and what it keeps; the rank of a quarter that is equal to a limit.
--- So a cut at the line, or at a limit over it, keeps what the definition keeps.
+-- Where a season is cut: the line as a value; what a limit leaves out and what it keeps; the rank of a quarter that is
+-- equal to a limit. So a cut at the line, or at a limit over it, keeps what the definition keeps.
 -- Assumes nothing.
 use mathlib.Core.Path.{_≡_, sym, ap, _∙_}
 use mathlib.Core.Bool.{Bool, true, false, _&&_, and-false, or-false}
@@ -19,7 +19,7 @@ use Rattle.over.proofs.Tables.{table-cong}
 use Rattle.answers.specs.Ruling.{lineParts, peakParts, windowsMost, dayQuarters}
 use Rattle.readings.specs.Legal.{highestOf}
 use Rattle.windows.specs.Chosen.{aboveLine, aboveIn, comesBefore, rank, kept, keptOf}
-use Rattle.windows.specs.Cuts.{lineOf, higherThan, equalsBefore, keptBy}
+use Rattle.windows.specs.Cuts.{lineOf, higherThan, FortyBetween, equalsBefore, keptBy}
 use Rattle.windows.proofs.Ahead.{also-above, ahead-early, ahead-late}
 use Rattle.windows.proofs.Forty.{higher, why, ahead, not-ahead, few-kept}
 
@@ -151,18 +151,19 @@ module _ (curve : List ℕ) where
     equal-kept limit q {equals} l f over few e =
         let a = over-line q (omega arith) in
         let is = rw f at (rank-is q l a) in
-        simp (le-ltb limit (value q) (omega arith), eq-eqb (value q) limit f, a) (same-order (equalsBefore curve limit q) equals (rank peak curve q) windowsMost (λ m. omega arith) (λ m. omega arith))
+        simp (le-ltb limit (value q) (omega arith), eq-eqb (value q) limit f, a)
+        (same-order (equalsBefore curve limit q) equals (rank peak curve q) windowsMost (λ m. omega arith) (λ m. omega arith))
 
-    -- a cut at a limit over the line that no more than forty are higher than, and forty or more than the value before it
+    -- a cut at a limit over the line that no more than forty are higher than, and
+    -- forty or more than the value before it
     pub at-limit :
         (limit : ℕ) {equals : ℕ}
         → lineOf peak < limit
-        → windowsMost ≤ higherThan curve (limit - 1)
-        → higherThan curve limit ≤ windowsMost
+        → FortyBetween curve (limit - 1) limit
         → equals ≡ windowsMost - higherThan curve limit
         → table (keptBy curve limit equals) dayQuarters ≡ keptOf peak curve
     unfolding keptOf keptBy
-    at-limit limit {equals} over many few e = table-cong _ _ dayQuarters (λ q l. go q l (decLt limit (value q)) (ℕ-discrete (value q) limit))
+    at-limit limit {equals} over (many, few) e = table-cong _ _ dayQuarters (λ q l. go q l (decLt limit (value q)) (ℕ-discrete (value q) limit))
       where
         go : (q : ℕ) → q < dayQuarters → Dec (limit < value q) → Dec (value q ≡ limit) → keptBy curve limit equals q ≡ kept peak curve q
         go q l (yes h) f = simp (lt-ltb limit (value q) h, kept-high limit q (omega arith) few l h)

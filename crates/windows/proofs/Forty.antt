@@ -1,5 +1,6 @@
--- What a reader expects of a season's windows: at most forty, exactly the smaller of forty and the number above the line; no kept quarter
--- is lower than one left out; among equals the earlier is kept. And the windows of any curves make a legal sheet.
+-- What a reader expects of a season's windows: at most forty, exactly the smaller of forty and the number
+-- above the line; no kept quarter is lower than one left out; among equals the earlier is kept. And the
+-- windows of any curves make a legal sheet.
 -- Assumes nothing.
 use mathlib.Core.Path.{_≡_, ap, _∙_}
 use mathlib.Core.Bool.{Bool, true, false, _&&_}
@@ -116,7 +117,11 @@ module _ (curve : List ℕ) where
 
 -- the windows of any curves make a legal sheet
 module _ (peak : ℕ) (curves : List (List ℕ)) where
-  pub chosen-at : (s q : ℕ) → Within 1 seasons s → q < dayQuarters → getD (flatWindows (chosenOf peak curves)) (placeOf s q) false ≡ kept peak (getD curves (s - 1) []) q
+  pub chosen-at :
+      (s q : ℕ)
+      → Within 1 seasons s
+      → q < dayQuarters
+      → getD (flatWindows (chosenOf peak curves)) (placeOf s q) false ≡ kept peak (getD curves (s - 1) []) q
   unfolding chosenOf keptOf
   chosen-at s q h l =
       flat-at (chosenOf peak curves) s q h l

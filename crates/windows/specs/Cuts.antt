@@ -1,11 +1,11 @@
 -- How the code works inside: where a season is cut. Nothing of this is promised to a caller.
 use mathlib.Core.Bool.{Bool, _&&_, _||_}
 use mathlib.Core.List.{List}
-use Prim.Native.Nat.{ℕ, _*_, _/_}
+use Prim.Native.Nat.{ℕ, _*_, _/_, _≤_}
 use lib.Dec.{ltb, eqb}
 use lib.ListN.{getD}
 use Rattle.over.specs.Over.{countOver}
-use Rattle.answers.specs.Ruling.{lineParts, peakParts, dayQuarters}
+use Rattle.answers.specs.Ruling.{lineParts, peakParts, dayQuarters, windowsMost}
 
 -- the line as a value
 abbrev pub lineOf : ℕ → ℕ
@@ -14,6 +14,10 @@ lineOf peak = lineParts * peak / peakParts
 -- how many quarters of a curve are higher than a limit
 unfoldable pub higherThan : List ℕ → ℕ → ℕ
 higherThan curve limit = countOver (λ q. ltb limit (getD curve q 0)) dayQuarters
+
+-- forty quarters or more are higher than the one limit, and no more than forty than the other
+abbrev pub FortyBetween : List ℕ → ℕ → ℕ → Type 0
+FortyBetween curve low high = (windowsMost ≤ higherThan curve low) × (higherThan curve high ≤ windowsMost)
 
 -- how many quarters before quarter q are equal to a limit
 unfoldable pub equalsBefore : List ℕ → ℕ → ℕ → ℕ

@@ -1,14 +1,15 @@
 // The high-load windows of four curves: the quarters above the line, at most forty in a season.
-// Main theorem: a season keeps exactly the smaller of forty and the number above the line, and no kept quarter is lower than one left out.
+// Main theorem: a season keeps exactly the smaller of forty and the number above the line, and no kept
+// quarter is lower than one left out.
 ghost use mathlib.Core.Path.{_≡_};
 ghost use Prim.Native.Nat.{ℕ, _+_, _-_, _<_, _≤_};
 ghost use lib.Dec.{ltb};
 ghost use lib.ListN.{getD};
 ghost use Rattle.over.specs.Over.{bit, table};
-ghost use Rattle.answers.specs.Ruling.{dayQuarters, windowsMost};
+ghost use Rattle.answers.specs.Ruling.{dayQuarters};
 ghost use Rattle.sheet.specs.Windows.{seasons};
 ghost use Rattle.windows.specs.Chosen.{keptOf, chosenOf, curveOf, curvesOf};
-ghost use Rattle.windows.specs.Cuts.{lineOf, higherThan, keptBy};
+ghost use Rattle.windows.specs.Cuts.{lineOf, higherThan, FortyBetween, keptBy};
 
 // The line lies at 19 twentieths of the peak.
 const LINE_PARTS: u64 = 19;
@@ -76,11 +77,11 @@ fn count_above(curve: &[u32; 96], limit: u32) -> usize
     n as usize
 }
 
-// Two limits that are nearer, forty quarters or more above the low one and no more than forty above the high one: the value in the middle
-// is one of them. Where just forty are above it, the search is over.
+// Two limits that are nearer, forty quarters or more above the low one and no more than forty above the high one: the
+// value in the middle is one of them. Where just forty are above it, the search is over.
 fn nearer(curve: &[u32; 96], low: u32, high: u32) -> Limits
-    requires { ⌜ (low + 1 < high) × (windowsMost ≤ higherThan (now curve) low) × (higherThan (now curve) high ≤ windowsMost) ⌝ }
-    ensures { λ r. ⌜ (low ≤ r .low) × (r .low < r .high) × (r .high - r .low < high - low) × (windowsMost ≤ higherThan (now (curve .entry)) (r .low)) × (higherThan (now (curve .entry)) (r .high) ≤ windowsMost) ⌝ }
+    requires { ⌜ (low + 1 < high) × FortyBetween (now curve) low high ⌝ }
+    ensures { λ r. ⌜ (low ≤ r .low) × (r .low < r .high) × (r .high - r .low < high - low) × FortyBetween (now (curve .entry)) (r .low) (r .high) ⌝ }
 {
     let middle = low + (high - low) / 2;
     let n = count_above(curve, middle);
@@ -96,10 +97,11 @@ fn nearer(curve: &[u32; 96], low: u32, high: u32) -> Limits
     }
 }
 
-// A limit that no more than forty quarters are above, and forty or more above the value before it: the way between two limits is halved.
+// A limit that no more than forty quarters are above, and forty or more above the value before it:
+// the way between two limits is halved.
 fn limit_between(curve: &[u32; 96], from: u32, to: u32) -> u32
-    requires { ⌜ (from < to) × (windowsMost ≤ higherThan (now curve) from) × (higherThan (now curve) to ≤ windowsMost) ⌝ }
-    ensures { λ r. ⌜ (from < r) × (windowsMost ≤ higherThan (now (curve .entry)) (r - 1)) × (higherThan (now (curve .entry)) r ≤ windowsMost) ⌝ }
+    requires { ⌜ (from < to) × FortyBetween (now curve) from to ⌝ }
+    ensures { λ r. ⌜ (from < r) × FortyBetween (now (curve .entry)) (r - 1) r ⌝ }
 {
     let mut low = from;
     let mut high = to;

@@ -18,7 +18,7 @@ year-at e = sym (e .before .year-out .ensures) ∙ e .if1 .left
 list-at : (e : tie.Else2) → let a = e .before .before .before .before .before .args in badHolidays (a .year) (a .holidays .now) ≡ false
 list-at e = sym (e .before .bad-holidays .ensures) ∙ e .if2 .left
 
-day-at : (e : tie.Else3) → let a = e .before .before .before .before .before .before .before .args in dayOut (a .year) (a .day) ≡ false
+day-at : (e : tie.Else3) → let l = e .before .before in let a = l .before .before .before .before .before .args in dayOut (a .year) (a .day) ≡ false
 day-at e = sym (e .before .day-out .ensures) ∙ e .if3 .left
 
 returns-2 : tie.Need-returns-2

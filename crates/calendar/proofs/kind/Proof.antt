@@ -9,7 +9,7 @@ use Rattle.calendar.proofs.Rules.{kind-weekend, kind-listed, kind-chris
 use Rattle.calendar.proofs.kind.Statement.{statement}
 use Rattle.calendar.proofs.kind.Tie as tie
 
-no-christmas : (e : tie.Else3) → let a = e .before .before .before .before .before .before .args in christmas (a .year) (a .day) ≡ false
+no-christmas : (e : tie.Else3) → let u = e .before .before in let a = u .before .before .before .before .args in christmas (a .year) (a .day) ≡ false
 no-christmas e = sym (e .before .in-christmas .ensures) ∙ e .if3 .left
 
 returns-3 : tie.Need-returns-3

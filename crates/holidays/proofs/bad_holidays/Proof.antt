@@ -1,4 +1,5 @@
--- `holidays::bad_holidays` meets its contract. The loop's invariant: no entry so far breaks its rule, and `last` is the entry before.
+-- `holidays::bad_holidays` meets its contract. The loop's invariant: no entry so far breaks its
+-- rule, and `last` is the entry before.
 -- Assumes nothing.
 use mathlib.Core.Path.{_≡_, refl, sym, _∙_}
 use Prim.Native.Nat.{_≤_, _-_}

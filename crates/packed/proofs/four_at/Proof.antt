@@ -7,7 +7,10 @@ use Rattle.packed.proofs.four_at.Statement.{statement}
 use Rattle.packed.proofs.four_at.Tie as tie
 
 returns : tie.Need-returns
-returns c = let a = c .before .before .before .before .before .before .before .before .before .args in omega (arith, four-bytes (a .b .now) (a .i))
+returns c =
+    let second = c .before .before .before .before in
+    let a = second .before .before .before .before .before .args in
+    omega (arith, four-bytes (a .b .now) (a .i))
 
 pub four-at-spec : {M : Type 1} → statement M
 four-at-spec =

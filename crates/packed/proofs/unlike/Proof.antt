@@ -6,7 +6,11 @@ use Rattle.packed.proofs.unlike.Statement.{statement}
 use Rattle.packed.proofs.unlike.Tie as tie
 
 returns : tie.Need-returns
-returns c = let a = c .before .before .before .before .before .before .before .args in rw (c .before .before .before .before .before .byte-at .ensures, c .before .before .before .byte-at2 .ensures, c .before .byte-at3 .ensures) (unlike-bytes (a .b .now) (a .i) (a .mark .now))
+returns c =
+    let third = c .before in
+    let second = third .before .before in
+    let first = second .before .before in
+    rw (first .byte-at .ensures, second .byte-at2 .ensures, third .byte-at3 .ensures) (unlike-bytes _ _ _)
 
 pub unlike-spec : {M : Type 1} → statement M
 unlike-spec =

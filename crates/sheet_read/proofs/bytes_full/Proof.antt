@@ -6,7 +6,9 @@ use Rattle.sheet_read.proofs.bytes_full.Statement.{statement}
 use Rattle.sheet_read.proofs.bytes_full.Tie as tie
 
 returns : tie.Need-returns
-returns c = rw (c .before .before .before .season-full .ensures, c .before .before .season-full2 .ensures, c .before .season-full3 .ensures, c .season-full4 .ensures) (full-bytes _)
+returns c =
+    let second = c .before .before in
+    rw (second .before .season-full .ensures, second .season-full2 .ensures, c .before .season-full3 .ensures, c .season-full4 .ensures) (full-bytes _)
 
 pub bytes-full-spec : {M : Type 1} → statement M
 bytes-full-spec =

@@ -2,6 +2,8 @@
 -- Assumes nothing.
 use mathlib.Core.Path.{_≡_, refl, sym, ap, _∙_}
 use mathlib.Core.Bool.{false}
+use mathlib.Core.List.{List}
+use Prim.Native.Nat.{ℕ}
 use native.Mathlib.Omega.{arith}
 use borrow.Author.Needs.{needs}
 use lib.ListN.{getD}
@@ -15,7 +17,14 @@ use Rattle.sheet.proofs.Answered.{read-refused, read-taken, marked, read-form, 
 use Rattle.sheet_read.proofs.read.Statement.{statement}
 use Rattle.sheet_read.proofs.read.Tie as tie
 
-formed-at : (e : tie.Else3) → Formed (e .before .before .before .before .before .before .before .args .b .now)
+-- the bytes, where they have the version 1, and where the year is legal, too
+abbrev versioned : tie.Else3 → List ℕ
+versioned e = let sized = e .before .before .before .before .before in sized .before .before .args .b .now
+
+abbrev dated : tie.Else4 → List ℕ
+dated e = versioned (e .before .before .before)
+
+formed-at : (e : tie.Else3) → Formed (versioned e)
 formed-at e =
     record {
       size = omega arith;
@@ -23,10 +32,10 @@ formed-at e =
       version = sym (e .before .two-at .ensures) ∙ e .if3 .left;
     }
 
-year-at : (e : tie.Else4) → yearOut (twoAt (e .before .before .before .before .before .before .before .before .before .before .args .b .now) yearAt) ≡ false
+year-at : (e : tie.Else4) → yearOut (twoAt (dated e) yearAt) ≡ false
 year-at e = rw (e .before .before .two-at2 .ensures) at (sym (e .before .year-out .ensures) ∙ e .if4 .left)
 
-level-at : (e : tie.Else5) → levelOut (getD (e .before .before .before .before .before .before .before .before .before .before .before .before .before .args .b .now) levelAt 0) ≡ false
+level-at : (e : tie.Else5) → levelOut (getD (dated (e .before .before .before)) levelAt 0) ≡ false
 level-at e = sym (e .before .level-out .ensures) ∙ e .if5 .left
 
 returns : tie.Need-returns
@@ -44,28 +53,30 @@ returns-3 c =
 
 returns-4 : tie.Need-returns-4
 returns-4 c =
-    ap shownOf (c .refused4 .ensures)
-    ∙ read-refused _ (read-year _ (formed-at (c .before .before .before .before)) (rw (c .before .before .before .two-at2 .ensures) at (sym (c .before .before .year-out .ensures) ∙ c .before .if4 .taken))) refl
+    let read = c .before .before .before in
+    let out = rw (read .two-at2 .ensures) at (sym (c .before .before .year-out .ensures) ∙ c .before .if4 .taken) in
+    ap shownOf (c .refused4 .ensures) ∙ read-refused _ (read-year _ (formed-at (read .before)) out) refl
 
 returns-5 : tie.Need-returns-5
 returns-5 c =
     let e = c .before .before .before .before in
-    ap shownOf (c .refused5 .ensures)
-    ∙ read-refused _ (read-level _ (formed-at (e .before .before .before)) (year-at e) (sym (c .before .before .level-out .ensures) ∙ c .before .if5 .taken)) refl
+    let out = sym (c .before .before .level-out .ensures) ∙ c .before .if5 .taken in
+    ap shownOf (c .refused5 .ensures) ∙ read-refused _ (read-level _ (formed-at (e .before .before .before)) (year-at e) out) refl
 
 returns-6 : tie.Need-returns-6
 returns-6 c =
     let e = c .before .before .before in
-    ap shownOf (c .refused6 .ensures)
-    ∙ read-refused _ (read-full _ (formed-at (e .before .before .before .before .before .before)) (year-at (e .before .before .before)) (level-at e) (sym (c .before .before .bytes-full .ensures) ∙ c .before .if6 .taken)) refl
+    let y = e .before .before .before in
+    let full = sym (c .before .before .bytes-full .ensures) ∙ c .before .if6 .taken in
+    ap shownOf (c .refused6 .ensures) ∙ read-refused _ (read-full _ (formed-at (y .before .before .before)) (year-at y) (level-at e) full) refl
 
 returns-7 : tie.Need-returns-7
 returns-7 c =
     let e = c .before .before .before in
-    rw (e .before .before .before .before .before .two-at2 .ensures, c .unpack .ensures)
-    (read-taken _
-    (read-accepted _ (formed-at (e .before .before .before .before .before .before)) (year-at (e .before .before .before)) (level-at e)
-    (sym (c .before .before .bytes-full .ensures) ∙ c .before .if6 .left)))
+    let y = e .before .before .before in
+    let roomy = sym (c .before .before .bytes-full .ensures) ∙ c .before .if6 .left in
+    rw (y .before .before .two-at2 .ensures, c .unpack .ensures)
+    (read-taken _ (read-accepted _ (formed-at (y .before .before .before)) (year-at y) (level-at e) roomy))
 
 pub read-spec : {M : Type 1} → statement M
 read-spec =

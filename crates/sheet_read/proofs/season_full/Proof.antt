@@ -19,7 +19,9 @@ abbrev μ-loop : tie.MeasureT-loop
 μ-loop b i n₀ q₀ n q = dayQuarters - q
 
 loop-again : tie.Need-loop-again Inv-loop μ-loop
-loop-again c = (omega arith, omega arith, counted _ _ (c .before .before .before .before .loop .inv .2) (c .one-if .ensures .0 ∙ ap bit (rw (c .before .before .byte-at .ensures) at (c .before .bit-at .ensures))))
+loop-again c =
+    let bit-is = c .one-if .ensures .0 ∙ ap bit (rw (c .before .before .byte-at .ensures) at (c .before .bit-at .ensures)) in
+    (omega arith, omega arith, counted _ _ (c .before .before .before .before .loop .inv .2) bit-is)
 
 returns : tie.Need-returns Inv-loop μ-loop
 unfolding setFrom

@@ -1,4 +1,5 @@
--- `sheet_write::fill` meets its contract. The loop's invariant: the first i bytes are written, and all further ones stay.
+-- `sheet_write::fill` meets its contract. The loop's invariant: the first i bytes are
+-- written, and all further ones stay.
 -- Assumes nothing.
 use mathlib.Core.Path.{_∙_}
 use Prim.Native.Nat.{_-_}
@@ -17,7 +18,9 @@ abbrev μ-loop : tie.MeasureT-loop
 μ-loop year level windows out₀ head i₀ out i = sheetSize - i
 
 loop-holds : tie.Need-loop-holds Inv-loop μ-loop
-loop-holds c = let a = c .before .args in copied-none (bytesOf (a .year) (a .level) (a .windows .now)) _ (omega (arith, length-bytes (a .year) (a .level) (a .windows .now)))
+loop-holds c =
+    let a = c .before .args in
+    copied-none (bytesOf (a .year) (a .level) (a .windows .now)) _ (omega (arith, length-bytes (a .year) (a .level) (a .windows .now)))
 
 loop-again : tie.Need-loop-again Inv-loop μ-loop
 loop-again c =

@@ -31,7 +31,10 @@ packs w k n {v} {b} h e f =
     (omega arith, omega (arith, byte-lt w k (n + 1) (omega arith)), r)
 
 loop-again : tie.Need-loop-again Inv-loop μ-loop
-loop-again c = let a = c .before .before .before .before .args in packs (a .windows .now) (a .k) _ (omega arith) (c .before .before .before .loop .inv .2) (c .one-if .ensures .0)
+loop-again c =
+    let at = c .before .before .before in
+    let a = at .before .args in
+    packs (a .windows .now) (a .k) _ (omega arith) (at .loop .inv .2) (c .one-if .ensures .0)
 
 returns : tie.Need-returns Inv-loop μ-loop
 unfolding windowByte

@@ -6,7 +6,9 @@ use Rattle.sheet_write.proofs.too_full.Statement.{statement}
 use Rattle.sheet_write.proofs.too_full.Tie as tie
 
 returns : tie.Need-returns
-returns c = too-full _ _ _ _ _ (c .before .before .before .set-in .ensures) (c .before .before .set-in2 .ensures) (c .before .set-in3 .ensures) (c .set-in4 .ensures)
+returns c =
+    let second = c .before .before in
+    too-full _ _ _ _ _ (second .before .set-in .ensures) (second .set-in2 .ensures) (c .before .set-in3 .ensures) (c .set-in4 .ensures)
 
 pub too-full-spec : {M : Type 1} → statement M
 too-full-spec =

@@ -5,14 +5,19 @@ use mathlib.Core.Bool.{false}
 use native.Mathlib.Omega.{arith}
 use borrow.Author.Needs.{needs}
 use Rattle.answers.specs.Ruling.{yearOut, levelOut}
+use Rattle.sheet.specs.declared.Sheet.{Sheet}
 use Rattle.sheet.proofs.Answered.{write-refused, write-taken, write-short, write-year, write-level, write-full, write-accepted}
 use Rattle.sheet_write.proofs.write.Statement.{statement}
 use Rattle.sheet_write.proofs.write.Tie as tie
 
-year-at : (e : tie.Else2) → yearOut (e .before .before .before .before .before .args .sheet .year) ≡ false
+-- the sheet, where its year is legal
+abbrev dated : tie.Else2 → Sheet
+dated e = e .before .before .before .before .before .args .sheet
+
+year-at : (e : tie.Else2) → yearOut (dated e .year) ≡ false
 year-at e = sym (e .before .year-out .ensures) ∙ e .if2 .left
 
-level-at : (e : tie.Else3) → levelOut (e .before .before .before .before .before .before .before .args .sheet .level) ≡ false
+level-at : (e : tie.Else3) → levelOut (dated (e .before .before) .level) ≡ false
 level-at e = sym (e .before .level-out .ensures) ∙ e .if3 .left
 
 returns : tie.Need-returns
@@ -25,20 +30,23 @@ returns-2 c =
 
 returns-3 : tie.Need-returns-3
 returns-3 c =
-    let a = c .before .before .before .before .before .before .before .args in
-    write-refused (a .sheet) _ (write-level (a .sheet) _ (omega arith) (year-at (c .before .before)) (sym (c .before .level-out .ensures) ∙ c .if3 .taken)) refl
+    let y = c .before .before in
+    write-refused (dated y) _ (write-level (dated y) _ (omega arith) (year-at y) (sym (c .before .level-out .ensures) ∙ c .if3 .taken)) refl
 
 returns-4 : tie.Need-returns-4
 returns-4 c =
-    let a = c .before .before .before .before .before .before .before .before .before .before .args in
     let e = c .before .before .before in
-    write-refused (a .sheet) _ (write-full (a .sheet) _ (omega arith) (year-at (e .before .before)) (level-at e) (sym (c .before .too-full .ensures) ∙ c .if4 .taken)) refl
+    let y = e .before .before in
+    let full = sym (c .before .too-full .ensures) ∙ c .if4 .taken in
+    write-refused (dated y) _ (write-full (dated y) _ (omega arith) (year-at y) (level-at e) full) refl
 
 returns-5 : tie.Need-returns-5
 returns-5 c =
-    let a = c .before .before .before .before .before .before .before .before .before .before .before .before .before .before .before .args in
-    let e = c .before .before .before .before .before .before .before .before in
-    write-taken (a .sheet) _ _ (write-accepted (a .sheet) _ (omega arith) (year-at (e .before .before)) (level-at e) (sym (c .before .before .before .before .before .before .too-full .ensures) ∙ c .before .before .before .before .before .if4 .left)) (c .before .before .fill .ensures)
+    let r = c .before .before .before .before .before in
+    let e = r .before .before .before in
+    let y = e .before .before in
+    let roomy = sym (r .before .too-full .ensures) ∙ r .if4 .left in
+    write-taken (dated y) _ _ (write-accepted (dated y) _ (omega arith) (year-at y) (level-at e) roomy) (c .before .before .fill .ensures)
 
 pub write-spec : {M : Type 1} → statement M
 write-spec =

@@ -1,4 +1,5 @@
--- `windows::add_equals` meets its contract. The loop's invariant: the first q quarters are decided, and the equals among them counted.
+-- `windows::add_equals` meets its contract. The loop's invariant: the first q quarters are
+-- decided, and the equals among them counted.
 -- Assumes nothing.
 use mathlib.Core.Path.{refl}
 use Prim.Native.Nat.{_-_}

@@ -1,4 +1,5 @@
--- `windows::cut_of` meets its contract: a cut at the line where few are above it, else at a limit between the line and the highest value.
+-- `windows::cut_of` meets its contract: a cut at the line where few are above it, else at a limit
+-- between the line and the highest value.
 -- Assumes nothing.
 use mathlib.Core.Path.{ap}
 use native.Mathlib.Omega.{arith}
@@ -18,13 +19,12 @@ limit-between-requires c κs =
     let s = c .before .before .before .before in
     let curve = s .before .args .curve .now in
     let under = under-highest curve {limit = s .line-of .result} (omega arith) in
-    (omega arith, omega arith, omega (arith, none-over curve, ap (higherThan curve) (c .highest .ensures)))
+    (omega arith, (omega arith, omega (arith, none-over curve, ap (higherThan curve) (c .highest .ensures))))
 
 returns-2 : tie.Need-returns-2
 returns-2 c =
-    let s = c .before .before .before .before .before .before .before in
     let cut = c .before .limit-between in
-    at-limit (s .args .curve .now) (s .args .peak) (cut .result) (omega arith) (cut .ensures .1) (cut .ensures .2) (omega arith)
+    at-limit _ _ (cut .result) (omega arith) (cut .ensures .1) (omega arith)
 
 pub cut-of-spec : {M : Type 1} → statement M
 cut-of-spec =

@@ -1,16 +1,16 @@
--- `windows::limit_between` meets its contract. The loop's invariant: forty or more are higher than `low`, no more than forty than `high`.
+-- `windows::limit_between` meets its contract. The loop's invariant: forty or more are higher than
+-- `low`, no more than forty than `high`.
 -- Assumes nothing.
 use mathlib.Core.Path.{_≡_}
 use Prim.Native.Nat.{_≤_, _<_, _-_}
 use native.Mathlib.Omega.{arith}
 use borrow.Author.Needs.{needs}
-use Rattle.answers.specs.Ruling.{windowsMost}
-use Rattle.windows.specs.Cuts.{higherThan}
+use Rattle.windows.specs.Cuts.{FortyBetween}
 use Rattle.windows.proofs.limit_between.Statement.{statement}
 use Rattle.windows.proofs.limit_between.Tie as tie
 
 abbrev Inv-loop : tie.InvT-loop
-Inv-loop curve from to low₀ high₀ low high = (from ≤ low) × (low < high) × (windowsMost ≤ higherThan curve low) × (higherThan curve high ≤ windowsMost)
+Inv-loop curve from to low₀ high₀ low high = (from ≤ low) × (low < high) × FortyBetween curve low high
 
 abbrev μ-loop : tie.MeasureT-loop
 μ-loop curve from to low₀ high₀ low high = high - low
@@ -19,7 +19,7 @@ returns : tie.Need-returns Inv-loop μ-loop
 returns c =
     let loop = c .before .loop in
     let next : loop .high - 1 ≡ loop .low = omega arith in
-    (omega arith, rw next (loop .inv .2), loop .inv .3)
+    (omega arith, rw next (loop .inv .2))
 
 pub limit-between-spec : {M : Type 1} → statement M
 limit-between-spec =

@@ -1,4 +1,5 @@
--- `windows::nearer` meets its contract: where just forty are higher than the middle, no fewer are higher than the value before it.
+-- `windows::nearer` meets its contract: where just forty are higher than the middle, no fewer
+-- are higher than the value before it.
 -- Assumes nothing.
 use Prim.Native.Nat.{_+_, _-_, _/_}
 use native.Mathlib.Omega.{arith}
@@ -12,7 +13,7 @@ returns-3 c =
     let a = c .before .before .before .args in
     let middle = a .low + (a .high - a .low) / 2 in
     let more = fewer (a .curve .now) {low = middle - 1} {high = middle} (omega arith) in
-    (omega arith, omega arith, omega arith, omega arith, omega arith)
+    (omega arith, omega arith, omega arith, (omega arith, omega arith))
 
 pub nearer-spec : {M : Type 1} → statement M
 nearer-spec =
