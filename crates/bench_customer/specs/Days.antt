@@ -1,5 +1,5 @@
--- A lent series that is given to a machine day by day, from its opening to its closing: each day as it is handed out, and where one is
--- refused the next ones all the same.
+-- A lent series that is given to a machine day by day, from its opening to its closing: each day as it is handed out,
+-- and where one is refused the next ones all the same.
 use mathlib.Core.List.{List}
 use Prim.Native.Nat.{ℕ}
 use Rattle.answers.specs.Said.{Said}
@@ -13,11 +13,11 @@ use Rattle.customer.specs.Answers.{openCustomer, dayCustomer, closeAnswer}
 
 -- a customer's year after the first n days of a series
 abbrev pub customerAfter : Basis → List ℕ → ℕ → Customer
-customerAfter k xs n = offered dayCustomer (openCustomer k) (daysOf (Year (openCustomer k .terms .year)) xs n)
+customerAfter k xs n = offered dayCustomer (openCustomer k) (daysOf (Year (openCustomer k .terms .rates .year)) xs n)
 
 -- the days are those of the year that the opened state has
 abbrev pub openDays : Basis → ℕ
-openDays k = yearDays (openCustomer k .terms .year)
+openDays k = yearDays (openCustomer k .terms .rates .year)
 
 -- what closing answers after as many days as that year has
 abbrev pub customerDaysAnswer : Basis → List ℕ → Said

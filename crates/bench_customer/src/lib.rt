@@ -1,5 +1,6 @@
-// The module's long calls on a customer's year for a caller in Rust or C, as the benchmark makes them: the decision, whole and by days.
-// Each is the called function and no more; its promise is that function's, through the same definitions.
+// The module's long calls on a customer's year for a caller in Rust or C, as the benchmark makes them: the decision,
+// whole and by days. Each is the called function and no more; its promise is that function's, through the same
+// definitions.
 ghost use mathlib.Core.Path.{_≡_};
 ghost use Rattle.terms.specs.Basis.{basis};
 ghost use Rattle.customer.specs.Answers.{decideAnswer};
@@ -59,7 +60,7 @@ fn all_customer_days(
         r ≡ customerAfter k (now (series .entry)) (openDays k)) ⌝ }
 {
     let mut state = Customer::open(sheet, holidays, prices, option).customer;
-    let year = state.terms.year;
+    let year = state.terms.rates.year;
     for d in 0..dates::year_days(year) {
         let day = readings::day_part(Run::Year(year), series, d as usize + 1);
         state = state.day(day).customer;

@@ -49,7 +49,7 @@ fn ask(series: &[u32]) -> Customer {
 fn offer(series: &[u32], customer: Customer, first: usize, count: u16) -> Offered
     requires { ⌜ first < 65536 ⌝ }
 {
-    let run = Run::Year(customer.terms.year);
+    let run = Run::Year(customer.terms.rates.year);
     let mut state = customer;
     for k in 0..count {
         let stepped = state.day(readings::day_part(run, series, first + k as usize));

@@ -1,6 +1,7 @@
 // A customer's year and the decision over it, whole and day by day.
-// Main theorems: days given one by one, refused ones among them, close as the whole series of the taken days (proofs/Whole); two years
-// that agree in every in-window quarter, with one peak and one energy, are answered the same (proofs/Demand).
+// Main theorems: days given one by one, refused ones among them, close as the whole series of the taken days
+// (proofs/Whole); two years that agree in every in-window quarter, with one peak and one energy, are answered the same
+// (proofs/Demand).
 ghost use mathlib.Core.Path.{_≡_};
 ghost use Rattle.tariff.specs.Answers.{saidOf};
 ghost use Rattle.terms.specs.Basis.{basis};
@@ -14,7 +15,6 @@ use readings::Run;
 use tariff::Decision;
 use tariff::Figures;
 use tariff::Prices;
-use tariff::Rates;
 use terms::Terms;
 use year_figures::YearFigures;
 
@@ -37,7 +37,8 @@ pub struct Stepped {
     pub customer: Customer,
 }
 
-// The decision over a whole series. Refuses 12, 1, 2, 12, 3, 6, 4, 5, 8, 9, 10, 11 in this order; else 0 with the charge.
+// The decision over a whole series. Refuses 12, 1, 2, 12, 3, 6, 4, 5, 8, 9, 10, 11 in this order; else 0 with the
+// charge.
 pub fn decide(
     sheet: &[u8],
     holidays: &[u16],
@@ -53,9 +54,9 @@ pub fn decide(
     let Decision::Taken = answer else {
         return answer;
     };
-    let year = opening.terms.year;
+    let rates = opening.terms.rates;
     let collected = year_figures::year_figures(
-        year,
+        rates.year,
         &opening.terms.carrying,
         &opening.terms.windows,
         series,
@@ -64,20 +65,14 @@ pub fn decide(
         return Decision::WrongLength;
     };
     if CUSTOMER_MOST < figures.peak {
-        let run = Run::Year(year);
+        let run = Run::Year(rates.year);
         return Decision::BadReading(legal::first_illegal(run, series, CUSTOMER_MOST));
     }
-    let list = opening.terms.prices;
-    let rates = Rates {
-        year,
-        level: opening.terms.level,
-        option: opening.terms.option,
-        prices: list,
-    };
     decision::judge(figures, rates)
 }
 
-// What a day is answered where so many days are taken, with this sum: 13, also for a sum that no legal days have, then 4, then 5.
+// What a day is answered where so many days are taken, with this sum: 13, also for a sum that no legal days have, then
+// 4, then 5.
 fn day_answer(year: u16, seen: u16, sum: u64, day: &[u32]) -> Decision
     ensures { λ r. ⌜ saidOf r ≡ dayUnder year seen sum (now (day .entry)) ⌝ }
 {
@@ -113,15 +108,15 @@ fn figures_of(taking: Taking) -> Figures
 }
 
 impl Customer {
-    // Opens a year that comes day by day. Refuses 12, 1, 2, 12, 3, 6 in this order; a refusal hands back one fixed state, on which
-    // every day and every closing is 13.
+    // Opens a year that comes day by day. Refuses 12, 1, 2, 12, 3, 6 in this order; a refusal hands back one fixed
+    // state, on which every day and every closing is 13.
     pub fn open(sheet: &[u8], holidays: &[u16], prices: Prices, option: bool) -> Stepped
         ensures { λ r. ⌜ (let k = basis (now (sheet .entry)) (now (holidays .entry)) prices option in
             Steps (openAnswer k) (openCustomer k) r) ⌝ }
     {
-        let opening = terms::open(sheet, holidays, prices, option);
-        let answer = opening.answer;
-        let terms = opening.terms;
+        let opened = terms::open(sheet, holidays, prices, option);
+        let answer = opened.answer;
+        let terms = opened.terms;
         let Decision::Taken = answer else {
             return Stepped {
                 answer,
@@ -149,8 +144,14 @@ impl Customer {
     {
         let terms = self.terms;
         let seen = self.seen;
-        let row = year_figures::day_row(terms.year, seen, &terms.carrying, &terms.windows);
-        let taking = day_figures::take_day(self.figures, Run::Year(terms.year), seen, row, day);
+        let row = year_figures::day_row(terms.rates.year, seen, &terms.carrying, &terms.windows);
+        let taking = day_figures::take_day(
+            self.figures,
+            Run::Year(terms.rates.year),
+            seen,
+            row,
+            day,
+        );
         Customer {
             terms,
             seen: seen + 1,
@@ -162,7 +163,7 @@ impl Customer {
     pub fn day(self, day: &[u32]) -> Stepped
         ensures { λ r. ⌜ Steps (dayAnswer self (now (day .entry))) (dayCustomer self (now (day .entry))) r ⌝ }
     {
-        let answer = day_answer(self.terms.year, self.seen, self.figures.sum, day);
+        let answer = day_answer(self.terms.rates.year, self.seen, self.figures.sum, day);
         let Decision::Taken = answer else {
             return Stepped {
                 answer,
@@ -177,18 +178,11 @@ impl Customer {
     pub fn close(self) -> Decision
         ensures { λ r. ⌜ saidOf r ≡ closeAnswer self ⌝ }
     {
-        let terms = self.terms;
-        if self.seen != dates::year_days(terms.year) {
+        let rates = self.terms.rates;
+        if self.seen != dates::year_days(rates.year) {
             return Decision::DayOut;
         }
         let figures = self.figures;
-        let prices = terms.prices;
-        let rates = Rates {
-            year: terms.year,
-            level: terms.level,
-            option: terms.option,
-            prices,
-        };
         decision::judge(figures, rates)
     }
 }

@@ -40,7 +40,7 @@ module _ (P : Said → Type 0) (thirteen : P (only 13)) (four : P (only 4)) (fiv
   pub day-cases : (c : Customer) (day : List ℕ) → P (dayAnswer c day)
   unfolding dayAnswer nextAnswer
   day-cases c day =
-      let run = Year (c .terms .year) in
+      let run = Year (c .terms .rates .year) in
       let first = firstAbove customerMost day in
       by-tests (overfull c) (leb (runDays run) (c .seen)) (not (eqb (length day) (dayLen run (c .seen)))) (ltb first (length day))
       (record { day = c .seen + 1; position = first })

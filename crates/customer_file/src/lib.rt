@@ -88,7 +88,7 @@ impl CustomerFile {
             if 0 < size {
                 return size;
             }
-            let year = self.customer.terms.year;
+            let year = self.customer.terms.rates.year;
             let seen = self.customer.seen;
             if seen < dates::year_days(year) {
                 return fields::READING_BYTES * readings::day_span(Run::Year(year), seen).len;
@@ -125,7 +125,10 @@ impl CustomerFile {
     fn take_day(self, b: &[u8]) -> CustomerFile
         ensures { λ r. ⌜ r ≡ dayFed customerReader self (now (b .entry)) ⌝ }
     {
-        let n = readings::day_span(Run::Year(self.customer.terms.year), self.customer.seen).len;
+        let n = readings::day_span(
+            Run::Year(self.customer.terms.rates.year),
+            self.customer.seen,
+        ).len;
         if b.len() < fields::READING_BYTES * n {
             return self.ended(Stage::Refused(4));
         }
@@ -163,7 +166,7 @@ impl CustomerFile {
             if 0 < span.width {
                 return self.take_field(span, b);
             }
-            if self.customer.seen < dates::year_days(self.customer.terms.year) {
+            if self.customer.seen < dates::year_days(self.customer.terms.rates.year) {
                 return self.take_day(b);
             }
             return self.take_end(b);

@@ -47,18 +47,18 @@ use Rattle.tariff.specs.declared.Figures.{Figures}
 use Rattle.tariff.specs.Prices.{pricesOut}
 use Rattle.tariff.specs.Charges.{general, charge}
 use Rattle.tariff.specs.Decision.{noWindow, shareShort, moveShort, reductionShort, eligibleRules, chargeRules, judgeRules, eligibleAnswer, chargeAnswer, judgeAnswer}
-use Rattle.terms.specs.Basis.{Basis, basisYear}
+use Rattle.terms.specs.Basis.{Basis, basisYear, basisRates}
 use Rattle.terms.specs.Opening.{termsOf, openAnswer as customerOpens}
 use Rattle.terms.specs.Rows.{CustomerOpenRow}
 use Rattle.terms.specs.Rows.CustomerOpenRow.{sheet, three, six, zero}
 use Rattle.terms.proofs.Exactly.{open-zero}
 use Rattle.customer.specs.declared.Customer.{Customer}
-use Rattle.customer.specs.Answers.{ratesOf, wholeAnswer, decideAnswer, overfull, dayAnswer as customerDay, closeAnswer as customerCloses}
+use Rattle.customer.specs.Answers.{wholeAnswer, decideAnswer, overfull, dayAnswer as customerDay, closeAnswer as customerCloses}
 use Rattle.customer.specs.Rows.{CustomerDayRow, SeriesRow, DecideRow}
 use Rattle.customer.specs.Rows.CustomerDayRow.{over, next}
 use Rattle.customer.specs.Rows.SeriesRow.{four, five, judged}
 use Rattle.customer.specs.Rows.DecideRow.{refused, series}
-use Rattle.customer.specs.Demand.{basisRun, basisRates, basisFigures}
+use Rattle.customer.specs.Demand.{basisRun, basisFigures}
 use Rattle.customer.proofs.Exactly.{customer-day-exactly, decide-exactly}
 use Rattle.customer.proofs.Whole.{judge-five}
 use Rattle.demands.specs.Module.{ours, Refused}
@@ -236,12 +236,12 @@ decides k xs =
 
 customer-days : (c : Customer) (day : List ℕ) → Carries (customerDay c day) (withPlace (record { day = c .seen + 1; position = firstAbove customerMost day }) (bare []))
 unfolding customerDay
-customer-days c day = either (overfull c) (leaf refl) (next-listed (Year (c .terms .year)) customerMost (c .seen) day)
+customer-days c day = either (overfull c) (leaf refl) (next-listed (Year (c .terms .rates .year)) customerMost (c .seen) day)
 
-customer-closes : (c : Customer) → Carries (customerCloses c) (yearColumn (c .figures) (ratesOf (c .terms)))
+customer-closes : (c : Customer) → Carries (customerCloses c) (yearColumn (c .figures) (c .terms .rates))
 unfolding customerCloses
 customer-closes c =
-    either (not (eqb (c .seen) (yearDays (c .terms .year)))) (leaf refl) (judged-listed (c .figures) (ratesOf (c .terms)))
+    either (not (eqb (c .seen) (yearDays (c .terms .rates .year)))) (leaf refl) (judged-listed (c .figures) (c .terms .rates))
 
 calendar-listed : (y : ℕ) (hs : List ℕ) (d : ℕ) → Carries (dayAnswer y hs d) (bare (bit (carries y hs d) ∷ []))
 unfolding dayAnswer
@@ -325,7 +325,7 @@ customer-today c day e = go (customer-day-exactly c day 5 .0 e) refl
   where
     go : {n : ℕ} → CustomerDayRow c day n → n ≡ 5 → Found (record { day = c .seen + 1; position = firstAbove customerMost day }) (FirstToday customerMost (c .seen) day)
     go (over o) e = absurd (omega arith)
-    go (next l r) e = found-today (Year (c .terms .year)) customerMost (c .seen) day r e
+    go (next l r) e = found-today (Year (c .terms .rates .year)) customerMost (c .seen) day r e
 
 pub carried : Carried ours
 carried =

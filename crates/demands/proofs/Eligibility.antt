@@ -39,13 +39,13 @@ use Rattle.figures.proofs.Sum.{sum-flat}
 use Rattle.figures.proofs.Peak.{first-place, nowhere-in}
 use Rattle.year_figures.specs.Counts.{setOn}
 use Rattle.terms.specs.declared.Terms.{Terms}
-use Rattle.terms.specs.Basis.{Basis, basisYear}
+use Rattle.terms.specs.Basis.{Basis, basisYear, basisRates}
 use Rattle.terms.specs.Opening.{termsOf, openAnswer}
 use Rattle.terms.specs.Rows.{LegalBasis}
 use Rattle.terms.proofs.Exactly.{open-legal}
 use Rattle.customer.specs.Counts.{counts}
 use Rattle.customer.specs.Answers.{decideAnswer}
-use Rattle.customer.specs.Demand.{basisRun, basisDays, basisRates, inWindow, LegalYear, basisFigures}
+use Rattle.customer.specs.Demand.{basisRun, basisDays, inWindow, LegalYear, basisFigures}
 use Rattle.customer.proofs.Demand.{counts-window, whole-one}
 use Rattle.demands.specs.Module.{ours}
 use Rattle.demands.specs.Answers.{Eligibility}

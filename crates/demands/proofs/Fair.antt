@@ -20,11 +20,11 @@ use Rattle.tariff.specs.Rows.JudgeRow.{two, six, eight, nine, ten, eleven, zero
 use Rattle.tariff.proofs.Answered.{number-is}
 use Rattle.tariff.proofs.Exactly.{judge-exactly}
 use Rattle.tariff.proofs.Demand.{pays-is}
-use Rattle.terms.specs.Basis.{Basis, basisYear}
+use Rattle.terms.specs.Basis.{Basis, basisYear, basisRates}
 use Rattle.terms.specs.Opening.{termsOf, openAnswer}
 use Rattle.terms.proofs.Exactly.{open-legal}
 use Rattle.customer.specs.Answers.{judged, decideAnswer}
-use Rattle.customer.specs.Demand.{basisRates, LegalYear, basisFigures}
+use Rattle.customer.specs.Demand.{LegalYear, basisFigures}
 use Rattle.customer.proofs.Whole.{days-whole}
 use Rattle.customer.proofs.Demand.{whole-one, same-answer, pays-no-more, stays-accepted, accepted-fair}
 use Rattle.sheet.specs.Rows.{ReadRow}

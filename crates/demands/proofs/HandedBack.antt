@@ -32,7 +32,7 @@ use Rattle.terms.specs.Basis.{Basis}
 use Rattle.terms.specs.Opening.{termsOf, openAnswer}
 use Rattle.customer.proofs.Answered.{opened-state}
 use Rattle.customer.specs.declared.Customer.{Customer}
-use Rattle.customer.specs.Answers.{ratesOf, shut as customerShut, sumMost, dayAnswer as customerDay, dayCustomer, closeAnswer as customerCloses, openCustomer}
+use Rattle.customer.specs.Answers.{shut as customerShut, sumMost, dayAnswer as customerDay, dayCustomer, closeAnswer as customerCloses, openCustomer}
 use Rattle.customer.specs.Rows.{CustomerCloseRow}
 use Rattle.customer.specs.Rows.CustomerCloseRow.{early, judged}
 use Rattle.customer.specs.Demand.{basisRun, basisDays}
@@ -121,7 +121,7 @@ module _ (k : Basis) (days : List (List ℕ)) where
     customer-holds =
         holds-taken (customerMachine terms) (openCustomer k) (sym (opened-state k (sym opens)) ∙ opens-holding terms) days
 
-    judge-row : {n : ℕ} {f : Figures} → JudgeRow f (ratesOf terms) n → (n ≡ 2 → ⊥) × (n ≡ 6 → ⊥)
+    judge-row : {n : ℕ} {f : Figures} → JudgeRow f (terms .rates) n → (n ≡ 2 → ⊥) × (n ≡ 6 → ⊥)
     judge-row (two a) = absurd (a (legal-opening k opens .legal-level))
     judge-row (six a b) = absurd (b (legal-opening k opens .legal-prices))
     judge-row (eight h a) = ((λ e. omega arith), (λ e. omega arith))
@@ -147,7 +147,7 @@ module _ (k : Basis) (days : List (List ℕ)) where
     where
       go : Dec (openAnswer k .number ≡ 0) → Refused (openAnswer k) ⊎ (length (takenDays customerDay dayCustomer (openCustomer k) days) ≡ basisDays k)
       go (no r) = inl r
-      go (yes z) = inr (thirteen-full (customerMachine terms) (customer-holds z) day e ∙ year-run (terms .year))
+      go (yes z) = inr (thirteen-full (customerMachine terms) (customer-holds z) day e ∙ year-run (terms .rates .year))
 
   customer-never : (customerCloses customer .number ≡ 2 → ⊥) × (customerCloses customer .number ≡ 6 → ⊥)
   customer-never = go (ℕ-discrete (openAnswer k .number) 0)

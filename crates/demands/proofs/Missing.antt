@@ -53,7 +53,7 @@ next-taken run limit n day p b l e (zero c v) z = omega (arith, e, v p l)
 
 customer-taken : (c : Customer) (day : List ℕ) (p : ℕ) → p < length day → getD day p 0 ≡ missing → {k : ℕ} → CustomerDayRow c day k → k ≡ 0 → ⊥
 customer-taken c day p l e (over o) z = omega arith
-customer-taken c day p l e (next s r) z = next-taken (Year (c .terms .year)) customerMost (c .seen) day p (omega arith) l e r z
+customer-taken c day p l e (next s r) z = next-taken (Year (c .terms .rates .year)) customerMost (c .seen) day p (omega arith) l e r z
 
 -- a year: what the opening refuses is another number, and the series is not legal
 abbrev Decided : ℕ → Type 0

@@ -34,9 +34,9 @@ use Rattle.tariff.specs.Rows.ChargeRow.{zero}
 use Rattle.tariff.specs.Rows.JudgeRow.{two, six, eight, nine, ten, eleven, zero}
 use Rattle.tariff.proofs.Answered.{number-is}
 use Rattle.tariff.specs.declared.Figures.{Figures}
-use Rattle.terms.specs.Basis.{Basis}
+use Rattle.terms.specs.Basis.{Basis, basisRates}
 use Rattle.customer.specs.declared.Customer.{Customer}
-use Rattle.customer.specs.Demand.{basisRun, basisRates, LegalYear, basisFigures}
+use Rattle.customer.specs.Demand.{basisRun, LegalYear, basisFigures}
 use Rattle.demands.specs.Module.{Module, gridEnd, gridWhole}
 use Rattle.demands.specs.Refusals.{bare}
 use Rattle.demands.specs.Demands.{Demands}

@@ -14,9 +14,9 @@ use Rattle.answers.specs.Said.{Said}
 use Rattle.tariff.specs.declared.Rates.{Rates}
 use Rattle.tariff.specs.declared.Figures.{Figures}
 use Rattle.tariff.proofs.Answered.{number-is}
-use Rattle.terms.specs.Basis.{Basis}
+use Rattle.terms.specs.Basis.{Basis, basisRates}
 use Rattle.customer.specs.Answers.{decideAnswer}
-use Rattle.customer.specs.Demand.{basisRates, LegalYear, basisFigures}
+use Rattle.customer.specs.Demand.{LegalYear, basisFigures}
 use Rattle.demands.specs.Module.{Module, ours}
 use Rattle.demands.specs.Refusals.{yearColumn}
 use Rattle.demands.specs.Demands.{Demands}

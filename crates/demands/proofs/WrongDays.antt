@@ -28,7 +28,6 @@ use Rattle.figures.specs.Figures.{sumOf, figuresOf}
 use Rattle.terms.specs.Basis.{Basis, basisYear}
 use Rattle.terms.specs.Opening.{openAnswer}
 use Rattle.customer.specs.declared.Customer.{Customer}
-use Rattle.customer.specs.Answers.{ratesOf}
 use Rattle.customer.specs.Demand.{basisRun, LegalYear}
 use Rattle.demands.specs.Module.{Module, customerAfter}
 use Rattle.demands.specs.Refusals.{bare}
@@ -155,5 +154,5 @@ module _ (m : Module) (d : Demands m) (twice : DayTwice m) where
       let c = at (runDays run) in
       let carries = said-is (m .customerClose c) _ _ (d .carried .customer-close c) number in
       let answered = d .fairness .answered k series (m .decide k series) lawful whole in
-      let shown = ap sumSaid carries ∙ column-said (c .figures) (ratesOf (c .terms)) _ answered .0 in
+      let shown = ap sumSaid carries ∙ column-said (c .figures) (c .terms .rates) _ answered .0 in
       omega (arith, shown, ap sumSaid closed, sum-said m d k series lawful, ap (sumOf run series) (year-run (basisYear k)), grows (runDays run) (omega arith), some-sum)

@@ -25,12 +25,12 @@ use Rattle.tariff.proofs.Answered.{number-is}
 use Rattle.tariff.proofs.Exactly.{judge-exactly}
 use Rattle.tariff.proofs.Limits.{prices-legal}
 use Rattle.terms.specs.declared.Terms.{Terms}
-use Rattle.terms.specs.Basis.{Basis, basis}
+use Rattle.terms.specs.Basis.{Basis, basis, basisRates}
 use Rattle.terms.specs.Opening.{termsOf, openAnswer}
 use Rattle.terms.proofs.Answered.{open-done}
 use Rattle.customer.specs.Counts.{counts}
 use Rattle.customer.specs.Answers.{decideAnswer}
-use Rattle.customer.specs.Demand.{basisRun, basisDays, basisRates, LegalYear, basisFigures}
+use Rattle.customer.specs.Demand.{basisRun, basisDays, LegalYear, basisFigures}
 use Rattle.figures.specs.Figures.{anyOn, figuresOf, FirstPlace}
 use Rattle.figures.proofs.Peak.{first-place}
 use Rattle.demands.specs.Cases.{priced}

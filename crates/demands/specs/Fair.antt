@@ -13,8 +13,8 @@ use Rattle.answers.specs.Said.{Said}
 use Rattle.readings.specs.Days.{takenDays, takenReadings}
 use Rattle.tariff.specs.Charges.{general, charge}
 use Rattle.tariff.specs.Answers.{payable}
-use Rattle.terms.specs.Basis.{Basis}
-use Rattle.customer.specs.Demand.{basisDays, basisRates, LegalYear, Alike, Agree, NoneHigher, basisFigures}
+use Rattle.terms.specs.Basis.{Basis, basisRates}
+use Rattle.customer.specs.Demand.{basisDays, LegalYear, Alike, Agree, NoneHigher, basisFigures}
 use Rattle.demands.specs.Module.{Module, customerAfter}
 
 module _ (m : Module) where

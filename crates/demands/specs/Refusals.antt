@@ -25,10 +25,10 @@ use Rattle.grid.specs.Answers.{shut as gridShut}
 use Rattle.tariff.specs.declared.Rates.{Rates}
 use Rattle.tariff.specs.declared.Figures.{Figures}
 use Rattle.tariff.specs.Charges.{general, charge}
-use Rattle.terms.specs.Basis.{Basis}
+use Rattle.terms.specs.Basis.{Basis, basisRates}
 use Rattle.customer.specs.declared.Customer.{Customer}
-use Rattle.customer.specs.Answers.{ratesOf, shut as customerShut, sumMost}
-use Rattle.customer.specs.Demand.{basisRun, basisDays, basisRates, basisFigures}
+use Rattle.customer.specs.Answers.{shut as customerShut, sumMost}
+use Rattle.customer.specs.Demand.{basisRun, basisDays, basisFigures}
 use Rattle.demands.specs.Module.{Module, gridAfter, customerAfter, Refused}
 
 -- "and writes nothing into a lent buffer"; Numbered answers: "like all refusals, leave every state and buffer as before". (A closing has no state beside
@@ -133,4 +133,4 @@ pub record Carried (m : Module) : Type 0 where
       → CarriesPlace (m .decide k xs) (FirstIllegalIn (basisRun k) customerMost xs) (yearColumn (basisFigures k xs) (basisRates k))
   pub customer-open : (k : Basis) → Carries (m .customerOpen k) (bare [])
   pub customer-day : (c : Customer) (day : List ℕ) → CarriesPlace (m .customerDay c day) (FirstToday customerMost (c .seen) day) (bare [])
-  pub customer-close : (c : Customer) → Carries (m .customerClose c) (yearColumn (c .figures) (ratesOf (c .terms)))
+  pub customer-close : (c : Customer) → Carries (m .customerClose c) (yearColumn (c .figures) (c .terms .rates))

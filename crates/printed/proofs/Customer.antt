@@ -114,7 +114,7 @@ module _ (bytes : List ℕ) where
   terms = termsOf (basisIn bytes)
 
   abbrev run : Run
-  run = Year (terms .year)
+  run = Year (terms .rates .year)
 
   abbrev done : Said
   done = decideAnswer (basisIn bytes) xs
@@ -184,8 +184,8 @@ module _ (bytes : List ℕ) where
         s : CustomerFile
         s = inside c
 
-        left : d < yearDays (terms .year)
-        left = omega (arith, year-run (terms .year))
+        left : d < yearDays (terms .rates .year)
+        left = omega (arith, year-run (terms .rates .year))
 
         all : (b : List ℕ) → length b ≡ daySize run d → readingsOf b ≡ readingsOf (take (daySize run d) b)
         all b o = ap readingsOf (sym (take-all (daySize run d) b (omega arith)))
@@ -219,8 +219,8 @@ module _ (bytes : List ℕ) where
         p : List ℕ
         p = part bytes (fileSize run h) 1
 
-        none : yearDays (terms .year) ≤ runDays run
-        none = omega (arith, year-run (terms .year))
+        none : yearDays (terms .rates .year) ≤ runDays run
+        none = omega (arith, year-run (terms .rates .year))
 
   file : FileMachine customerWants customerFed customerText statementLine l run customerMost done bytes inHead inDays
   file =

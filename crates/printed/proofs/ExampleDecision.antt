@@ -121,7 +121,7 @@ outside = rw (carrying 3 (omega arith) ∙ saturday-free) refl
 abbrev figures : Figures
 figures = record { peak = 1000000; sum = 1500000; any = true; high = 500000; day = 2; quarter = 72 }
 
-figures-are : figuresUnder terms customerSeries (yearDays (terms .year)) ≡ figures
+figures-are : figuresUnder terms customerSeries (yearDays (terms .rates .year)) ≡ figures
 figures-are =
     ap (λ (y : ℕ). figuresOf (Year y) (counts terms) customerSeries (yearDays y)) example-year
     ∙ ap (figuresOf customerRun (counts terms) customerSeries) (sym (year-run 2025))
@@ -132,7 +132,7 @@ judged-is : judged terms figures ≡ customerSaid
 unfolding example shareOf levelOut rowOut pricesOut chargeFor general reduced floorOf charge eligibleRules chargeRules judgeRules judgeAnswer
 judged-is = refl
 
-legal : only 0 ≡ seriesAnswer (Year (terms .year)) customerMost customerSeries
+legal : only 0 ≡ seriesAnswer (Year (terms .rates .year)) customerMost customerSeries
 legal = rw example-year customer-legal
 
 pub decided : decideAnswer exampleBasis customerSeries ≡ customerSaid

@@ -1,11 +1,12 @@
--- Demand 3: "one sheet, holiday list, price list and option". What a customer's year is decided on, as one argument: a definition that only
--- hands it on does not look inside.
+-- Demand 3: "one sheet, holiday list, price list and option". What a customer's year is decided on, as one argument: a
+-- definition that only hands it on does not look inside.
 use mathlib.Core.Bool.{Bool}
 use mathlib.Core.List.{List}
 use Prim.Native.Nat.{ℕ}
 use Rattle.sheet.specs.declared.Sheet.{Sheet}
 use Rattle.sheet.specs.Bytes.{sheetIn}
 use Rattle.tariff.specs.declared.Prices.{Prices}
+use Rattle.tariff.specs.declared.Rates.{Rates}
 
 -- the sheet by its bytes, the listed days, the prices, the customer's option
 pub record Basis : Type 0 where
@@ -23,3 +24,7 @@ basisSheet k = sheetIn (k .sheet)
 
 abbrev pub basisYear : Basis → ℕ
 basisYear k = basisSheet k .year
+
+-- what a year's figures are judged by
+abbrev pub basisRates : Basis → Rates
+basisRates k = record { year = basisYear k; level = basisSheet k .level; option = k .option; prices = k .prices }

@@ -1,5 +1,6 @@
--- Document 01, Numbered answers: "For the decision .. sheet length, mark, version (12), year (1), level (2), set bits (12), then 3, 6";
--- "opening does the checks that need no readings". What an opening on the basis k answers, and the terms that it hands over.
+-- Document 01, Numbered answers: "For the decision .. sheet length, mark, version (12), year (1), level (2), set bits
+-- (12), then 3, 6"; "opening does the checks that need no readings". What an opening on the basis k answers, and the
+-- terms that it hands over.
 use mathlib.Core.Path.{_≡_}
 use mathlib.Core.Bool.{false, cond}
 use mathlib.Core.List.{List}
@@ -13,11 +14,12 @@ use Rattle.sheet.specs.Windows.{places}
 use Rattle.sheet.specs.Answers.{readAnswer}
 use Rattle.tariff.specs.declared.Row.{Row}
 use Rattle.tariff.specs.declared.Prices.{Prices}
+use Rattle.tariff.specs.declared.Rates.{Rates}
 use Rattle.tariff.specs.Prices.{pricesOut}
 use Rattle.tariff.specs.Answers.{saidOf}
 use Rattle.terms.specs.declared.Terms.{Terms}
 use Rattle.terms.specs.declared.Opening.{Opening}
-use Rattle.terms.specs.Basis.{Basis, basisSheet, basisYear}
+use Rattle.terms.specs.Basis.{Basis, basisSheet, basisYear, basisRates}
 
 -- the lists beside the sheet, for the year y: 3, then 6
 abbrev pub listsAnswer : ℕ → List ℕ → Prices → Said
@@ -30,14 +32,11 @@ listsAnswer y hs p =
 unfoldable pub openAnswer : Basis → Said
 openAnswer k = orElse (readAnswer (k .sheet)) (listsAnswer (basisYear k) (k .holidays) (k .prices))
 
--- what a year is judged under: the sheet's year, level and windows, the days that carry windows, prices and option
+-- what a year is judged under: its rates, the sheet's windows, and the days that carry windows
 abbrev pub termsOf : Basis → Terms
 termsOf k =
     record {
-      year = basisYear k;
-      level = basisSheet k .level;
-      option = k .option;
-      prices = k .prices;
+      rates = basisRates k;
       windows = basisSheet k .windows;
       carrying = windowDays (basisYear k) (k .holidays);
     }
@@ -46,13 +45,13 @@ termsOf k =
 abbrev pub noRow : Row
 noRow = record { capacity = 0; energy = 0 }
 
+abbrev pub noRates : Rates
+noRates = record { year = 0; level = 0; option = false; prices = record { low = noRow; high = noRow } }
+
 abbrev pub noTerms : Terms
 noTerms =
     record {
-      year = 0;
-      level = 0;
-      option = false;
-      prices = record { low = noRow; high = noRow };
+      rates = noRates;
       windows = replicate places false;
       carrying = replicate mostDays false;
     }

@@ -1,4 +1,5 @@
--- Document 01, Numbered answers: what each number of an opening is given for, where no number before it is given. In plain orders.
+-- Document 01, Numbered answers: what each number of an opening is given for, where no number before it is given. In
+-- plain orders.
 use mathlib.Core.Path.{_≡_}
 use Prim.Native.Nat.{ℕ}
 use Rattle.holidays.specs.Holidays.{LegalHolidays}

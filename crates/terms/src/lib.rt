@@ -1,4 +1,5 @@
-// The terms of a customer's year: what it is judged under, and the opening that makes them of a sheet, a holiday list, prices and option.
+// The terms of a customer's year: what it is judged under, and the opening that makes them of a sheet, a holiday list,
+// prices and option.
 // Main theorem: each number of the opening is given exactly when its row holds (proofs/Exactly).
 ghost use mathlib.Core.Path.{_≡_};
 ghost use Rattle.answers.specs.Said.{orElse};
@@ -9,14 +10,12 @@ ghost use Rattle.terms.specs.Opening.{listsAnswer, noTerms, Opens};
 use sheet::SheetAnswer;
 use tariff::Decision;
 use tariff::Prices;
+use tariff::Rates;
 use tariff::Row;
 
-// What a year is judged under: the sheet's year, level and windows, the days that carry windows (day 1 first), prices and option.
+// What a year is judged under: its rates, the sheet's windows, and the days that carry windows, day 1 first.
 pub struct Terms {
-    pub year: u16,
-    pub level: u8,
-    pub option: bool,
-    pub prices: Prices,
+    pub rates: Rates,
     pub windows: [bool; sheet::PLACES],
     pub carrying: [bool; dates::MOST_DAYS],
 }
@@ -64,17 +63,19 @@ fn no_terms() -> Terms
     ensures { λ r. ⌜ r ≡ noTerms ⌝ }
 {
     Terms {
-        year: 0,
-        level: 0,
-        option: false,
-        prices: Prices {
-            low: Row {
-                capacity: 0,
-                energy: 0,
-            },
-            high: Row {
-                capacity: 0,
-                energy: 0,
+        rates: Rates {
+            year: 0,
+            level: 0,
+            option: false,
+            prices: Prices {
+                low: Row {
+                    capacity: 0,
+                    energy: 0,
+                },
+                high: Row {
+                    capacity: 0,
+                    energy: 0,
+                },
             },
         },
         windows: [false; sheet::PLACES],
@@ -101,10 +102,12 @@ pub fn open(sheet: &[u8], holidays: &[u16], prices: Prices, option: bool) -> Ope
     Opening {
         answer,
         terms: Terms {
-            year: meaning.year,
-            level: meaning.level,
-            option,
-            prices,
+            rates: Rates {
+                year: meaning.year,
+                level: meaning.level,
+                option,
+                prices,
+            },
             windows,
             carrying,
         },

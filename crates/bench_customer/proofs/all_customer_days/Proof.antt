@@ -1,4 +1,5 @@
--- `bench_customer::all_customer_days` meets its contract. The loop's invariant: the state is that after the first d days of the series.
+-- `bench_customer::all_customer_days` meets its contract. The loop's invariant: the state is that after the first d
+-- days of the series.
 -- Assumes nothing.
 use mathlib.Core.Path.{_≡_, sym, ap, _∙_}
 use Prim.Native.Nat.{_≤_, _-_, _+_}
@@ -32,7 +33,7 @@ loop-again c =
     let at = head .loop in
     let opened = head .before .before .before in
     let series = opened .before .before .before .before .args .series .now in
-    let run = Year (opened .«open» .result .customer .terms .year) in (
+    let run = Year (opened .«open» .result .customer .terms .rates .year) in (
       at .inv .0,
       omega arith,
       c .before .day .ensures .state
@@ -47,13 +48,13 @@ returns c =
     let opened = c .before .before .before .before in
     let a = opened .before .before .before .before .args in
     let same = opened .«open» .ensures .state in
-    let days : at .d ≡ yearDays (opened .«open» .result .customer .terms .year) = omega arith in
+    let days : at .d ≡ yearDays (opened .«open» .result .customer .terms .rates .year) = omega arith in
     let after : Customer → Customer =
-    λ s. offered dayCustomer s (daysOf (Year (s .terms .year)) (a .series .now) (at .d)) in
+    λ s. offered dayCustomer s (daysOf (Year (s .terms .rates .year)) (a .series .now) (at .d)) in
     at .inv .2
     ∙ ap after same
     ∙ ap (customerAfter (basis (a .sheet .now) (a .holidays .now) (a .prices) (a .option)) (a .series .now))
-    (days ∙ ap (λ (s : Customer). yearDays (s .terms .year)) same)
+    (days ∙ ap (λ (s : Customer). yearDays (s .terms .rates .year)) same)
 
 pub all-customer-days-spec : {M : Type 1} → statement M
 all-customer-days-spec =

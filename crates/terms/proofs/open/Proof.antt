@@ -49,10 +49,7 @@ returns-2 c =
       said = answer-at e;
       terms =
           (λ i. record {
-            year = meaning i .year;
-            level = meaning i .level;
-            option = k .option;
-            prices = k .prices;
+            rates = record { year = meaning i .year; level = meaning i .level; option = k .option; prices = k .prices };
             windows = meaning i .windows;
             carrying = carrying i;
           })

@@ -19,7 +19,7 @@ use Rattle.customer_file.proofs.CustomerFile.take_day.Tie as tie
 len-few : (e : tie.After-day-span) → e .day-span .result .len ≤ 100
 len-few e =
     let s = e .before .before .args .self in
-    omega (arith, span-len _ _ (e .day-span .ensures), len-most (Year (s .customer .terms .year)) (s .customer .seen))
+    omega (arith, span-len _ _ (e .day-span .ensures), len-most (Year (s .customer .terms .rates .year)) (s .customer .seen))
 
 array-share-prefix-readings : tie.Need-array-share-prefix-readings
 array-share-prefix-readings c =

@@ -18,7 +18,7 @@ len-few : (e : tie.After-day-span) → e .day-span .result .len ≤ 100
 len-few e =
     let asked = e .before .before .before .before in
     let s = asked .before .before .before .before .before .args .self in
-    omega (arith, span-len _ _ (e .day-span .ensures), len-most (Year (s .customer .terms .year)) (s .customer .seen))
+    omega (arith, span-len _ _ (e .day-span .ensures), len-most (Year (s .customer .terms .rates .year)) (s .customer .seen))
 
 returns : tie.Need-returns
 returns c =
