@@ -1,6 +1,5 @@
 // What the window program prints once the machine of the grid file has ended: the windows' lines, or a
 // refusal's. Document 01, Two programs.
-ghost use mathlib.Core.Path.{_≡_};
 ghost use mathlib.Core.List.{[], _∷_};
 ghost use Rattle.answers.specs.Said.{badPlace};
 ghost use Rattle.lines.specs.Text.{Put};

@@ -10,12 +10,12 @@ use native.Mathlib.Decide.{decLt, decLe, ℕ-discrete}
 use native.Mathlib.Omega.{arith}
 use borrow.Author.Tests.{lt-ltb, le-ltb, le-leb, lt-leb, eq-eqb, ne-eqb}
 use lib.Dec.{ltb, leb, lit<}
-use lib.ListN.{length, getD, length-append}
+use lib.ListN.{length, length-append}
 use Rattle.io.specs.Digits.{digits, glyph, Fewest}
 use Rattle.over.proofs.First.{first-at, first-le}
 use Rattle.lines.specs.Text.{textOver}
 use Rattle.lines.specs.Figures.{digitsIn, decimalOf, fieldOf, fieldIn, figuresLine, refusedMark, refusedLine}
-use Rattle.lines.proofs.Text.{text-more, text-short, text-room}
+use Rattle.lines.proofs.Text.{text-more, text-room}
 
 -- digits: how many, and the fewest that hold the number
 length-digits : (k n : ℕ) → length (digits 10 k n) ≡ k

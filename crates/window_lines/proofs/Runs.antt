@@ -33,10 +33,6 @@ head-short year level =
     let figures = year ∷ level ∷ [] in
     omega (arith, head-long year level, figures-long figures, text-short (fieldIn figures) 2 22 (λ k l. field-short k (getD figures k 0)))
 
-pub time-long : (q : ℕ) → length (timeOf q) ≡ 5
-unfolding timeOf
-time-long q = refl
-
 pub line-long : (season from to : ℕ) → length (runLine season from to) ≡ 14
 unfolding runLine timeOf
 line-long season from to = refl
