@@ -1,4 +1,5 @@
--- Eligibility goes by the in-window quarters: 8 where there is none, else H is their highest reading, at its first place.
+-- Eligibility goes by the in-window quarters: 8 where there is none, else H is their highest reading, at its first
+-- place.
 -- Assumes nothing.
 use mathlib.Core.Path.{_≡_, refl, sym, ap, _∙_}
 use mathlib.Core.Bool.{true, false}

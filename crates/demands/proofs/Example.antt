@@ -1,4 +1,5 @@
--- The printed example's sheet: that it is read, its year and its share; and with no holidays which of the first days of 2025 carry windows.
+-- The printed example's sheet: that it is read, its year and its share; and with no holidays which of the first days of
+-- 2025 carry windows.
 -- Assumes nothing.
 use mathlib.Core.Path.{_≡_, refl}
 use mathlib.Core.Bool.{true, false}

@@ -1,4 +1,5 @@
--- States that our calls handed back: those of a refused opening stay the fixed one; those of an accepted one hold the taken readings.
+-- States that our calls handed back: those of a refused opening stay the fixed one; those of an accepted one hold the
+-- taken readings.
 -- Assumes nothing.
 use mathlib.Core.Path.{_≡_, refl, sym, ap, _∙_}
 use mathlib.Core.Logic.{_⊎_, inl, inr}

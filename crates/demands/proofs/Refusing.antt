@@ -1,4 +1,5 @@
--- No call of a module that meets the demands refuses always, and none that changes something does nothing: for each an input that shows it.
+-- No call of a module that meets the demands refuses always, and none that changes something does nothing: for each an
+-- input that shows it.
 -- Assumes nothing.
 use mathlib.Core.Path.{_≡_, refl, sym, ap, _∙_}
 use mathlib.Core.List.{List, []}

@@ -1,4 +1,5 @@
--- Two small series of any run, to show what a wrong module would answer: the same reading everywhere, and one reading at the very start.
+-- Two small series of any run, to show what a wrong module would answer: the same reading everywhere, and one reading
+-- at the very start.
 -- Assumes nothing.
 use mathlib.Core.Path.{_≡_, ap}
 use mathlib.Core.List.{List, _∷_}

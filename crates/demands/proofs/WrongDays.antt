@@ -1,5 +1,5 @@
--- Machines of days that a module which meets the demands does not have: on series that differ in the last reading alone the whole calls answer
--- differently; and a day taken twice shows in S.
+-- Machines of days that a module which meets the demands does not have: on series that differ in the last reading alone
+-- the whole calls answer differently; and a day taken twice shows in S.
 -- Assumes nothing.
 use mathlib.Core.Path.{_≡_, refl, ap, _∙_}
 use mathlib.Core.List.{List, []}

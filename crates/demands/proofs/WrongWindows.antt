@@ -1,5 +1,5 @@
--- Windows of two series of 2025, at every level: what a module that meets the demands answers to them, and that it neither leaves the buffer nor lays one
--- fixed sheet.
+-- Windows of two series of 2025, at every level: what a module that meets the demands answers to them, and that it
+-- neither leaves the buffer nor lays one fixed sheet.
 -- Assumes nothing.
 use mathlib.Core.Path.{_≡_, refl, sym, ap, _∙_}
 use mathlib.Core.Logic.{_↔_}

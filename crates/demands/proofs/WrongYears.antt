@@ -1,5 +1,5 @@
--- Decisions that always refuse, give one fixed charge or a made-up S do not meet document 01's definition: a year that is accepted at every capacity
--- price.
+-- Decisions that always refuse, give one fixed charge or a made-up S do not meet document 01's definition: a year that
+-- is accepted at every capacity price.
 -- Assumes nothing.
 use mathlib.Core.Path.{_≡_, refl, sym, _∙_}
 use mathlib.Core.Bool.{Bool, true, false}

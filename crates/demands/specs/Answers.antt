@@ -1,5 +1,6 @@
--- Demand 2: "Windows, eligibility and charge are those of document 01, to the quarter-hour and the cent." For every input; a row (`DayRow`, ..) is the
--- table's, in plain orders, with the numbers before it excluded, in the specs/Rows of its room.
+-- Demand 2: "Windows, eligibility and charge are those of document 01, to the quarter-hour and the cent." For every
+-- input; a row (`DayRow`, ..) is the table's, in plain orders, with the numbers before it excluded, in the specs/Rows
+-- of its room.
 use mathlib.Core.Path.{_≡_}
 use mathlib.Core.Bool.{true, false}
 use mathlib.Core.Logic.{_↔_, _⊎_}
@@ -36,7 +37,8 @@ use Rattle.customer.specs.Demand.{basisRun, basisDays, inWindow, LegalYear, bas
 use Rattle.demands.specs.Windows.{IsPeak, IsCurve, Kept}
 use Rattle.demands.specs.Module.{Module, gridEnd, gridWhole}
 
--- Numbered answers, "given exactly when": each call gives a number n exactly when its row holds and no number before it in the call's order is given
+-- Numbered answers, "given exactly when": each call gives a number n exactly when its row holds and no number before it
+-- in the call's order is given
 pub record ExactlyWhen (m : Module) : Type 0 where
   -- 0, 1, 3, 13
   pub calendar : (y : ℕ) (hs : List ℕ) (d n : ℕ) → (m .calendar y hs d .number ≡ n) ↔ DayRow y hs d n
@@ -65,8 +67,8 @@ pub record ExactlyWhen (m : Module) : Type 0 where
   pub customer-day : (c : Customer) (day : List ℕ) (n : ℕ) → (m .customerDay c day .number ≡ n) ↔ CustomerDayRow c day n
   pub customer-close : (c : Customer) (n : ℕ) → (m .customerClose c .number ≡ n) ↔ CustomerCloseRow c n
 
--- Numbers: a missing reading is never legal. A whole series that has one is not accepted, for windows neither found to be without a peak (7), for a year not
--- decided on (0 or 8 to 11); a day that has one is refused.
+-- Numbers: a missing reading is never legal. A whole series that has one is not accepted, for windows neither found to
+-- be without a peak (7), for a year not decided on (0 or 8 to 11); a day that has one is refused.
 pub record NeverLegal (m : Module) : Type 0 where
   pub grid :
       (y level : ℕ) (xs buffer : List ℕ) (d p : ℕ)
@@ -85,8 +87,9 @@ pub record NeverLegal (m : Module) : Type 0 where
       → ⊥
   pub customer-day : (c : Customer) (day : List ℕ) (p : ℕ) → p < length day → getD day p 0 ≡ missing → m .customerDay c day .number ≡ 0 → ⊥
 
--- Numbered answers: "one day's ninety-six readings are handed out as a part of the year the caller lent .. for day 0, or a day the run doesn't wholly hold,
--- the part is empty". Day d, from 0, begins behind the 96 readings of each day before it, in every run.
+-- Numbered answers: "one day's ninety-six readings are handed out as a part of the year the caller lent .. for day 0,
+-- or a day the run doesn't wholly hold, the part is empty". Day d, from 0, begins behind the 96 readings of each day
+-- before it, in every run.
 pub record HandedOut (m : Module) : Type 0 where
   pub long : (run : Run) (xs : List ℕ) (d : ℕ) → 96 * (d + 1) ≤ length xs → length (m .part run xs (d + 1)) ≡ 96
   pub each :
@@ -96,8 +99,9 @@ pub record HandedOut (m : Module) : Type 0 where
       → getD (m .part run xs (d + 1)) p 0 ≡ getD xs (96 * d + p) 0
   pub empty : (run : Run) (xs : List ℕ) (day : ℕ) → (day ≡ 0) ⊎ (length xs < 96 * day) → m .part run xs day ≡ []
 
--- "Windows .. are those of document 01, to the quarter-hour": the sheet that a reader of the first 56 bytes has which a series leaves in the buffer. Each
--- quarter of each season is a window exactly when it is kept of the season's curve, in plain orders (specs/Windows).
+-- "Windows .. are those of document 01, to the quarter-hour": the sheet that a reader of the first 56 bytes has which a
+-- series leaves in the buffer. Each quarter of each season is a window exactly when it is kept of the season's curve,
+-- in plain orders (specs/Windows).
 module _ (m : Module) where
   abbrev pub sheetShown : ℕ → ℕ → List ℕ → List ℕ → Sheet
   sheetShown y level xs buffer = m .sheetRead (take sheetSize (m .windowsLaid y level xs buffer))
@@ -119,11 +123,11 @@ module _ (m : Module) where
   abbrev pub ToTheQuarterHour : Type 0
   ToTheQuarterHour = (y level : ℕ) (xs buffer : List ℕ) → m .windows y level xs (length buffer) .number ≡ 0 → SheetLaid y level xs buffer
 
--- "eligibility": a complete legal year on an accepted basis is answered 8 exactly when no quarter is what demand 3 calls in-window; where one is, H is the
--- highest reading of these quarters, and its place the first that has it
+-- "eligibility": a complete legal year on an accepted basis is answered 8 exactly when no quarter is what demand 3
+-- calls in-window; where one is, H is the highest reading of these quarters, and its place the first that has it
 pub record Eligibility (m : Module) : Type 0 where
-  -- what demand 3 calls in-window is what the calendar and the sheet say: position p of day d, from 0, counts exactly when the calendar carries yes for the
-  -- day and the quarter is a window of the day's season
+  -- what demand 3 calls in-window is what the calendar and the sheet say: position p of day d, from 0, counts exactly
+  -- when the calendar carries yes for the day and the quarter is a window of the day's season
   pub in-window :
       (k : Basis) (d p : ℕ)
       → m .customerOpen k ≡ only 0
@@ -148,8 +152,8 @@ pub record Eligibility (m : Module) : Type 0 where
       → inWindow k d p ≡ true
       → FirstPlace (basisRun k) (inWindow k) xs (basisDays k) (basisFigures k xs)
 
--- Numbered answers: "Closing after all days answers as the whole series does." By what the caller sees (`AsWhole`, readings, specs/Days): answer and buffer
--- for the grid, the answer for a customer
+-- Numbered answers: "Closing after all days answers as the whole series does." By what the caller sees (`AsWhole`,
+-- readings, specs/Days): answer and buffer for the grid, the answer for a customer
 pub record DaysAsWhole (m : Module) : Type 0 where
   pub grid :
       (y level : ℕ) (buffer : List ℕ)

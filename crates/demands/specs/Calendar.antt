@@ -1,4 +1,5 @@
--- Demand 2, the calendar in plain orders: which days carry windows. Weekdays are 0 (Monday) to 6; year y, the listed days hs, day d from 1.
+-- Demand 2, the calendar in plain orders: which days carry windows. Weekdays are 0 (Monday) to 6; year y, the listed
+-- days hs, day d from 1.
 use mathlib.Core.Path.{_≡_}
 use mathlib.Core.Bool.{true, false}
 use mathlib.Core.Logic.{_↔_}
@@ -8,15 +9,16 @@ use Rattle.dates.specs.Dates.{yearDays, weekdayOf}
 use Rattle.holidays.specs.Holidays.{listed}
 use Rattle.demands.specs.Module.{Module}
 
--- no rule frees it that speaks of no bridge day: it is Monday to Friday, not listed, after 1 January, and more than seven days before the year's end, so
--- before 24 December
+-- no rule frees it that speaks of no bridge day: it is Monday to Friday, not listed, after 1 January, and more than
+-- seven days before the year's end, so before 24 December
 pub record Working (y : ℕ) (hs : List ℕ) (d : ℕ) : Type 0 where
   pub week : weekdayOf y d ≤ 4
   pub unlisted : listed hs d ≡ false
   pub new-year : 1 < d
   pub christmas : d + 7 < yearDays y
 
--- a bridge day: a Monday whose Tuesday is listed; or a Friday whose Thursday is listed, where the Monday of its week is none
+-- a bridge day: a Monday whose Tuesday is listed; or a Friday whose Thursday is listed, where the Monday of its week is
+-- none
 pub record MondayBridge (y : ℕ) (hs : List ℕ) (d : ℕ) : Type 0 where
   pub monday : weekdayOf y d ≡ 0
   pub tuesday : listed hs (d + 1) ≡ true

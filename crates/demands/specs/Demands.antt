@@ -39,7 +39,8 @@ pub record Demands (m : Module) : Type 0 where
   -- demand 3
   pub fairness : Fairness m
 
--- What the demands leave open is no answer: two modules that meet them answer every input alike, number and figures, forged states included.
+-- What the demands leave open is no answer: two modules that meet them answer every input alike, number and figures,
+-- forged states included.
 pub record AnswersAlike (m n : Module) : Type 0 where
   pub calendar : (y : ℕ) (hs : List ℕ) (d : ℕ) → m .calendar y hs d ≡ n .calendar y hs d
   pub read : (b : List ℕ) → m .read b ≡ n .read b

@@ -1,6 +1,6 @@
--- Demand 3, over demand 2's definitions (document 01, How far a contract goes). What it speaks of stands in customer, specs/Demand: `Basis` (one
--- sheet, holiday list, price list and option), `LegalYear`, `Agree` and `NoneHigher` (the in-window quarters of two years, each with the same quarter of
--- the other).
+-- Demand 3, over demand 2's definitions (document 01, How far a contract goes). What it speaks of stands in customer,
+-- specs/Demand: `Basis` (one sheet, holiday list, price list and option), `LegalYear`, `Agree` and `NoneHigher` (the
+-- in-window quarters of two years, each with the same quarter of the other).
 use mathlib.Core.Path.{_≡_}
 use mathlib.Core.Bool.{cond}
 use mathlib.Core.Logic.{_⊎_}
@@ -18,7 +18,8 @@ use Rattle.customer.specs.Demand.{basisDays, LegalYear, Alike, Agree, NoneHighe
 use Rattle.demands.specs.Module.{Module, customerAfter}
 
 module _ (m : Module) where
-  -- what a year is answered: whole; or by days, once as many were answered 0 as the year has, refused ones among the offered or not
+  -- what a year is answered: whole; or by days, once as many were answered 0 as the year has, refused ones among the
+  -- offered or not
   pub data Given (k : Basis) (xs : List ℕ) : Said → Type 0 where
     whole : Given k xs (m .decide k xs)
     days :
@@ -27,8 +28,8 @@ module _ (m : Module) where
         → length (takenDays (m .customerDay) (m .customerNext) (m .customerOpened k) ds) ≡ basisDays k
         → Given k xs (m .customerClose (customerAfter m k ds))
 
-  -- "Two complete legal years under one sheet, holiday list, price list and option, with equal peak and energy", each with its answer, whole or by
-  -- days
+  -- "Two complete legal years under one sheet, holiday list, price list and option, with equal peak and energy", each
+  -- with its answer, whole or by days
   pub record TwoYears (k : Basis) (xs ys : List ℕ) (a b : Said) : Type 0 where
     pub first : LegalYear k xs
     pub second : LegalYear k ys
@@ -36,7 +37,8 @@ module _ (m : Module) where
     pub first-given : Given k xs a
     pub second-given : Given k ys b
 
--- an accepted answer: it carries c and g first, and five times c are at least g, and g is 500 euro of 100 cent or more above c
+-- an accepted answer: it carries c and g first, and five times c are at least g, and g is 500 euro of 100 cent or more
+-- above c
 pub record FairCharge (a : Said) : Type 0 where
   pub c : ℕ
   pub g : ℕ
@@ -57,7 +59,8 @@ pub record Fairness (m : Module) : Type 0 where
       → NoneHigher k xs ys
       → a .number ≡ 0
       → b .number ≡ 0
-  -- "(a refused customer pays the general charge)": a legal year is answered 0 or 8 to 11, and what is payable is c for 0, g for 8 to 11
+  -- "(a refused customer pays the general charge)": a legal year is answered 0 or 8 to 11, and what is payable is c for
+  -- 0, g for 8 to 11
   pub answered : (k : Basis) (xs : List ℕ) (a : Said) → LegalYear k xs → Given m k xs a → (a .number ≡ 0) ⊎ Within 8 11 (a .number)
   pub pays :
       (k : Basis) (xs : List ℕ) (a : Said)

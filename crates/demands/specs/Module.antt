@@ -1,6 +1,6 @@
--- A module as its callers see it: what each call answers, and what it leaves in a state or in a lent buffer. The demands are said of any such module, so that
--- what is wrong can be said of any, too. `ours` is the one that is proved here: each of our calls promises the definition that stands beside its name
--- (docs/PROMISES.md).
+-- A module as its callers see it: what each call answers, and what it leaves in a state or in a lent buffer. The
+-- demands are said of any such module, so that what is wrong can be said of any, too. `ours` is the one that is proved
+-- here: each of our calls promises the definition that stands beside its name (docs/PROMISES.md).
 use mathlib.Core.Path.{_≡_}
 use mathlib.Core.List.{List}
 use Prim.Native.Nat.{ℕ}

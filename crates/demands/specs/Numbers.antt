@@ -1,5 +1,6 @@
--- Document 01's numbers and dates, written out: the limits and shares that the rows name, and what a weekday, a season and the reference period are. The line, the
--- forty quarters, the hours of use, the floor and the least reduction stand in specs/Windows, Charges and Fair.
+-- Document 01's numbers and dates, written out: the limits and shares that the rows name, and what a weekday, a season
+-- and the reference period are. The line, the forty quarters, the hours of use, the floor and the least reduction stand
+-- in specs/Windows, Charges and Fair.
 use mathlib.Core.Path.{_≡_}
 use mathlib.Core.Logic.{_↔_, _⊎_}
 use Prim.Native.Nat.{ℕ, suc, _+_, _-_, _*_, _%_, _≤_, _<_}
@@ -40,12 +41,14 @@ pub record Dates : Type 0 where
   pub anchor : weekdayOf 2014 1 ≡ 2
   pub next-day : (y d : ℕ) → weekdayOf y (d + 1) ≡ (weekdayOf y d + 1) % 7
   pub new-year : (y : ℕ) → weekdayOf (suc y) 1 ≡ (weekdayOf y (yearDays y) + 1) % 7
-  -- the season of the j-th of month m: 1 in December, January and February, 2 from March, 3 from June, 4 from September on
+  -- the season of the j-th of month m: 1 in December, January and February, 2 from March, 3 from June, 4 from September
+  -- on
   pub winter : (y m j : ℕ) → Within 1 2 m ⊎ (m ≡ 12) → Within 1 (monthDays y m) j → seasonOf y (dayOf y m j) ≡ 1
   pub spring : (y m j : ℕ) → Within 3 5 m → Within 1 (monthDays y m) j → seasonOf y (dayOf y m j) ≡ 2
   pub summer : (y m j : ℕ) → Within 6 8 m → Within 1 (monthDays y m) j → seasonOf y (dayOf y m j) ≡ 3
   pub autumn : (y m j : ℕ) → Within 9 11 m → Within 1 (monthDays y m) j → seasonOf y (dayOf y m j) ≡ 4
-  -- the reference period: 122 days from 1 September of the year before the last on, then the days of the last to 31 August
+  -- the reference period: 122 days from 1 September of the year before the last on, then the days of the last to 31
+  -- August
   pub period-autumn : (y k : ℕ) → k ≤ 122 → (periodDate y k .year ≡ y - 2) × (periodDate y k .day ≡ dayOf (y - 2) 9 k)
   pub period-rest : (y k : ℕ) → 122 < k → (periodDate y k .year ≡ y - 1) × (periodDate y k .day ≡ k - 122)
   pub period-last : (y : ℕ) → periodDate y (periodDays y) .day ≡ dayOf (y - 1) 8 31

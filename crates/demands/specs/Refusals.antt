@@ -1,7 +1,8 @@
--- Demand 1: "No input stops the module or makes it read past a series. Every call tests its own input. A refusal carries its number and the
--- figures listed for it, and writes nothing into a lent buffer." The first two sentences are what the contract of each call says: it has no
--- `requires`, and its promise is an equation for every input (docs/PROMISES.md). What is left is a property of the answers, for every input:
--- what a refusal leaves, what a refused opening hands back, what is never answered, and what each number carries.
+-- Demand 1: "No input stops the module or makes it read past a series. Every call tests its own input. A refusal
+-- carries its number and the figures listed for it, and writes nothing into a lent buffer." The first two sentences are
+-- what the contract of each call says: it has no `requires`, and its promise is an equation for every input
+-- (docs/PROMISES.md). What is left is a property of the answers, for every input: what a refusal leaves, what a refused
+-- opening hands back, what is never answered, and what each number carries.
 use mathlib.Core.Path.{_≡_}
 use mathlib.Core.Bool.{cond, _||_}
 use mathlib.Core.Logic.{_⊎_}
@@ -31,8 +32,8 @@ use Rattle.customer.specs.Answers.{shut as customerShut, sumMost}
 use Rattle.customer.specs.Demand.{basisRun, basisDays, basisFigures}
 use Rattle.demands.specs.Module.{Module, gridAfter, customerAfter, Refused}
 
--- "and writes nothing into a lent buffer"; Numbered answers: "like all refusals, leave every state and buffer as before". (A closing has no state beside
--- its answer: it hands back none.)
+-- "and writes nothing into a lent buffer"; Numbered answers: "like all refusals, leave every state and buffer as
+-- before". (A closing has no state beside its answer: it hands back none.)
 pub record LeftAsBefore (m : Module) : Type 0 where
   pub write : (s : Sheet) (buffer : List ℕ) → Refused (m .write s (length buffer)) → m .written s buffer ≡ buffer
   pub windows :
@@ -43,7 +44,8 @@ pub record LeftAsBefore (m : Module) : Type 0 where
   pub grid-close : (g : Grid) (buffer : List ℕ) → Refused (m .gridClose g (length buffer)) → m .gridLaid g buffer ≡ buffer
   pub customer-day : (c : Customer) (day : List ℕ) → Refused (m .customerDay c day) → m .customerNext c day ≡ c
 
--- "A refused opening hands back one fixed state, on which every day and every closing is 13 (14 still first for a short buffer)."
+-- "A refused opening hands back one fixed state, on which every day and every closing is 13 (14 still first for a short
+-- buffer)."
 pub record FixedState (m : Module) : Type 0 where
   -- beside a refused sheet stands one fixed sheet
   pub read : (b : List ℕ) → Refused (m .read b) → m .sheetRead b ≡ blank
@@ -55,9 +57,9 @@ pub record FixedState (m : Module) : Type 0 where
   pub customer-day : (day : List ℕ) → m .customerDay customerShut day ≡ only 13
   pub customer-close : m .customerClose customerShut ≡ only 13
 
--- Some rows can hold only for a state that no call handed back: on what an opening, accepted or not, and days after it handed back, a day is answered 13
--- only where the opening was refused or all days are in, since a sum that no days have (customer, specs/Rows) does not come; and closing never answers 1
--- or 2 for the grid, 2 or 6 for a customer.
+-- Some rows can hold only for a state that no call handed back: on what an opening, accepted or not, and days after it
+-- handed back, a day is answered 13 only where the opening was refused or all days are in, since a sum that no days
+-- have (customer, specs/Rows) does not come; and closing never answers 1 or 2 for the grid, 2 or 6 for a customer.
 pub record HandedBack (m : Module) : Type 0 where
   pub grid-thirteen :
       (y level : ℕ) (days : List (List ℕ)) (day : List ℕ)
@@ -81,7 +83,8 @@ pub record HandedBack (m : Module) : Type 0 where
 abbrev pub bare : List ℕ → ℕ → List ℕ
 bare done n = cond (eqb n 0) done []
 
--- a year with the figures f and the general charge g. 8: "g, M, S"; 9, and 10 and 11 "as 9": "g, M, S, H with its place"
+-- a year with the figures f and the general charge g. 8: "g, M, S"; 9, and 10 and 11 "as 9": "g, M, S, H with its
+-- place"
 abbrev pub withFigures : Figures → ℕ → (ℕ → List ℕ) → ℕ → List ℕ
 withFigures f g others n =
     cond (eqb n 8) (g ∷ f .peak ∷ f .sum ∷ [])
@@ -97,8 +100,8 @@ yearColumn f r n =
 pub record Carries (a : Said) (column : ℕ → List ℕ) : Type 0 where
   pub listed : a .carries ≡ column (a .number)
 
--- 5: "day from 1, quarter from 0, of the first one"; `First d q` says that the first illegal reading is the one at position q of day d, from 0. Every other
--- number carries what a column lists.
+-- 5: "day from 1, quarter from 0, of the first one"; `First d q` says that the first illegal reading is the one at
+-- position q of day d, from 0. Every other number carries what a column lists.
 pub record NamesFirst (a : Said) (First : ℕ → ℕ → Type 0) : Type 0 where
   pub on : ℕ
   pub at : ℕ

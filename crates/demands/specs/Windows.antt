@@ -1,5 +1,5 @@
--- Demand 2, the windows of a season in plain orders: the highest readings of all days of the reference period, weekends too, and which quarters are kept.
--- Year y, the series xs; seasons s from 1, days d, positions p and quarters q from 0.
+-- Demand 2, the windows of a season in plain orders: the highest readings of all days of the reference period, weekends
+-- too, and which quarters are kept. Year y, the series xs; seasons s from 1, days d, positions p and quarters q from 0.
 use mathlib.Core.Path.{_≡_}
 use mathlib.Core.Bool.{Bool, _&&_, _||_}
 use mathlib.Core.List.{List}
@@ -33,7 +33,8 @@ module _ (y : ℕ) (xs : List ℕ) where
     pub bound : (q : ℕ) → q < 96 → NoneAboveIn s q (curve q)
     pub least : (q : ℕ) → q < 96 → (b : ℕ) → NoneAboveIn s q b → curve q ≤ b
 
--- quarter q is kept: 20 times its value exceeds 19 times the peak, and of the quarters of which that is true fewer than 40 are higher, or equal and earlier
+-- quarter q is kept: 20 times its value exceeds 19 times the peak, and of the quarters of which that is true fewer than
+-- 40 are higher, or equal and earlier
 module _ (peak : ℕ) (curve : ℕ → ℕ) where
   abbrev pub ahead : ℕ → ℕ → Bool
   ahead q p = ltb (19 * peak) (20 * curve p) && (ltb (curve q) (curve p) || (eqb (curve p) (curve q) && ltb p q))

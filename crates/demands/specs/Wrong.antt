@@ -1,7 +1,8 @@
--- Document 01, How far a contract goes: "Refusing always, or answering one fixed sheet or charge, is shut out by demand 2, since each number is given
--- exactly when its row says. So is doing nothing. A day-by-day machine that works on the first day and then only moves its day number is shut out by
--- equality with the whole series. A made-up S is shut out by demand 2 too, since S is the sum." What is wrong is said of any module; `ShutOut` says that
--- no module is so that meets the demands.
+-- Document 01, How far a contract goes: "Refusing always, or answering one fixed sheet or charge, is shut out by demand
+-- 2, since each number is given exactly when its row says. So is doing nothing. A day-by-day machine that works on the
+-- first day and then only moves its day number is shut out by equality with the whole series. A made-up S is shut out
+-- by demand 2 too, since S is the sum." What is wrong is said of any module; `ShutOut` says that no module is so that
+-- meets the demands.
 use mathlib.Core.Path.{_≡_}
 use mathlib.Core.Bool.{Bool, cond}
 use mathlib.Core.List.{List}
@@ -47,7 +48,8 @@ pub data RefusesAlways (m : Module) : Type 0 where
   customer-day : ((c : Customer) (day : List ℕ) → Refused (m .customerDay c day)) → RefusesAlways m
   customer-close : ((c : Customer) → Refused (m .customerClose c)) → RefusesAlways m
 
--- "doing nothing": a call that leaves the buffer or the state as it was, and an opening that hands back the same state whatever it opens
+-- "doing nothing": a call that leaves the buffer or the state as it was, and an opening that hands back the same state
+-- whatever it opens
 pub data DoesNothing (m : Module) : Type 0 where
   write : ((s : Sheet) (buffer : List ℕ) → m .written s buffer ≡ buffer) → DoesNothing m
   windows : ((y level : ℕ) (xs buffer : List ℕ) → m .windowsLaid y level xs buffer ≡ buffer) → DoesNothing m
@@ -70,7 +72,8 @@ pub record OneCharge (m : Module) : Type 0 where
   pub charge : ℕ
   pub fixed : (k : Basis) (xs : List ℕ) → m .decide k xs .number ≡ 0 → payable (m .decide k xs) ≡ charge
 
--- "A made-up S": for some legal year the S that the answer carries, behind c, g, M or behind g, M, is not the sum of the year's readings
+-- "A made-up S": for some legal year the S that the answer carries, behind c, g, M or behind g, M, is not the sum of
+-- the year's readings
 abbrev pub sumSaid : Said → ℕ
 sumSaid a = getD (a .carries) (cond (eqb (a .number) 0) 3 2) 0
 
