@@ -53,17 +53,23 @@ module _ (y : ℕ) (hs : List ℕ) where
       back w = simp (lt-leb saturday (weekdayOf y d) (omega (arith, w .week)), w .unlisted, away d .1 (w .new-year, w .christmas))
 
   -- a candidate, in three parts
-  parts : (weekday neighbour d : ℕ) → (candidate y (listed hs) weekday neighbour d ≡ true) ↔ ((weekdayOf y d ≡ weekday) × ((listed hs neighbour ≡ true) × Working y hs d))
+  parts :
+      (weekday neighbour d : ℕ)
+      → (candidate y (listed hs) weekday neighbour d ≡ true) ↔ ((weekdayOf y d ≡ weekday) × ((listed hs neighbour ≡ true) × Working y hs d))
   unfolding candidate
   parts weekday neighbour d = (there, back)
     where
-      there : (eqb (weekdayOf y d) weekday && (listed hs neighbour && not (free y (listed hs) d))) ≡ true → (weekdayOf y d ≡ weekday) × ((listed hs neighbour ≡ true) × Working y hs d)
+      there :
+          (eqb (weekdayOf y d) weekday && (listed hs neighbour && not (free y (listed hs) d))) ≡ true
+          → (weekdayOf y d ≡ weekday) × ((listed hs neighbour ≡ true) × Working y hs d)
       there e =
           let a = both _ _ e in
           let b = both _ _ (a .1) in
           (eqb-true _ _ (a .0), (b .0, working d .0 (not-so _ .0 (b .1))))
 
-      back : (weekdayOf y d ≡ weekday) × ((listed hs neighbour ≡ true) × Working y hs d) → (eqb (weekdayOf y d) weekday && (listed hs neighbour && not (free y (listed hs) d))) ≡ true
+      back :
+          (weekdayOf y d ≡ weekday) × ((listed hs neighbour ≡ true) × Working y hs d)
+          → (eqb (weekdayOf y d) weekday && (listed hs neighbour && not (free y (listed hs) d))) ≡ true
       back h = pair (eq-eqb _ _ (h .0)) (pair (h .1 .0) (not-so _ .1 (working d .1 (h .1 .1))))
 
   monday-is : (d : ℕ) → (mondayCandidate y (listed hs) d ≡ true) ↔ MondayBridge y hs d

@@ -153,7 +153,9 @@ module _ (place : Place) (others : ℕ → List ℕ) where
   before n e = rw e
 
 -- a day that is given alone
-next-listed : (run : Run) (limit n : ℕ) (day : List ℕ) → Carries (nextAnswer run limit n day) (withPlace (record { day = n + 1; position = firstAbove limit day }) (bare []))
+next-listed :
+    (run : Run) (limit n : ℕ) (day : List ℕ)
+    → Carries (nextAnswer run limit n day) (withPlace (record { day = n + 1; position = firstAbove limit day }) (bare []))
 unfolding nextAnswer
 next-listed run limit n day =
     either (leb (runDays run) n) (leaf refl)
@@ -162,7 +164,10 @@ next-listed run limit n day =
     (leaf refl)))
 
 -- a whole series
-series-listed : (run : Run) (limit : ℕ) (xs : List ℕ) (others : ℕ → List ℕ) → others 4 ≡ [] → Refusing (withPlace (firstIllegal run limit xs) others) (seriesAnswer run limit xs)
+series-listed :
+    (run : Run) (limit : ℕ) (xs : List ℕ) (others : ℕ → List ℕ)
+    → others 4 ≡ []
+    → Refusing (withPlace (firstIllegal run limit xs) others) (seriesAnswer run limit xs)
 unfolding seriesAnswer
 series-listed run limit xs others none =
     let column = withPlace (firstIllegal run limit xs) others in
@@ -234,7 +239,9 @@ decides k xs =
     (behind (seriesAnswer (basisRun k) customerMost xs) (series-listed (basisRun k) customerMost xs others refl)
     (judge-listed (basisFigures k xs) (basisRates k) (withPlace place others) _ (before place others) refl))
 
-customer-days : (c : Customer) (day : List ℕ) → Carries (customerDay c day) (withPlace (record { day = c .seen + 1; position = firstAbove customerMost day }) (bare []))
+customer-days :
+    (c : Customer) (day : List ℕ)
+    → Carries (customerDay c day) (withPlace (record { day = c .seen + 1; position = firstAbove customerMost day }) (bare []))
 unfolding customerDay
 customer-days c day = either (overfull c) (leaf refl) (next-listed (Year (c .terms .rates .year)) customerMost (c .seen) day)
 
@@ -255,7 +262,11 @@ record Found (place : Place) (First : ℕ → ℕ → Type 0) : Type 0 where
   is : place ≡ record { day = on + 1; position = at }
   first : First on at
 
-placed : {a : Said} {place : Place} {First : ℕ → ℕ → Type 0} {column : ℕ → List ℕ} → Carries a (withPlace place column) → (a .number ≡ 5 → Found place First) → CarriesPlace a First column
+placed :
+    {a : Said} {place : Place} {First : ℕ → ℕ → Type 0} {column : ℕ → List ℕ}
+    → Carries a (withPlace place column)
+    → (a .number ≡ 5 → Found place First)
+    → CarriesPlace a First column
 placed {place = place} {column = column} c found =
     record {
       listed = λ n. leaf (c .listed ∙ before place column _ (ne-eqb _ _ n));
@@ -280,7 +291,10 @@ found-in run limit xs s =
       first = first-illegal-in run limit xs v;
     }
 
-windows-place : (y level : ℕ) (xs buffer : List ℕ) → windowsAnswer y level xs (length buffer) .number ≡ 5 → Found (firstIllegal (Period y) gridMost xs) (FirstIllegalIn (Period y) gridMost xs)
+windows-place :
+    (y level : ℕ) (xs buffer : List ℕ)
+    → windowsAnswer y level xs (length buffer) .number ≡ 5
+    → Found (firstIllegal (Period y) gridMost xs) (FirstIllegalIn (Period y) gridMost xs)
 windows-place y level xs buffer e = go (windows-exactly y level xs buffer 5 .0 e)
   where
     go : WindowsRow y level xs (length buffer) 5 → Found (firstIllegal (Period y) gridMost xs) (FirstIllegalIn (Period y) gridMost xs)
@@ -300,7 +314,10 @@ open-five (three r h) e = omega arith
 open-five (six r h q) e = omega arith
 open-five (zero l) e = omega arith
 
-decide-place : (k : Basis) (xs : List ℕ) → decideAnswer k xs .number ≡ 5 → Found (firstIllegal (basisRun k) customerMost xs) (FirstIllegalIn (basisRun k) customerMost xs)
+decide-place :
+    (k : Basis) (xs : List ℕ)
+    → decideAnswer k xs .number ≡ 5
+    → Found (firstIllegal (basisRun k) customerMost xs) (FirstIllegalIn (basisRun k) customerMost xs)
 decide-place k xs e = go (decide-exactly k xs 5 .0 e) refl
   where
     from-series : {n : ℕ} → SeriesRow (termsOf k) xs n → n ≡ 5 → Found (firstIllegal (basisRun k) customerMost xs) (FirstIllegalIn (basisRun k) customerMost xs)
@@ -313,17 +330,28 @@ decide-place k xs e = go (decide-exactly k xs 5 .0 e) refl
     go (series o r) e = from-series r e
 
 -- of a day that is given alone
-found-today : (run : Run) (limit n : ℕ) (day : List ℕ) {k : ℕ} → NextRow run limit n day k → k ≡ 5 → Found (record { day = n + 1; position = firstAbove limit day }) (FirstToday limit n day)
+found-today :
+    (run : Run) (limit n : ℕ) (day : List ℕ) {k : ℕ}
+    → NextRow run limit n day k
+    → k ≡ 5
+    → Found (record { day = n + 1; position = firstAbove limit day }) (FirstToday limit n day)
 found-today run limit n day (thirteen h) e = absurd (omega arith)
 found-today run limit n day (four h l) e = absurd (omega arith)
 found-today run limit n day (five c v) e =
     record { on = n; at = firstAbove limit day; is = refl; first = record { today = refl; first = first-illegal limit day (some-illegal limit day .1 v) } }
 found-today run limit n day (zero c v) e = absurd (omega arith)
 
-customer-today : (c : Customer) (day : List ℕ) → customerDay c day .number ≡ 5 → Found (record { day = c .seen + 1; position = firstAbove customerMost day }) (FirstToday customerMost (c .seen) day)
+customer-today :
+    (c : Customer) (day : List ℕ)
+    → customerDay c day .number ≡ 5
+    → Found (record { day = c .seen + 1; position = firstAbove customerMost day }) (FirstToday customerMost (c .seen) day)
 customer-today c day e = go (customer-day-exactly c day 5 .0 e) refl
   where
-    go : {n : ℕ} → CustomerDayRow c day n → n ≡ 5 → Found (record { day = c .seen + 1; position = firstAbove customerMost day }) (FirstToday customerMost (c .seen) day)
+    go :
+        {n : ℕ}
+        → CustomerDayRow c day n
+        → n ≡ 5
+        → Found (record { day = c .seen + 1; position = firstAbove customerMost day }) (FirstToday customerMost (c .seen) day)
     go (over o) e = absurd (omega arith)
     go (next l r) e = found-today (Year (c .terms .rates .year)) customerMost (c .seen) day r e
 

@@ -30,4 +30,5 @@ unfolding
     joined largestOver sumOver countOver anyOver table inBase shareOf levelOut leap leapDay daysTo weekdayOf listed christmas free candidate
     bridge highestOf flatWindows windowByte bytesOf aboveLine comesBefore rank kept keptOf chosenOf curveOf curvesOf sheetOf rowOut pricesOut
     chargeFor general reduced floorOf charge eligibleRules chargeRules judgeRules judgeAnswer
-all-hold u = (refl, (refl, (refl, (refl, (refl, (refl, (refl, (refl, (refl, (refl, (refl, (refl, (refl, (refl, (refl, (refl, (first-forty (u .peak) (u .positive), (refl, (refl, (refl, (example-bytes, tt)))))))))))))))))))))
+all-hold u =
+    (refl, (refl, (refl, (refl, (refl, (refl, (refl, (refl, (refl, (refl, (refl, (refl, (refl, (refl, (refl, (refl, (first-forty (u .peak) (u .positive), (refl, (refl, (refl, (example-bytes, tt)))))))))))))))))))))

@@ -95,7 +95,9 @@ module _ (k : Basis) (xs : List ℕ) where
     eight-when = (λ e. in-none (eight-none (told 8 .0 e) refl), λ none. told 8 .1 (eight (legal-basis k xs l) (none-in none)))
 
   -- H's place by the sheet and the calendar, and not by the table of days
-  by-calendar : FirstPlace (basisRun k) (counts terms) xs (basisDays k) (basisFigures k xs) → FirstPlace (basisRun k) (inWindow k) xs (basisDays k) (basisFigures k xs)
+  by-calendar :
+      FirstPlace (basisRun k) (counts terms) xs (basisDays k) (basisFigures k xs)
+      → FirstPlace (basisRun k) (inWindow k) xs (basisDays k) (basisFigures k xs)
   by-calendar f =
       record {
         on = f .on;

@@ -96,7 +96,10 @@ module _ (run : Run) (many : 1 < runDays run) where
     legal-1 : LegalSeries run limit (ends 1)
     legal-1 = ends-legal 1 limit one
 
-    same-state : {S : Type 0} {step : S → List ℕ → S} {start : S} → WrongDays run limit step start → offered step start (daysOf run (ends 0) (runDays run)) ≡ offered step start (daysOf run (ends 1) (runDays run))
+    same-state :
+        {S : Type 0} {step : S → List ℕ → S} {start : S}
+        → WrongDays run limit step start
+        → offered step start (daysOf run (ends 0) (runDays run)) ≡ offered step start (daysOf run (ends 1) (runDays run))
     same-state (first-day f) = f (ends 0) (ends 1) legal-0 legal-1 (part-same 0 1 0 (omega arith))
     same-state {step = step} {start = start} (last-day f) = f (ends 0) legal-0 ∙ ap (offered step start) (days-same 0 1) ∙ sym (f (ends 1) legal-1)
     same-state {step = step} {start = start} (kept f) = offered-stays step start (f start) _ ∙ sym (offered-stays step start (f start) _)

@@ -76,7 +76,10 @@ module _ (y level : ℕ) (days : List (List ℕ)) where
     grid-row xs k room (two c h a b) = absurd (b (legal-grid (open-exactly y level 0 .0 z) refl .1))
     grid-row xs k room (zero c h a b) = ((λ e. omega arith), (λ e. omega arith))
 
-  grid-thirteen : (day : List ℕ) → gridDay grid day .number ≡ 13 → Refused (gridOpens y level) ⊎ (length (takenDays gridDay dayGrid (openGrid y level) days) ≡ periodDays y)
+  grid-thirteen :
+      (day : List ℕ)
+      → gridDay grid day .number ≡ 13
+      → Refused (gridOpens y level) ⊎ (length (takenDays gridDay dayGrid (openGrid y level) days) ≡ periodDays y)
   grid-thirteen day e = go (ℕ-discrete (gridOpens y level .number) 0)
     where
       go : Dec (gridOpens y level .number ≡ 0) → Refused (gridOpens y level) ⊎ (length (takenDays gridDay dayGrid (openGrid y level) days) ≡ periodDays y)
@@ -89,12 +92,20 @@ module _ (y level : ℕ) (days : List (List ℕ)) where
       not-so : {a : Said} {n k : ℕ} → a ≡ only n → (n ≡ k → ⊥) → a .number ≡ k → ⊥
       not-so e d f = d (sym (number-is e) ∙ f)
 
-      shut-not : {n : ℕ} → gridCloses gridShut (length buffer) ≡ only n → 13 ≤ n → Refused (gridOpens y level) → (gridCloses grid (length buffer) .number ≡ 1 → ⊥) × (gridCloses grid (length buffer) .number ≡ 2 → ⊥)
+      shut-not :
+          {n : ℕ}
+          → gridCloses gridShut (length buffer) ≡ only n
+          → 13 ≤ n
+          → Refused (gridOpens y level)
+          → (gridCloses grid (length buffer) .number ≡ 1 → ⊥) × (gridCloses grid (length buffer) .number ≡ 2 → ⊥)
       shut-not e l r =
           let f = ap (λ (g : Grid). gridCloses g (length buffer)) (grid-shut r) ∙ e in
           (not-so f (λ k. omega arith), not-so f (λ k. omega arith))
 
-      go : Dec (gridOpens y level .number ≡ 0) → Dec (length buffer < sheetSize) → (gridCloses grid (length buffer) .number ≡ 1 → ⊥) × (gridCloses grid (length buffer) .number ≡ 2 → ⊥)
+      go :
+          Dec (gridOpens y level .number ≡ 0)
+          → Dec (length buffer < sheetSize)
+          → (gridCloses grid (length buffer) .number ≡ 1 → ⊥) × (gridCloses grid (length buffer) .number ≡ 2 → ⊥)
       go (no r) (yes h) = shut-not (fixed-state .grid-short buffer h) (omega arith) r
       go (no r) (no h) = shut-not (fixed-state .grid-close buffer (omega arith)) (omega arith) r
       go (yes z) h =
@@ -143,7 +154,10 @@ module _ (k : Basis) (days : List (List ℕ)) where
       go (no r) = rw (customer-shut r) (omega arith)
       go (yes z) = let h = customer-holds z in rw (h .is) (legal-sum (basisRun k) _ _ (h .read))
 
-  customer-thirteen : (day : List ℕ) → customerDay customer day .number ≡ 13 → Refused (openAnswer k) ⊎ (length (takenDays customerDay dayCustomer (openCustomer k) days) ≡ basisDays k)
+  customer-thirteen :
+      (day : List ℕ)
+      → customerDay customer day .number ≡ 13
+      → Refused (openAnswer k) ⊎ (length (takenDays customerDay dayCustomer (openCustomer k) days) ≡ basisDays k)
   customer-thirteen day e = go (ℕ-discrete (openAnswer k .number) 0)
     where
       go : Dec (openAnswer k .number ≡ 0) → Refused (openAnswer k) ⊎ (length (takenDays customerDay dayCustomer (openCustomer k) days) ≡ basisDays k)

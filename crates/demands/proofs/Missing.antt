@@ -45,7 +45,15 @@ module _ (y level : ℕ) (xs buffer : List ℕ) (d p : ℕ) (l : d < periodDays 
   not-none (seven c z) = omega (arith, e, z, reading-le (Period y) xs (periodDays y) d p l h)
 
 -- a day
-next-taken : (run : Run) (limit n : ℕ) (day : List ℕ) (p : ℕ) → limit < missing → p < length day → getD day p 0 ≡ missing → {k : ℕ} → NextRow run limit n day k → k ≡ 0 → ⊥
+next-taken :
+    (run : Run) (limit n : ℕ) (day : List ℕ) (p : ℕ)
+    → limit < missing
+    → p < length day
+    → getD day p 0 ≡ missing
+    → {k : ℕ}
+    → NextRow run limit n day k
+    → k ≡ 0
+    → ⊥
 next-taken run limit n day p b l e (thirteen h) z = omega arith
 next-taken run limit n day p b l e (four h m) z = omega arith
 next-taken run limit n day p b l e (five c v) z = omega arith

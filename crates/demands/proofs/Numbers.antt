@@ -64,7 +64,8 @@ module _ (y m j : ℕ) (h : Within 1 12 m) (w : Within 1 (monthDays y m) j) wher
 
   season-at : seasonOf y (dayOf y m j) ≡ seasonOfMonth m
   unfolding seasonOf
-  season-at = sym (ap seasonOfMonth (month-first y (dayOf y m j) m (h .from) (h .to) (λ k l. omega (arith, w .from, grows y (k + 1) (m - 1) (omega arith))) in-month))
+  season-at =
+      sym (ap seasonOfMonth (month-first y (dayOf y m j) m (h .from) (h .to) (λ k l. omega (arith, w .from, grows y (k + 1) (m - 1) (omega arith))) in-month))
 
 -- the seasons of the months
 module _ (y m j : ℕ) where

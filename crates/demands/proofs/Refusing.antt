@@ -135,7 +135,10 @@ module _ (m : Module) (d : Demands m) where
       said-is (m .gridOpen 2025 level) (bare []) 0 (d .carried .grid-open 2025 level)
       (d .exactly-when .grid-open 2025 level 0 .1 (exactly-when .grid-open 2025 level 0 .0 z))
 
-  grid-whole : (level : ℕ) → gridOpens 2025 level .number ≡ 0 → AsWhole period gridMost (m .gridDay) (m .gridNext) (m .gridOpened 2025 level) (gridEnd m blankBuffer) (gridWhole m 2025 level blankBuffer)
+  grid-whole :
+      (level : ℕ)
+      → gridOpens 2025 level .number ≡ 0
+      → AsWhole period gridMost (m .gridDay) (m .gridNext) (m .gridOpened 2025 level) (gridEnd m blankBuffer) (gridWhole m 2025 level blankBuffer)
   grid-whole level z = d .days-as-whole .grid 2025 level blankBuffer (grid-opened level z)
 
   abbrev gridAt : ℕ → Grid
@@ -185,7 +188,11 @@ module _ (m : Module) (d : Demands m) where
   one-customer : (c : Customer) → ((k : Basis) → m .customerOpened k ≡ c) → ⊥
   one-customer c fixed = omega (arith, at 100 (omega arith) (omega arith), at 200 (omega arith) (omega arith))
     where
-      at : (price : ℕ) → 100 ≤ price → price ≤ 100000 → payable (m .customerClose (offered (m .customerNext) c (daysOf (basisRun k) year (runDays (basisRun k))))) ≡ 200 * price
+      at :
+          (price : ℕ)
+          → 100 ≤ price
+          → price ≤ 100000
+          → payable (m .customerClose (offered (m .customerNext) c (daysOf (basisRun k) year (runDays (basisRun k))))) ≡ 200 * price
       at price least most =
           ap (λ (s : Customer). payable (m .customerClose (offered (m .customerNext) s (daysOf (basisRun k) year (runDays (basisRun k)))))) (sym (fixed (pricedBasis price)))
           ∙ ap payable (d .days-as-whole .customer (pricedBasis price) (opened price least most m d) .all-days (xs price least most) (legal price least most .series))

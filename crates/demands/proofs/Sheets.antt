@@ -41,7 +41,8 @@ unfolding windowsIn
 bit-there b n q w l =
     let byte : 8 + placeOf n q / 8 ≡ 8 + 12 * (n - 1) + q / 8 = omega arith in
     let bit : 8 - 1 - placeOf n q % 8 ≡ 7 - q % 8 = omega arith in
-    let shown : windowAt b (placeOf n q) ≡ isSet (windowsIn b) n q = sym (getD-table (windowAt b) places (placeOf n q) _ (omega arith)) ∙ set-at (windowsIn b) n q w l in
+    let shown : windowAt b (placeOf n q) ≡ isSet (windowsIn b) n q =
+    sym (getD-table (windowAt b) places (placeOf n q) _ (omega arith)) ∙ set-at (windowsIn b) n q w l in
     rw (← shown, ← byte, ← bit) ((λ e. eq-eqb _ _ e), eqb-true _ _)
 
 laid-out : (b : List ℕ) {n : ℕ} → ReadRow b n → n ≡ 0 → LaidOut b (sheetIn b)

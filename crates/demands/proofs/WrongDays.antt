@@ -121,7 +121,10 @@ module _ (m : Module) (d : Demands m) (twice : DayTwice m) where
   at n = customerAfter m k (daysOf run series n)
 
   -- the sum of a day that is handed out
-  day-sum : (n : ℕ) → n < runDays run → sumOver (λ p. getD (dayPart run series (n + 1)) p 0) (length (dayPart run series (n + 1))) ≡ sumOver (reading run series n) (dayLen run n)
+  day-sum :
+      (n : ℕ)
+      → n < runDays run
+      → sumOver (λ p. getD (dayPart run series (n + 1)) p 0) (length (dayPart run series (n + 1))) ≡ sumOver (reading run series n) (dayLen run n)
   day-sum n h =
       let inside : dayStart run n + dayLen run n ≤ length series = omega (arith, run-held run n h, lawful .series .long) in
       rw (length-part run series n inside) (sum-cong _ _ (dayLen run n) (λ p l. part-at run series n inside p l))

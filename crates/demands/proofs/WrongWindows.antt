@@ -118,7 +118,10 @@ first-zero : curveAt 2025 first (periodDays 2025) 3 0 ≤ 0
 unfolding curveAt topOf
 first-zero = largest-le _ (periodDays 2025) 0 (λ d l. go d (decLt 0 d))
   where
-    go : (d : ℕ) → Dec (0 < d) → counted (inSeason 2025 d 3) (largestOver (λ p. counted (eqb (quarterOf (Period 2025) d p) 0) (reading (Period 2025) first d p)) (dayLen (Period 2025) d)) ≤ 0
+    go :
+        (d : ℕ)
+        → Dec (0 < d)
+        → counted (inSeason 2025 d 3) (largestOver (λ p. counted (eqb (quarterOf (Period 2025) d p) 0) (reading (Period 2025) first d p)) (dayLen (Period 2025) d)) ≤ 0
     go d (yes l) =
         counted-low (inSeason 2025 d 3)
         (largest-le _ (dayLen (Period 2025) d) 0 (λ p m. counted-low (eqb (quarterOf (Period 2025) d p) 0) (omega (arith, start-later (Period 2025) 1 d p l))))
@@ -166,13 +169,18 @@ module _ (m : Module) (d : Demands m) (level : ℕ) (l : Level level) where
   kept-there : (xs : List ℕ) → (kept (periodPeak 2025 xs) (summerCurve xs) 0 ≡ true) ↔ Kept (periodPeak 2025 xs) (curveAt 2025 xs (periodDays 2025) 3) 0
   kept-there xs = kept-plain (periodPeak 2025 xs) (curveAt 2025 xs (periodDays 2025) 3) (summerCurve xs) (λ q l. sym (value-is xs q l)) 0 (omega arith)
 
-  window : (xs : List ℕ) → SheetLaid m 2025 level xs blankBuffer → (isSet (sheetShown m 2025 level xs blankBuffer .windows) 3 0 ≡ true) ↔ Kept (periodPeak 2025 xs) (curveAt 2025 xs (periodDays 2025) 3) 0
+  window :
+      (xs : List ℕ)
+      → SheetLaid m 2025 level xs blankBuffer
+      → (isSet (sheetShown m 2025 level xs blankBuffer .windows) 3 0 ≡ true) ↔ Kept (periodPeak 2025 xs) (curveAt 2025 xs (periodDays 2025) 3) 0
   window xs l = l .windows-are 3 0 (record { from = omega arith; to = omega arith }) (omega arith) (periodPeak 2025 xs) (curveAt 2025 xs (periodDays 2025) 3) (peak-plain 2025 xs) (curve-plain 2025 xs 3)
 
   -- it is a window of the one series and not of the other
   pub one-sheet : OneSheet m → ⊥
   one-sheet o =
       let shown : List Bool → Bool = λ w. isSet w 3 0 in
-      let set : isSet (o .windows) 3 0 ≡ true = ap shown (sym (o .fixed 2025 level same blankBuffer same-accepted)) ∙ window same same-laid .1 (kept-there same .0 same-kept) in
-      let held : isSet (sheetShown m 2025 level first blankBuffer .windows) 3 0 ≡ true = ap shown (o .fixed 2025 level first blankBuffer first-accepted) ∙ set in
+      let set : isSet (o .windows) 3 0 ≡ true =
+      ap shown (sym (o .fixed 2025 level same blankBuffer same-accepted)) ∙ window same same-laid .1 (kept-there same .0 same-kept) in
+      let held : isSet (sheetShown m 2025 level first blankBuffer .windows) 3 0 ≡ true =
+      ap shown (o .fixed 2025 level first blankBuffer first-accepted) ∙ set in
       clash (kept-there first .1 (window first first-laid .0 held)) first-kept
