@@ -363,7 +363,9 @@ carried =
       write = writes (bare []) (λ n e. refl);
       windows = λ y level xs buffer. placed (windows-listed y level xs (length buffer)) (windows-place y level xs buffer);
       grid-open = grid-opens (bare []) (λ n e. refl);
-      grid-day = λ g day. placed (next-listed (Period (g .year)) gridMost (g .seen) day) (λ e. found-today (Period (g .year)) gridMost (g .seen) day (next-exactly (Period (g .year)) gridMost (g .seen) day 5 .0 e) refl);
+      grid-day =
+          λ g day. placed (next-listed (Period (g .year)) gridMost (g .seen) day)
+          (λ e. found-today (Period (g .year)) gridMost (g .seen) day (next-exactly (Period (g .year)) gridMost (g .seen) day 5 .0 e) refl);
       grid-close = grid-closes (bare []) (λ n e. refl);
       eligible = eligible-listed;
       charge = charged;

@@ -83,9 +83,15 @@ fair k xs a l g z =
 pub fairness : Fairness ours
 fairness =
     record {
-      same-answer = λ k xs ys a b t agree. given-one k (t .second) (t .second-given) ∙ same-answer k (t .alike) agree ∙ sym (given-one k (t .first) (t .first-given));
+      same-answer =
+          λ k xs ys a b t agree. given-one k (t .second) (t .second-given) ∙ same-answer k (t .alike) agree ∙ sym (given-one k (t .first) (t .first-given));
       no-more = λ k xs ys a b t none.
-          omega (arith, ap payable (given-one k (t .first) (t .first-given)), ap payable (given-one k (t .second) (t .second-given)), pays-no-more k (t .alike) none);
+          omega (
+            arith,
+            ap payable (given-one k (t .first) (t .first-given)),
+            ap payable (given-one k (t .second) (t .second-given)),
+            pays-no-more k (t .alike) none,
+          );
       stays-accepted = λ k xs ys a b t none z.
           number-is (given-one k (t .second) (t .second-given))
           ∙ stays-accepted k (t .alike) none (sym (number-is (given-one k (t .first) (t .first-given))) ∙ z);

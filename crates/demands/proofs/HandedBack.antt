@@ -60,7 +60,8 @@ module _ (y level : ℕ) (days : List (List ℕ)) where
       ∙ offered-stays dayGrid gridShut (λ day. left-as-before .grid-day gridShut day (λ z. omega (arith, number-is (fixed-state .grid-day day)))) days
 
   module _ (z : gridOpens y level .number ≡ 0) where
-    grid-holds : Holds (gridMachine y level) (takenReadings gridDay dayGrid (openGrid y level) days) (length (takenDays gridDay dayGrid (openGrid y level) days)) grid
+    grid-holds : Holds (gridMachine y level) (takenReadings gridDay dayGrid (openGrid y level) days)
+        (length (takenDays gridDay dayGrid (openGrid y level) days)) grid
     grid-holds = holds-taken (gridMachine y level) (openGrid y level) (opens-empty y level (bare-zero z (carried .grid-open y level .listed))) days
 
     legal-grid : {n : ℕ} → OpenRow y level n → n ≡ 0 → ChargeYear y × Level level
@@ -123,13 +124,15 @@ module _ (k : Basis) (days : List (List ℕ)) where
   customer-shut : Refused (openAnswer k) → customer ≡ customerShut
   customer-shut r =
       ap (λ (c : Customer). offered dayCustomer c days) (fixed-state .customer-open k r)
-      ∙ offered-stays dayCustomer customerShut (λ day. left-as-before .customer-day customerShut day (λ z. omega (arith, number-is (fixed-state .customer-day day)))) days
+      ∙ offered-stays dayCustomer customerShut
+      (λ day. left-as-before .customer-day customerShut day (λ z. omega (arith, number-is (fixed-state .customer-day day)))) days
 
   module _ (z : openAnswer k .number ≡ 0) where
     opens : openAnswer k ≡ only 0
     opens = bare-zero z (carried .customer-open k .listed)
 
-    customer-holds : Holds (customerMachine terms) (takenReadings customerDay dayCustomer (openCustomer k) days) (length (takenDays customerDay dayCustomer (openCustomer k) days)) customer
+    customer-holds : Holds (customerMachine terms) (takenReadings customerDay dayCustomer (openCustomer k) days)
+        (length (takenDays customerDay dayCustomer (openCustomer k) days)) customer
     customer-holds =
         holds-taken (customerMachine terms) (openCustomer k) (sym (opened-state k (sym opens)) ∙ opens-holding terms) days
 

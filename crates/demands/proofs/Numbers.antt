@@ -71,7 +71,8 @@ module _ (y m j : ℕ) (h : Within 1 12 m) (w : Within 1 (monthDays y m) j) wher
 module _ (y m j : ℕ) where
   winter-at : Within 1 2 m ⊎ (m ≡ 12) → Within 1 (monthDays y m) j → seasonOf y (dayOf y m j) ≡ 1
   winter-at w h =
-      ⊎-elim (λ (a : Within 1 2 m). season-at y m j (record { from = a .from; to = omega (arith, a .to) }) h ∙ simp (lt-leb 3 m (omega (arith, a .to)), lt-leb 6 m (omega (arith, a .to)), lt-leb 9 m (omega (arith, a .to))))
+      ⊎-elim (λ (a : Within 1 2 m). season-at y m j (record { from = a .from; to = omega (arith, a .to) }) h
+      ∙ simp (lt-leb 3 m (omega (arith, a .to)), lt-leb 6 m (omega (arith, a .to)), lt-leb 9 m (omega (arith, a .to))))
       (λ (e : m ≡ 12). season-at y m j (record { from = omega (arith, e); to = omega (arith, e) }) h ∙ ap seasonOfMonth e) w
 
   spring-at : Within 3 5 m → Within 1 (monthDays y m) j → seasonOf y (dayOf y m j) ≡ 2

@@ -167,7 +167,8 @@ module _ (m : Module) (d : Demands m) where
   refusing-always (grid-open r) = r 2025 5 (number-is (grid-opened 5 opened-5))
   refusing-always (grid-day r) = r _ _ (number-is (grid-whole 5 opened-5 .every-day same same-legal 0 some-2025))
   refusing-always (grid-close r) =
-      r (gridAt 5) blankBuffer (ap (λ (c : Said × List ℕ). c .0 .number) (grid-closed 5 opened-5) ∙ same-accepted m d 5 (level-in 5 (omega arith) (omega arith)))
+      r (gridAt 5) blankBuffer
+      (ap (λ (c : Said × List ℕ). c .0 .number) (grid-closed 5 opened-5) ∙ same-accepted m d 5 (level-in 5 (omega arith) (omega arith)))
   refusing-always (eligible r) = r figures (basisRates k) (d .exactly-when .eligible figures (basisRates k) 0 .1 (eligible-row judged refl))
   refusing-always (charge r) = r figures (basisRates k) (d .exactly-when .charge figures (basisRates k) 0 .1 (charge-row judged refl))
   refusing-always (judge r) = r figures (basisRates k) (d .exactly-when .judge figures (basisRates k) 0 .1 judged)
@@ -194,8 +195,10 @@ module _ (m : Module) (d : Demands m) where
           → price ≤ 100000
           → payable (m .customerClose (offered (m .customerNext) c (daysOf (basisRun k) year (runDays (basisRun k))))) ≡ 200 * price
       at price least most =
-          ap (λ (s : Customer). payable (m .customerClose (offered (m .customerNext) s (daysOf (basisRun k) year (runDays (basisRun k)))))) (sym (fixed (pricedBasis price)))
-          ∙ ap payable (d .days-as-whole .customer (pricedBasis price) (opened price least most m d) .all-days (xs price least most) (legal price least most .series))
+          ap (λ (s : Customer). payable (m .customerClose (offered (m .customerNext) s (daysOf (basisRun k) year (runDays (basisRun k))))))
+          (sym (fixed (pricedBasis price)))
+          ∙ ap payable
+          (d .days-as-whole .customer (pricedBasis price) (opened price least most m d) .all-days (xs price least most) (legal price least most .series))
           ∙ pays price least most m d
 
   pub doing-nothing : DoesNothing m → ⊥

@@ -37,7 +37,9 @@ module _ (y : ℕ) (xs : List ℕ) where
   peak-plain =
       record {
         bound = λ d p l h. reading-le (Period y) xs (periodDays y) d p l h;
-        least = λ b none. largest-le (dayPeak (Period y) xs) (periodDays y) b (λ d l. largest-le (reading (Period y) xs d) (dayLen (Period y) d) b (λ p h. none d p l h));
+        least =
+            λ b none. largest-le (dayPeak (Period y) xs) (periodDays y) b
+            (λ d l. largest-le (reading (Period y) xs d) (dayLen (Period y) d) b (λ p h. none d p l h));
       }
 
   abbrev curve : ℕ → ℕ → ℕ

@@ -55,7 +55,12 @@ module _ (m : Module) (d : Demands m) where
     complete (one a) e v = absurd (omega arith)
     complete (two a b) e v = absurd (omega arith)
     complete (zero a b) e v =
-        record { enough = omega (arith, length-replicate {A = ℕ} sheetSize 0); legal-year = a; legal-level = b; long = ends-legal period many v v (omega arith) .long }
+        record {
+          enough = omega (arith, length-replicate {A = ℕ} sheetSize 0);
+          legal-year = a;
+          legal-level = b;
+          long = ends-legal period many v v (omega arith) .long;
+        }
 
     all-there : (v : ℕ) → Complete y level (ends period many v) (length blankBuffer)
     all-there = complete (d .exactly-when .grid-open y level 0 .0 (number-is o)) refl
@@ -144,7 +149,12 @@ module _ (m : Module) (d : Demands m) (twice : DayTwice m) where
   some-sum : 0 < sumOf run series (runDays run)
   unfolding sumOf
   some-sum =
-      omega (arith, start-at run 1000000, sum-above (reading run series 0) (dayLen run 0) 0 (len-some run 0), sum-above (λ e. sumOver (reading run series e) (dayLen run e)) (runDays run) 0 (some-days 100 (omega arith) (omega arith)))
+      omega (
+        arith,
+        start-at run 1000000,
+        sum-above (reading run series 0) (dayLen run 0) 0 (len-some run 0),
+        sum-above (λ e. sumOver (reading run series e) (dayLen run e)) (runDays run) 0 (some-days 100 (omega arith) (omega arith)),
+      )
 
   -- closing carries the state's sum
   closed : m .customerClose (at (runDays run)) ≡ m .decide k series
@@ -158,4 +168,12 @@ module _ (m : Module) (d : Demands m) (twice : DayTwice m) where
       let carries = said-is (m .customerClose c) _ _ (d .carried .customer-close c) number in
       let answered = d .fairness .answered k series (m .decide k series) lawful whole in
       let shown = ap sumSaid carries ∙ column-said (c .figures) (c .terms .rates) _ answered .0 in
-      omega (arith, shown, ap sumSaid closed, sum-said m d k series lawful, ap (sumOf run series) (year-run (basisYear k)), grows (runDays run) (omega arith), some-sum)
+      omega (
+        arith,
+        shown,
+        ap sumSaid closed,
+        sum-said m d k series lawful,
+        ap (sumOf run series) (year-run (basisYear k)),
+        grows (runDays run) (omega arith),
+        some-sum,
+      )

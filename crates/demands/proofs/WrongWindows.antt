@@ -69,7 +69,8 @@ kept-top : (peak : ℕ) (curve : List ℕ) → 0 < peak → getD curve 0 0 ≡ p
 unfolding kept rank aboveLine comesBefore
 kept-top peak curve h e low =
     let none = count-fails (λ p. aboveLine peak (getD curve p 0) && comesBefore curve p 0) dayQuarters (λ p l. no-one p (low p l)) in
-    pair (lt-ltb (lineParts * peak) (peakParts * getD curve 0 0) (omega arith)) (lt-ltb (countOver (λ p. aboveLine peak (getD curve p 0) && comesBefore curve p 0) dayQuarters) windowsMost (omega arith))
+    pair (lt-ltb (lineParts * peak) (peakParts * getD curve 0 0) (omega arith))
+    (lt-ltb (countOver (λ p. aboveLine peak (getD curve p 0) && comesBefore curve p 0) dayQuarters) windowsMost (omega arith))
   where
     last : (p : ℕ) → getD curve p 0 ≤ peak → Dec (getD curve p 0 ≡ getD curve 0 0) → comesBefore curve p 0 ≡ false
     last p l (yes q) = simp (eq-eqb _ _ q, le-ltb p 0 (omega arith))
@@ -121,7 +122,8 @@ first-zero = largest-le _ (periodDays 2025) 0 (λ d l. go d (decLt 0 d))
     go :
         (d : ℕ)
         → Dec (0 < d)
-        → counted (inSeason 2025 d 3) (largestOver (λ p. counted (eqb (quarterOf (Period 2025) d p) 0) (reading (Period 2025) first d p)) (dayLen (Period 2025) d)) ≤ 0
+        → counted (inSeason 2025 d 3)
+        (largestOver (λ p. counted (eqb (quarterOf (Period 2025) d p) 0) (reading (Period 2025) first d p)) (dayLen (Period 2025) d)) ≤ 0
     go d (yes l) =
         counted-low (inSeason 2025 d 3)
         (largest-le _ (dayLen (Period 2025) d) 0 (λ p m. counted-low (eqb (quarterOf (Period 2025) d p) 0) (omega (arith, start-later (Period 2025) 1 d p l))))
@@ -142,7 +144,12 @@ module _ (m : Module) (d : Demands m) (level : ℕ) (l : Level level) where
     accepted : m .windows 2025 level xs (length blankBuffer) .number ≡ 0
     accepted =
         d .exactly-when .windows 2025 level xs blankBuffer 0 .1
-        (zero (record { enough = omega (arith, length-replicate {A = ℕ} sheetSize 0); legal-year = record { from = omega arith; to = omega arith }; legal-level = l; long = long }) low (omega (arith, peak)))
+        (zero (record {
+          enough = omega (arith, length-replicate {A = ℕ} sheetSize 0);
+          legal-year = record { from = omega arith; to = omega arith };
+          legal-level = l;
+          long = long;
+        }) low (omega (arith, peak)))
 
     laid : SheetLaid m 2025 level xs blankBuffer
     laid = d .to-the-quarter-hour 2025 level xs blankBuffer accepted
@@ -173,7 +180,9 @@ module _ (m : Module) (d : Demands m) (level : ℕ) (l : Level level) where
       (xs : List ℕ)
       → SheetLaid m 2025 level xs blankBuffer
       → (isSet (sheetShown m 2025 level xs blankBuffer .windows) 3 0 ≡ true) ↔ Kept (periodPeak 2025 xs) (curveAt 2025 xs (periodDays 2025) 3) 0
-  window xs l = l .windows-are 3 0 (record { from = omega arith; to = omega arith }) (omega arith) (periodPeak 2025 xs) (curveAt 2025 xs (periodDays 2025) 3) (peak-plain 2025 xs) (curve-plain 2025 xs 3)
+  window xs l =
+      l .windows-are 3 0 (record { from = omega arith; to = omega arith }) (omega arith)
+      (periodPeak 2025 xs) (curveAt 2025 xs (periodDays 2025) 3) (peak-plain 2025 xs) (curve-plain 2025 xs 3)
 
   -- it is a window of the one series and not of the other
   pub one-sheet : OneSheet m → ⊥

@@ -125,7 +125,8 @@ module _ (price : ℕ) (least : 100 ≤ price) (most : price ≤ capacityMost) w
 
   pub row : JudgeRow (basisFigures k xs) (basisRates k) 0
   row =
-      zero (legal-basis k xs legal) (record { some = any-there; share = rw (example-share, peak-is, high-is) (omega arith) }) (omega (arith, peak-is, high-is)) (omega (arith, general-is, charge-is))
+      zero (legal-basis k xs legal) (record { some = any-there; share = rw (example-share, peak-is, high-is) (omega arith) })
+      (omega (arith, peak-is, high-is)) (omega (arith, general-is, charge-is))
 
   ours-accepted : decideAnswer k xs .number ≡ 0
   ours-accepted = number-is (given-one k legal whole) ∙ judge-exactly (basisFigures k xs) (basisRates k) 0 .1 row

@@ -270,8 +270,8 @@ module _
           (sym (part-bad there found)))
           ∙ simp (lt-ltb there (runDays run) found)
 
-    -- where the whole series answers 5 at a day, from 1, and a position, the days before are taken, and that day answers
-    -- the same
+    -- where the whole series answers 5 at a day, from 1, and a position, the days before are
+    -- taken, and that day answers the same
     pub same-bad :
         (xs : List ℕ) (d q : ℕ)
         → seriesAnswer run limit xs ≡ badPlace (record { day = d + 1; position = q })
