@@ -28,7 +28,8 @@ def counts(crate):
 
 
 def table():
-    names = [line.split(":")[0] for line in pathlib.Path("crates.txt").read_text().splitlines() if line]
+    listed = (line.split("#")[0] for line in pathlib.Path("crates.txt").read_text().splitlines())
+    names = [line.split(":")[0] for line in listed if ":" in line]
     rows = [(f"`{name}`", *counts(pathlib.Path("crates") / name)) for name in names]
     total = ("all", *(sum(row[k] for row in rows) for k in range(1, 7)))
     return HEAD + "".join("| " + " | ".join(f"{x:,}" if isinstance(x, int) else x for x in row) + " |\n" for row in rows + [total])
