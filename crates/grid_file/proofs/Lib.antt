@@ -1,2 +1,1 @@
-pub mod GridLayout
 pub mod GridDays

@@ -13,7 +13,8 @@ use Rattle.fields.specs.declared.Stage.{Stage}
 use Rattle.fields.specs.declared.Stage.the-variants.{Going}
 use Rattle.fields.specs.Machine.{Reader, wants, fed}
 use Rattle.grid_file.specs.declared.GridFile.{GridFile}
-use Rattle.grid_file.specs.Grid.{gridLayout, openedGrid, blankSheet, withSheet}
+use Rattle.grid_head.specs.Header.{gridLayout, openedGrid}
+use Rattle.grid_file.specs.Grid.{blankSheet, withSheet}
 
 -- the header that holds these bytes, after k fields
 abbrev pub gridHead : ℕ → List ℕ → GridFile

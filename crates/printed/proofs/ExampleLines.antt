@@ -26,9 +26,10 @@ use Rattle.fields.specs.Series.{seriesIn, fileSize}
 use Rattle.lines.specs.Text.{textOver}
 use Rattle.lines.specs.Figures.{decimalOf, fieldOf, figuresLine}
 use Rattle.window_lines.specs.Runs.{headLine, timeOf, runLine, runText, seasonText, windowsText}
-use Rattle.grid_file.specs.Grid.{gridLayout, gridYear, gridLevel, blankSheet, wholeGrid, gridAnswer}
+use Rattle.grid_head.specs.Header.{gridLayout, gridYear, gridLevel}
+use Rattle.grid_file.specs.Grid.{blankSheet, wholeGrid, gridAnswer}
 use Rattle.grid_text.specs.Text.{windowLines, windowsPrinted}
-use Rattle.grid_file.proofs.GridLayout.{grid-count, grid-size}
+use Rattle.grid_head.proofs.GridLayout.{grid-count, grid-size}
 use Rattle.demands.specs.Cases.{exampleSheet}
 use Rattle.printed.specs.Printed.{gridDriven}
 use Rattle.printed.specs.Examples.{isAt, gridRun, otherDay, gridReading, gridSeries, seriesBytes, gridHeader, gridBytes, exampleWindows, Prints}

@@ -41,13 +41,14 @@ use Rattle.fields.proofs.Fed.{heldIn, LooksBack, FeedsField, feeds-field, heldA
 use Rattle.lines.specs.Figures.{refusedLine}
 use Rattle.fields.specs.declared.Stage.the-variants.{Going, Refused, Complete}
 use Rattle.grid_file.specs.declared.GridFile.{GridFile}
-use Rattle.grid_file.specs.Grid.{gridMark, gridLayout, gridYear, gridLevel, blankSheet, withSheet, wholeGrid, gridAnswer}
+use Rattle.grid_head.specs.Header.{gridMark, gridLayout, gridYear, gridLevel}
+use Rattle.grid_file.specs.Grid.{blankSheet, withSheet, wholeGrid, gridAnswer}
 use Rattle.fields.specs.Stages.{stageOf}
 use Rattle.grid_file.specs.GridMachine.{gridHead, gridEnded, gridReader, gridWants, gridFed, closedGrid}
 use Rattle.grid_text.specs.Text.{windowLines, gridText}
 use Rattle.packed.proofs.Bytes.{two-same}
 use Rattle.fields.proofs.Common.{mark-own, version-own, year-own, level-own, year-no, level-no, unrefused}
-use Rattle.grid_file.proofs.GridLayout.{grid-count, grid-width, grid-start, grid-size, grid-refusal}
+use Rattle.grid_head.proofs.GridLayout.{grid-count, grid-width, grid-start, grid-size, grid-refusal}
 use Rattle.fields.proofs.Machine.{wants-field, wants-day, wants-end, fed-none, fed-field, fed-day, fed-end, field-cut, field-refused, field-taken, day-cut, day-refused, day-taken, end-left, end-done}
 use Rattle.printed.specs.Printed.{WindowsPrinted}
 

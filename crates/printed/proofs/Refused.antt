@@ -27,8 +27,8 @@ use Rattle.grid.specs.Answers as Grid
 use Rattle.grid.proofs.Steps.{open-year, open-level}
 use Rattle.fields.specs.Layout.{Layout, headSize}
 use Rattle.fields.proofs.Common.{refused-as}
-use Rattle.grid_file.specs.Grid.{gridLayout, gridYear, gridLevel}
-use Rattle.grid_file.proofs.GridLayout.{grid-count}
+use Rattle.grid_head.specs.Header.{gridLayout, gridYear, gridLevel}
+use Rattle.grid_head.proofs.GridLayout.{grid-count}
 use Rattle.customer_head.specs.Header.{sheetPart, holidayCount, holidaysOf, pricesOf, customerLayout, basisIn}
 use Rattle.customer_head.proofs.CustomerLayout.{count-is}
 use Rattle.printed.proofs.Grid as GridFields

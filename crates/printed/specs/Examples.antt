@@ -18,7 +18,7 @@ use Rattle.grid.specs.Answers.{windowsAnswer, windowsBuffer}
 use Rattle.terms.specs.Basis.{Basis, basis}
 use Rattle.customer.specs.Answers.{decideAnswer}
 use Rattle.fields.specs.Series.{readingBytes}
-use Rattle.grid_file.specs.Grid.{gridMark}
+use Rattle.grid_head.specs.Header.{gridMark}
 use Rattle.grid_text.specs.Text.{windowsPrinted}
 use Rattle.customer_head.specs.Header.{customerMark}
 use Rattle.customer_text.specs.Text.{statementPrinted}

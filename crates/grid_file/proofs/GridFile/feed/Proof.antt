@@ -6,7 +6,7 @@ use borrow.Author.Needs.{needs}
 use Rattle.fields.proofs.Header.{is-field, no-field}
 use Rattle.fields.proofs.Machine.{fed-none, fed-field, fed-day, fed-end}
 use Rattle.grid_file.specs.GridMachine.{gridReader}
-use Rattle.grid_file.proofs.GridLayout.{grid-fits}
+use Rattle.grid_head.proofs.GridLayout.{grid-fits}
 use Rattle.grid_file.proofs.GridFile.feed.Statement.{statement}
 use Rattle.grid_file.proofs.GridFile.feed.Tie as tie
 

@@ -11,7 +11,7 @@ use Rattle.fields.specs.Machine.{fieldSize, headWith}
 use Rattle.fields.proofs.Header.{is-field}
 use Rattle.fields.proofs.Machine.{field-refused, field-taken, span-cut, span-held, span-laid}
 use Rattle.grid_file.specs.GridMachine.{gridReader}
-use Rattle.grid_file.proofs.GridLayout.{grid-count, grid-fits}
+use Rattle.grid_head.proofs.GridLayout.{grid-count, grid-fits}
 use Rattle.grid_file.proofs.GridFile.take_field.Statement.{statement}
 use Rattle.grid_file.proofs.GridFile.take_field.Tie as tie
 

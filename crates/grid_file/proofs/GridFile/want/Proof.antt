@@ -9,7 +9,7 @@ use Rattle.readings.proofs.Runs.{len-most, span-len}
 use Rattle.fields.proofs.Header.{span-width, span-few, is-field, no-field}
 use Rattle.fields.proofs.Machine.{wants-none, wants-field, wants-day, wants-end}
 use Rattle.grid_file.specs.GridMachine.{gridReader}
-use Rattle.grid_file.proofs.GridLayout.{grid-fits}
+use Rattle.grid_head.proofs.GridLayout.{grid-fits}
 use Rattle.grid_file.proofs.GridFile.want.Statement.{statement}
 use Rattle.grid_file.proofs.GridFile.want.Tie as tie
 

@@ -14,7 +14,7 @@ use Rattle.over.proofs.Tests.{all-at}
 use Rattle.fields.specs.Layout.{Field, noField, fieldAt, widthAt, layoutOf, startOf}
 use Rattle.fields.specs.Common.{markField, versionField, yearField, levelField}
 use Rattle.fields.proofs.Header.{field-past, Fits, fits-by}
-use Rattle.grid_file.specs.Grid.{gridFields, gridLayout}
+use Rattle.grid_head.specs.Header.{gridFields, gridLayout}
 
 -- the widths of the fields, and the places where they start
 abbrev pub gridWidths : List ℕ

@@ -1,14 +1,14 @@
--- `grid_file::refusal` meets its contract, a field for each return.
+-- `grid_head::refusal` meets its contract, a field for each return.
 -- Assumes nothing.
 use mathlib.Core.Path.{ap, _∙_}
 use native.Mathlib.Omega.{arith}
 use borrow.Author.Needs.{needs}
 use Rattle.answers.specs.Ruling.{levelOut}
-use Rattle.grid_file.specs.Grid.{gridMark}
+use Rattle.grid_head.specs.Header.{gridMark}
 use Rattle.fields.proofs.Common.{mark-no, version-no, year-no, level-no}
-use Rattle.grid_file.proofs.GridLayout.{refusal-at, refusal-none}
-use Rattle.grid_file.proofs.refusal.Statement.{statement}
-use Rattle.grid_file.proofs.refusal.Tie as tie
+use Rattle.grid_head.proofs.GridLayout.{refusal-at, refusal-none}
+use Rattle.grid_head.proofs.refusal.Statement.{statement}
+use Rattle.grid_head.proofs.refusal.Tie as tie
 
 returns : tie.Need-returns
 returns c = c .number-if .ensures ∙ mark-no _ 0 gridMark (c .before .unlike .ensures) ∙ refusal-at _ 0 (omega arith) (omega arith)

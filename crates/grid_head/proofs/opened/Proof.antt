@@ -1,10 +1,10 @@
--- `grid_file::opened` meets its contract: what opening hands back, over the year and the level that the header holds.
+-- `grid_head::opened` meets its contract: what opening hands back, over the year and the level that the header holds.
 -- Assumes nothing.
 use mathlib.Core.Path.{_∙_}
 use borrow.Author.Needs.{needs}
 use Rattle.grid.specs.Answers.{openGrid}
-use Rattle.grid_file.proofs.opened.Statement.{statement}
-use Rattle.grid_file.proofs.opened.Tie as tie
+use Rattle.grid_head.proofs.opened.Statement.{statement}
+use Rattle.grid_head.proofs.opened.Tie as tie
 
 returns : tie.Need-returns
 returns c =

@@ -1,10 +1,10 @@
--- `grid_file::span_of` meets its contract: two constant tables, and no byte behind the last field.
+-- `grid_head::span_of` meets its contract: two constant tables, and no byte behind the last field.
 -- Assumes nothing.
 use native.Mathlib.Omega.{arith}
 use borrow.Author.Needs.{needs}
-use Rattle.grid_file.proofs.GridLayout.{grid-start, grid-width, start-none, width-none}
-use Rattle.grid_file.proofs.span_of.Statement.{statement}
-use Rattle.grid_file.proofs.span_of.Tie as tie
+use Rattle.grid_head.proofs.GridLayout.{grid-start, grid-width, start-none, width-none}
+use Rattle.grid_head.proofs.span_of.Statement.{statement}
+use Rattle.grid_head.proofs.span_of.Tie as tie
 
 returns : tie.Need-returns
 returns c =

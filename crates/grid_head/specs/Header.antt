@@ -1,0 +1,32 @@
+-- The header of a grid file, by the file's bytes b: mark, version, year and level, each as wide as in the sheet.
+-- Document 01, Two programs.
+use mathlib.Core.List.{List, [], _∷_}
+use Prim.Native.Nat.{ℕ, _+_}
+use lib.ListN.{getD}
+use Rattle.packed.specs.Bytes.{twoAt, markSize}
+use Rattle.grid.specs.declared.Grid.{Grid}
+use Rattle.grid.specs.Answers.{openGrid}
+use Rattle.fields.specs.Layout.{Field, Layout, layoutOf}
+use Rattle.fields.specs.Common.{markField, versionField, yearField, levelField}
+
+-- "GRD"
+abbrev pub gridMark : List ℕ
+gridMark = 71 ∷ 82 ∷ 68 ∷ []
+
+-- the fields of the header, in order
+abbrev pub gridFields : List ℕ → List Field
+gridFields b = markField gridMark b ∷ versionField b ∷ yearField b ∷ levelField b ∷ []
+
+unfoldable pub gridLayout : List ℕ → Layout
+gridLayout b = layoutOf (gridFields b)
+
+-- year and level, behind mark and version
+abbrev pub gridYear : List ℕ → ℕ
+gridYear b = twoAt b (markSize + 2)
+
+abbrev pub gridLevel : List ℕ → ℕ
+gridLevel b = getD b (markSize + 2 + 2) 0
+
+-- the series that the header opens
+abbrev pub openedGrid : List ℕ → Grid
+openedGrid b = openGrid (gridYear b) (gridLevel b)
