@@ -9,11 +9,11 @@ use Rattle.readings.specs.Days.{offered, daysOf}
 use Rattle.tariff.specs.declared.Prices.{Prices}
 use Rattle.terms.specs.Basis.{Basis}
 use Rattle.customer.specs.declared.Customer.{Customer}
-use Rattle.customer.specs.Answers.{openCustomer, dayCustomer, closeAnswer}
+use Rattle.customer.specs.Answers.{openCustomer, dayCustomer, customerCloseAnswer}
 
 -- a customer's year after the first n days of a series
-abbrev pub customerAfter : Basis → List ℕ → ℕ → Customer
-customerAfter k xs n = offered dayCustomer (openCustomer k) (daysOf (Year (openCustomer k .terms .rates .year)) xs n)
+abbrev pub customerAfterDays : Basis → List ℕ → ℕ → Customer
+customerAfterDays k xs n = offered dayCustomer (openCustomer k) (daysOf (Year (openCustomer k .terms .rates .year)) xs n)
 
 -- the days are those of the year that the opened state has
 abbrev pub openDays : Basis → ℕ
@@ -21,11 +21,11 @@ openDays k = yearDays (openCustomer k .terms .rates .year)
 
 -- what closing answers after as many days as that year has
 abbrev pub customerDaysAnswer : Basis → List ℕ → Said
-customerDaysAnswer k xs = closeAnswer (customerAfter k xs (openDays k))
+customerDaysAnswer k xs = customerCloseAnswer (customerAfterDays k xs (openDays k))
 
 -- a price list of four numbers
-abbrev pub pricesOf : ℕ → ℕ → ℕ → ℕ → Prices
-pricesOf lowCapacity lowEnergy highCapacity highEnergy =
+abbrev pub priceList : ℕ → ℕ → ℕ → ℕ → Prices
+priceList lowCapacity lowEnergy highCapacity highEnergy =
     record {
       low = record { capacity = lowCapacity; energy = lowEnergy };
       high = record { capacity = highCapacity; energy = highEnergy };

@@ -4,17 +4,17 @@
 ghost use mathlib.Core.Path.{_≡_};
 ghost use Rattle.terms.specs.Basis.{basis};
 ghost use Rattle.customer.specs.Answers.{decideAnswer};
-ghost use Rattle.flat.specs.Flat.{flatOf};
-ghost use Rattle.bench_customer.specs.Days.{customerAfter, openDays, customerDaysAnswer, pricesOf};
+ghost use Rattle.answer_numbers.specs.Numbers.{numbersOf};
+ghost use Rattle.bench_customer.specs.Days.{customerAfterDays, openDays, customerDaysAnswer, priceList};
+use answer_numbers::Numbers;
 use customer::Customer;
-use flat::Flat;
 use readings::Run;
 use tariff::Prices;
 use tariff::Row;
 
 // A price list of four numbers.
 fn prices_of(lowcapacity: u32, lowenergy: u32, highcapacity: u32, highenergy: u32) -> Prices
-    ensures { λ r. ⌜ r ≡ pricesOf lowcapacity lowenergy highcapacity highenergy ⌝ }
+    ensures { λ r. ⌜ r ≡ priceList lowcapacity lowenergy highcapacity highenergy ⌝ }
 {
     Prices {
         low: Row {
@@ -39,13 +39,13 @@ pub extern "C" fn bench_decide(
     highenergy: u32,
     option: bool,
     series: &[u32],
-) -> Flat
-    ensures { λ r. ⌜ (let prices = pricesOf lowcapacity lowenergy highcapacity highenergy in
+) -> Numbers
+    ensures { λ r. ⌜ (let prices = priceList lowcapacity lowenergy highcapacity highenergy in
         let k = basis (now (sheet .entry)) (now (holidays .entry)) prices option in
-        r ≡ flatOf (decideAnswer k (now (series .entry)))) ⌝ }
+        r ≡ numbersOf (decideAnswer k (now (series .entry)))) ⌝ }
 {
     let prices = prices_of(lowcapacity, lowenergy, highcapacity, highenergy);
-    figured::of_decision(customer::decide(sheet, holidays, prices, option, series))
+    decision_numbers::of_decision(customer::decide(sheet, holidays, prices, option, series))
 }
 
 // A customer's year after every day of a series, given one by one.
@@ -57,7 +57,7 @@ fn all_customer_days(
     series: &[u32],
 ) -> Customer
     ensures { λ r. ⌜ (let k = basis (now (sheet .entry)) (now (holidays .entry)) prices option in
-        r ≡ customerAfter k (now (series .entry)) (openDays k)) ⌝ }
+        r ≡ customerAfterDays k (now (series .entry)) (openDays k)) ⌝ }
 {
     let mut state = Customer::open(sheet, holidays, prices, option).customer;
     let year = state.terms.rates.year;
@@ -79,11 +79,17 @@ pub extern "C" fn bench_customer_days(
     highenergy: u32,
     option: bool,
     series: &[u32],
-) -> Flat
-    ensures { λ r. ⌜ (let prices = pricesOf lowcapacity lowenergy highcapacity highenergy in
+) -> Numbers
+    ensures { λ r. ⌜ (let prices = priceList lowcapacity lowenergy highcapacity highenergy in
         let k = basis (now (sheet .entry)) (now (holidays .entry)) prices option in
-        r ≡ flatOf (customerDaysAnswer k (now (series .entry)))) ⌝ }
+        r ≡ numbersOf (customerDaysAnswer k (now (series .entry)))) ⌝ }
 {
     let prices = prices_of(lowcapacity, lowenergy, highcapacity, highenergy);
-    figured::of_decision(all_customer_days(sheet, holidays, prices, option, series).close())
+    decision_numbers::of_decision(all_customer_days(
+        sheet,
+        holidays,
+        prices,
+        option,
+        series,
+    ).close())
 }

@@ -7,15 +7,15 @@ use Rattle.periods.specs.Period.{periodDays}
 use Rattle.readings.specs.declared.Run.the-variants.{Period}
 use Rattle.readings.specs.Days.{offered, daysOf}
 use Rattle.grid.specs.declared.Grid.{Grid}
-use Rattle.grid.specs.Answers.{openGrid, dayGrid, closeAnswer, closeBuffer}
+use Rattle.grid.specs.Answers.{openGrid, dayGrid, gridCloseAnswer, gridCloseBuffer}
 
 -- the grid after the first n days of a series
-abbrev pub gridAfter : ℕ → ℕ → List ℕ → ℕ → Grid
-gridAfter y level xs n = offered dayGrid (openGrid y level) (daysOf (Period y) xs n)
+abbrev pub gridAfterDays : ℕ → ℕ → List ℕ → ℕ → Grid
+gridAfterDays y level xs n = offered dayGrid (openGrid y level) (daysOf (Period y) xs n)
 
 -- what closing answers after as many days as the period has, and the buffer then
 abbrev pub gridDaysAnswer : ℕ → ℕ → List ℕ → ℕ → Said
-gridDaysAnswer y level xs room = closeAnswer (gridAfter y level xs (periodDays y)) room
+gridDaysAnswer y level xs room = gridCloseAnswer (gridAfterDays y level xs (periodDays y)) room
 
 abbrev pub gridDaysBuffer : ℕ → ℕ → List ℕ → List ℕ → List ℕ
-gridDaysBuffer y level xs buffer = closeBuffer (gridAfter y level xs (periodDays y)) buffer
+gridDaysBuffer y level xs buffer = gridCloseBuffer (gridAfterDays y level xs (periodDays y)) buffer

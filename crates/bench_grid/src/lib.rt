@@ -4,24 +4,24 @@ ghost use mathlib.Core.Path.{_≡_};
 ghost use lib.ListN.{length};
 ghost use Rattle.periods.specs.Period.{periodDays};
 ghost use Rattle.grid.specs.Answers.{windowsAnswer, windowsBuffer};
-ghost use Rattle.flat.specs.Flat.{flatOf};
-ghost use Rattle.bench_grid.specs.Days.{gridAfter, gridDaysAnswer, gridDaysBuffer};
-use flat::Flat;
+ghost use Rattle.answer_numbers.specs.Numbers.{numbersOf};
+ghost use Rattle.bench_grid.specs.Days.{gridAfterDays, gridDaysAnswer, gridDaysBuffer};
+use answer_numbers::Numbers;
 use grid::Grid;
 use readings::Run;
 
 // The windows of a whole grid series.
 #[no_mangle]
-pub extern "C" fn bench_windows(year: u16, level: u8, series: &[u32], out: &mut [u8]) -> Flat
-    ensures { λ r. ⌜ (r ≡ flatOf (windowsAnswer year level (now (series .entry)) (length (now (out .entry)))))
+pub extern "C" fn bench_windows(year: u16, level: u8, series: &[u32], out: &mut [u8]) -> Numbers
+    ensures { λ r. ⌜ (r ≡ numbersOf (windowsAnswer year level (now (series .entry)) (length (now (out .entry)))))
         × (now (out .exit) ≡ windowsBuffer year level (now (series .entry)) (now (out .entry))) ⌝ }
 {
-    grid_flat::of_answer(grid::windows(year, level, series, out))
+    grid_numbers::of_answer(grid::windows(year, level, series, out))
 }
 
 // The grid after every day of a series, given one by one.
 fn all_grid_days(year: u16, level: u8, series: &[u32]) -> Grid
-    ensures { λ r. ⌜ r ≡ gridAfter year level (now (series .entry)) (periodDays year) ⌝ }
+    ensures { λ r. ⌜ r ≡ gridAfterDays year level (now (series .entry)) (periodDays year) ⌝ }
 {
     let mut state = Grid::open(year, level).grid;
     for d in 0..periods::period_days(year) {
@@ -33,9 +33,9 @@ fn all_grid_days(year: u16, level: u8, series: &[u32]) -> Grid
 
 // The windows of a grid series that is given day by day.
 #[no_mangle]
-pub extern "C" fn bench_grid_days(year: u16, level: u8, series: &[u32], out: &mut [u8]) -> Flat
-    ensures { λ r. ⌜ (r ≡ flatOf (gridDaysAnswer year level (now (series .entry)) (length (now (out .entry)))))
+pub extern "C" fn bench_grid_days(year: u16, level: u8, series: &[u32], out: &mut [u8]) -> Numbers
+    ensures { λ r. ⌜ (r ≡ numbersOf (gridDaysAnswer year level (now (series .entry)) (length (now (out .entry)))))
         × (now (out .exit) ≡ gridDaysBuffer year level (now (series .entry)) (now (out .entry))) ⌝ }
 {
-    grid_flat::of_answer(all_grid_days(year, level, series).close(out))
+    grid_numbers::of_answer(all_grid_days(year, level, series).close(out))
 }

@@ -8,7 +8,7 @@ use Prim.Native.Nat.{ℕ, _≤_}
 use native.Mathlib.Omega.{arith}
 use lib.Dec.{eqb}
 use lib.ListN.{getD}
-use Rattle.over.proofs.Bools.{decided, refutes, within}
+use Rattle.ranges.proofs.Bools.{decided, refutes, within}
 use Rattle.answers.specs.Ruling.{yearOut}
 use Rattle.answers.specs.Said.{Said, only, yesNo}
 use Rattle.answers.proofs.Laws.{one-answer, charge-year}
@@ -20,7 +20,7 @@ use Rattle.calendar.specs.declared.DayAnswer.{DayAnswer}
 use Rattle.calendar.specs.declared.DayAnswer.the-variants.{Carries, YearOut, BadList, DayOut}
 use Rattle.calendar.specs.Free.{carries}
 use Rattle.calendar.specs.Answer.DayRow.{one, three, thirteen, zero}
-use Rattle.calendar.specs.Answer.{saidOfDay, dayOut, dayAnswer, DayOfYear, DayRow}
+use Rattle.calendar.specs.Answer.{saidOfDay, dayOut, calendarAnswer, DayOfYear, DayRow}
 
 -- a day is refused exactly when it is no day of the year
 pub day-of-year : (y d : ℕ) → (dayOut y d ≡ false) ↔ DayOfYear y d
@@ -35,27 +35,27 @@ day-inside y d e =
 
 -- the code's cases, in the order 1, 3, 13
 module _ (y : ℕ) (hs : List ℕ) (d : ℕ) where
-  pub said-year : yearOut y ≡ true → only 1 ≡ dayAnswer y hs d
-  unfolding dayAnswer
+  pub said-year : yearOut y ≡ true → only 1 ≡ calendarAnswer y hs d
+  unfolding calendarAnswer
   said-year e = rw e
 
   module _ (a : yearOut y ≡ false) where
-    pub said-list : badHolidays y hs ≡ true → only 3 ≡ dayAnswer y hs d
-    unfolding dayAnswer
+    pub said-list : badHolidays y hs ≡ true → only 3 ≡ calendarAnswer y hs d
+    unfolding calendarAnswer
     said-list e = rw (a, e)
 
     module _ (b : badHolidays y hs ≡ false) where
-      pub said-day : dayOut y d ≡ true → only 13 ≡ dayAnswer y hs d
-      unfolding dayAnswer
+      pub said-day : dayOut y d ≡ true → only 13 ≡ calendarAnswer y hs d
+      unfolding calendarAnswer
       said-day e = rw (a, b, e)
 
-      pub said-carries : dayOut y d ≡ false → {r : Bool} → r ≡ carries y hs d → yesNo r ≡ dayAnswer y hs d
-      unfolding dayAnswer
+      pub said-carries : dayOut y d ≡ false → {r : Bool} → r ≡ carries y hs d → yesNo r ≡ calendarAnswer y hs d
+      unfolding calendarAnswer
       said-carries e {r} f = rw (a, b, e, f)
 
 -- each number is given exactly when its row holds and no number before it is given
 module _ (y : ℕ) (hs : List ℕ) (d : ℕ) where
-  holds : DayRow y hs d (dayAnswer y hs d .number)
+  holds : DayRow y hs d (calendarAnswer y hs d .number)
   holds =
       ⊎-elim (λ p. rw (← said-year y hs d p) (one (refutes _ (charge-year y) .0 p))) (λ a.
       ⊎-elim (λ p. rw (← said-list y hs d a p) (three (charge-year y .0 a) (refutes _ (legal-holidays y hs) .0 p))) (λ b.
@@ -63,7 +63,7 @@ module _ (y : ℕ) (hs : List ℕ) (d : ℕ) where
       rw (← said-carries y hs d a b c refl) (zero (charge-year y .0 a) (legal-holidays y hs .0 b) (day-of-year y d .0 c)))
       (decided (dayOut y d))) (decided (badHolidays y hs))) (decided (yearOut y))
 
-  given : {n : ℕ} → DayRow y hs d n → dayAnswer y hs d .number ≡ n
+  given : {n : ℕ} → DayRow y hs d n → calendarAnswer y hs d .number ≡ n
   given (one a) = rw (← said-year y hs d (refutes _ (charge-year y) .1 a))
   given (three a b) = rw (← said-list y hs d (charge-year y .1 a) (refutes _ (legal-holidays y hs) .1 b))
   given (thirteen a b c) =
@@ -71,14 +71,14 @@ module _ (y : ℕ) (hs : List ℕ) (d : ℕ) where
   given (zero a b c) =
       rw (← said-carries y hs d (charge-year y .1 a) (legal-holidays y hs .1 b) (day-of-year y d .1 c) refl)
 
-  pub exactly : (n : ℕ) → (dayAnswer y hs d .number ≡ n) ↔ DayRow y hs d n
+  pub exactly : (n : ℕ) → (calendarAnswer y hs d .number ≡ n) ↔ DayRow y hs d n
   exactly n = (λ e. rw e at holds, given)
 
   -- and 0 tells whether the day carries windows
-  pub told : dayAnswer y hs d .number ≡ 0 → dayAnswer y hs d ≡ yesNo (carries y hs d)
+  pub told : calendarAnswer y hs d .number ≡ 0 → calendarAnswer y hs d ≡ yesNo (carries y hs d)
   told e = go (exactly 0 .0 e)
     where
-      go : DayRow y hs d 0 → dayAnswer y hs d ≡ yesNo (carries y hs d)
+      go : DayRow y hs d 0 → calendarAnswer y hs d ≡ yesNo (carries y hs d)
       go (zero a b c) = sym (said-carries y hs d (charge-year y .1 a) (legal-holidays y hs .1 b) (day-of-year y d .1 c) refl)
 
 -- an answer, back from what it says: linear in the cases
@@ -86,7 +86,7 @@ abbrev dayBack : Said → DayAnswer
 dayBack a =
     cond (eqb (a .number) 1) YearOut
     (cond (eqb (a .number) 3) BadList
-    (cond (eqb (a .number) 13) DayOut (Carries (eqb (getD (a .carries) 0 0) 1))))
+    (cond (eqb (a .number) 13) DayOut (Carries (eqb (getD (a .figures) 0 0) 1))))
 
 back : (a : DayAnswer) → dayBack (saidOfDay a) ≡ a
 back (Carries true) = refl
@@ -99,5 +99,5 @@ back DayOut = refl
 pub day-said : {a b : DayAnswer} → saidOfDay a ≡ saidOfDay b → a ≡ b
 day-said {a} {b} e = sym (back a) ∙ ap dayBack e ∙ back b
 
-pub carries-only : (y : ℕ) (hs : List ℕ) (d : ℕ) {r s : DayAnswer} → saidOfDay r ≡ dayAnswer y hs d → saidOfDay s ≡ dayAnswer y hs d → r ≡ s
+pub carries-only : (y : ℕ) (hs : List ℕ) (d : ℕ) {r s : DayAnswer} → saidOfDay r ≡ calendarAnswer y hs d → saidOfDay s ≡ calendarAnswer y hs d → r ≡ s
 carries-only y hs d p q = day-said (one-answer p q)

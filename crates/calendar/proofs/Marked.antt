@@ -10,12 +10,12 @@ use borrow.Author.Tests.{lt-ltb, le-ltb, eq-eqb, ne-eqb}
 use lib.Dec.{eqb}
 use lib.ListN.{length, getD, set, length-set}
 use lib.Seq.{getD-set-same, getD-set-other}
-use Rattle.over.specs.Over.{anyOver}
-use Rattle.over.proofs.Tests.{any-none, any-more}
+use Rattle.ranges.specs.Ranges.{anyOver}
+use Rattle.ranges.proofs.Tests.{any-none, any-more}
 use Rattle.dates.specs.Dates.{mostDays}
 use Rattle.holidays.specs.Holidays.{listed}
 use Rattle.calendar.specs.Free.{candidate, free, bridge, kindBy, kindOf}
-use Rattle.calendar.specs.Within.{lastPlace, places, placeOf, marked, Marks}
+use Rattle.calendar.specs.Marks.{lastMark, markPlaces, markPlace, marked, Marks}
 
 -- entry j is day d
 abbrev pub isDay : List ℕ → ℕ → ℕ → Bool
@@ -24,31 +24,31 @@ isDay hs d j = eqb (getD hs j 0) d
 -- what the loop keeps: the first k entries are marked
 pub record Marking (hs : List ℕ) (k : ℕ) (m : List Bool) : Type 0 where
   pub some : k ≤ length hs
-  pub long : length m ≡ places
-  pub each : (d : ℕ) → d < lastPlace → marked m d ≡ anyOver (isDay hs d) k
+  pub long : length m ≡ markPlaces
+  pub each : (d : ℕ) → d < lastMark → marked m d ≡ anyOver (isDay hs d) k
 
 module _ (hs : List ℕ) where
-  pub marking-none : {m : List Bool} → length m ≡ places → ((d : ℕ) → d < lastPlace → marked m d ≡ false) → Marking hs 0 m
+  pub marking-none : {m : List Bool} → length m ≡ markPlaces → ((d : ℕ) → d < lastMark → marked m d ≡ false) → Marking hs 0 m
   marking-none e f = record { some = omega arith; long = e; each = λ d b. f d b ∙ sym (any-none (isDay hs d)) }
 
-  pub marking-more : {k at : ℕ} {m : List Bool} → Marking hs k m → k < length hs → at ≡ placeOf (getD hs k 0) → Marking hs (k + 1) (set m at true)
+  pub marking-more : {k at : ℕ} {m : List Bool} → Marking hs k m → k < length hs → at ≡ markPlace (getD hs k 0) → Marking hs (k + 1) (set m at true)
   marking-more {k} {at} {m} h l p =
       record { some = omega arith; long = simp length-set (h .long); each = λ d b. go d b (ℕ-discrete (getD hs k 0) d) }
     where
       -- another day has another place
-      elsewhere : (d : ℕ) → d < lastPlace → (getD hs k 0 ≡ d → ⊥) → Dec (getD hs k 0 < lastPlace) → d ≡ at → ⊥
+      elsewhere : (d : ℕ) → d < lastMark → (getD hs k 0 ≡ d → ⊥) → Dec (getD hs k 0 < lastMark) → d ≡ at → ⊥
       elsewhere d b n (yes c) e = n (sym (e ∙ p ∙ simp (lt-ltb _ _ c)))
       elsewhere d b n (no c) e =
-          let f : at ≡ lastPlace = p ∙ simp (le-ltb (getD hs k 0) lastPlace (omega arith)) in
+          let f : at ≡ lastMark = p ∙ simp (le-ltb (getD hs k 0) lastMark (omega arith)) in
           omega arith
 
-      go : (d : ℕ) → d < lastPlace → Dec (getD hs k 0 ≡ d) → marked (set m at true) d ≡ anyOver (isDay hs d) (k + 1)
+      go : (d : ℕ) → d < lastMark → Dec (getD hs k 0 ≡ d) → marked (set m at true) d ≡ anyOver (isDay hs d) (k + 1)
       go d b (yes e) =
-          let a : at ≡ d = p ∙ simp (e, lt-ltb d lastPlace b) in
+          let a : at ≡ d = p ∙ simp (e, lt-ltb d lastMark b) in
           let s : marked (set m at true) d ≡ true = rw a (getD-set-same m d true false (omega (arith, h .long))) in
           s ∙ simp (any-more, eq-eqb (getD hs k 0) d e) (sym (or-true (anyOver (isDay hs d) k)))
       go d b (no n) =
-          getD-set-other m at d true false (elsewhere d b n (decLt (getD hs k 0) lastPlace))
+          getD-set-other m at d true false (elsewhere d b n (decLt (getD hs k 0) lastMark))
           ∙ h .each d b
           ∙ simp (any-more, ne-eqb (getD hs k 0) d n) (sym (or-false (anyOver (isDay hs d) k)))
 

@@ -10,8 +10,8 @@ use native.Mathlib.Omega.{arith}
 use borrow.Author.Tests.{eqb-true, not-true}
 use lib.Dec.{eqb}
 use lib.ListN.{getD}
-use Rattle.over.proofs.Bools.{decided, both, either, neither, clash}
-use Rattle.over.proofs.Tables.{getD-table}
+use Rattle.ranges.proofs.Bools.{decided, both, either, neither, clash}
+use Rattle.ranges.proofs.Tables.{getD-table}
 use Rattle.dates.specs.Dates.{yearDays, mostDays, weekdayOf, monday, friday}
 use Rattle.holidays.specs.Holidays.{listed}
 use Rattle.calendar.specs.declared.DayKind.the-variants.{Windows, Weekend, Listed, Christmas, Bridge}

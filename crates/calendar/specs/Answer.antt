@@ -2,7 +2,7 @@
 use mathlib.Core.Bool.{Bool, cond}
 use mathlib.Core.List.{List}
 use Prim.Native.Nat.{ℕ}
-use Rattle.over.specs.Limits.{Within, outside}
+use Rattle.ranges.specs.Limits.{Within, outside}
 use Rattle.answers.specs.Ruling.{yearOut, ChargeYear}
 use Rattle.answers.specs.Said.{Said, only, yesNo}
 use Rattle.dates.specs.Dates.{yearDays}
@@ -26,8 +26,8 @@ abbrev pub DayOfYear : ℕ → ℕ → Type 0
 DayOfYear y d = Within 1 (yearDays y) d
 
 -- what is answered: the first number whose row holds, else 0 with yes or no
-unfoldable pub dayAnswer : ℕ → List ℕ → ℕ → Said
-dayAnswer y hs d =
+unfoldable pub calendarAnswer : ℕ → List ℕ → ℕ → Said
+calendarAnswer y hs d =
     cond (yearOut y) (only 1)
     (cond (badHolidays y hs) (only 3)
     (cond (dayOut y d) (only 13)

@@ -5,7 +5,7 @@ use mathlib.Core.Bool.{Bool, true, false, cond, not, _&&_, _||_}
 use mathlib.Core.List.{List}
 use Prim.Native.Nat.{ℕ, _+_, _-_}
 use lib.Dec.{leb, eqb}
-use Rattle.over.specs.Over.{table}
+use Rattle.ranges.specs.Ranges.{table}
 use Rattle.dates.specs.Dates.{mostDays, dayOf, weekdayOf, monday, friday, saturday}
 use Rattle.holidays.specs.Holidays.{listed}
 use Rattle.calendar.specs.declared.DayKind.{DayKind}

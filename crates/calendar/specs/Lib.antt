@@ -1,3 +1,3 @@
 pub mod Free
 pub mod Answer
-pub mod Within
+pub mod Marks

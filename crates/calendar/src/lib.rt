@@ -4,13 +4,13 @@ ghost use mathlib.Core.Path.{_≡_};
 ghost use Prim.Native.Nat.{_-_, _≤_, _<_};
 ghost use Rattle.dates.specs.Dates.{mostDays};
 ghost use Rattle.calendar.specs.Free.{christmas, free, candidate, bridge, kindBy, isWindows, windowDays};
-ghost use Rattle.calendar.specs.Answer.{saidOfDay, dayOut, dayAnswer};
-ghost use Rattle.calendar.specs.Within.{places, lastPlace, placeOf, marked, Marks};
+ghost use Rattle.calendar.specs.Answer.{saidOfDay, dayOut, calendarAnswer};
+ghost use Rattle.calendar.specs.Marks.{markPlaces, lastMark, markPlace, marked, Marks};
 
 // The places that mark listed days: one for each of days 0 to 367, and a last one for days that no year has.
-const PLACES: usize = 369;
+const MARK_PLACES: usize = 369;
 
-const LAST_PLACE: usize = 368;
+const LAST_MARK: usize = 368;
 
 // Weekdays, from 0.
 const MONDAY: u8 = 0;
@@ -38,17 +38,17 @@ pub enum DayAnswer {
 
 // The place that marks a day.
 fn place_of(day: u16) -> usize
-    ensures { λ r. ⌜ (r ≡ placeOf day) × (r < places) ⌝ }
+    ensures { λ r. ⌜ (r ≡ markPlace day) × (r < markPlaces) ⌝ }
 {
     let at = day as usize;
-    if at < LAST_PLACE { at } else { LAST_PLACE }
+    if at < LAST_MARK { at } else { LAST_MARK }
 }
 
 // The listed days, marked once, so that no day searches the list.
-fn marks(holidays: &[u16]) -> [bool; PLACES]
+fn marks(holidays: &[u16]) -> [bool; MARK_PLACES]
     ensures { λ r. ⌜ Marks (now (holidays .entry)) r ⌝ }
 {
-    let mut out = [false; PLACES];
+    let mut out = [false; MARK_PLACES];
     for k in 0..holidays.len() {
         let at = place_of(holidays[k]);
         out[at] = true;
@@ -64,8 +64,8 @@ fn in_christmas(year: u16, day: u16) -> bool
 }
 
 // Free by another rule than that of bridge days.
-fn is_free(year: u16, marks: &[bool; PLACES], day: u16) -> bool
-    requires { ⌜ day < lastPlace ⌝ }
+fn is_free(year: u16, marks: &[bool; MARK_PLACES], day: u16) -> bool
+    requires { ⌜ day < lastMark ⌝ }
     ensures { λ r. ⌜ r ≡ free year (marked (now (marks .entry))) day ⌝ }
 {
     if SATURDAY <= dates::weekday(year, day) {
@@ -78,8 +78,8 @@ fn is_free(year: u16, marks: &[bool; PLACES], day: u16) -> bool
 }
 
 // A day of the weekday, with a listed neighbour, that is not free already.
-fn is_candidate(year: u16, marks: &[bool; PLACES], on: u8, beside: u16, day: u16) -> bool
-    requires { ⌜ (beside < lastPlace) × (day < lastPlace) ⌝ }
+fn is_candidate(year: u16, marks: &[bool; MARK_PLACES], on: u8, beside: u16, day: u16) -> bool
+    requires { ⌜ (beside < lastMark) × (day < lastMark) ⌝ }
     ensures { λ r. ⌜ r ≡ candidate year (marked (now (marks .entry))) on beside day ⌝ }
 {
     if dates::weekday(year, day) != on {
@@ -99,7 +99,7 @@ fn monday_of(friday: u16) -> u16
 }
 
 // The first candidate of its week: a Monday, or a Friday whose Monday is none.
-fn is_bridge(year: u16, marks: &[bool; PLACES], day: u16) -> bool
+fn is_bridge(year: u16, marks: &[bool; MARK_PLACES], day: u16) -> bool
     requires { ⌜ (1 ≤ day) × (day ≤ mostDays) ⌝ }
     ensures { λ r. ⌜ r ≡ bridge year (marked (now (marks .entry))) day ⌝ }
 {
@@ -114,7 +114,7 @@ fn is_bridge(year: u16, marks: &[bool; PLACES], day: u16) -> bool
 }
 
 // Whether a day carries windows by the marks and, where not, why it is free.
-fn kind(year: u16, marks: &[bool; PLACES], day: u16) -> DayKind
+fn kind(year: u16, marks: &[bool; MARK_PLACES], day: u16) -> DayKind
     requires { ⌜ (1 ≤ day) × (day ≤ mostDays) ⌝ }
     ensures { λ r. ⌜ r ≡ kindBy year (marked (now (marks .entry))) day ⌝ }
 {
@@ -165,7 +165,7 @@ fn day_out(year: u16, day: u16) -> bool
 
 // Does a day of a charge year carry windows? Refuses 1, 3, 13 in this order; else yes or no.
 pub fn carries_windows(year: u16, holidays: &[u16], day: u16) -> DayAnswer
-    ensures { λ r. ⌜ saidOfDay r ≡ dayAnswer year (now (holidays .entry)) day ⌝ }
+    ensures { λ r. ⌜ saidOfDay r ≡ calendarAnswer year (now (holidays .entry)) day ⌝ }
 {
     if answers::year_out(year) {
         return DayAnswer::YearOut;

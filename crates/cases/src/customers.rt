@@ -77,7 +77,7 @@ fn days(series: &[u32], customer: Customer) -> Customer {
     let answer = offered.answer;
     output::letter(b'D');
     output::next(offered.taken as u64);
-    output::answer(figured::of_decision(answer));
+    output::answer(decision_numbers::of_decision(answer));
     output::end();
     offered.customer
 }

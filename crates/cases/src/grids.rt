@@ -25,7 +25,7 @@ struct Offered {
 }
 
 fn write_number(answer: GridAnswer) {
-    output::answer(grid_flat::of_answer(answer));
+    output::answer(grid_numbers::of_answer(answer));
 }
 
 fn write_answer(call: u8, answer: GridAnswer) {

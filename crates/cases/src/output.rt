@@ -1,6 +1,6 @@
 // What a line is written by.
 use super::input::ROOM;
-use flat::Flat;
+use answer_numbers::Numbers;
 use libc::STDOUT_FILENO;
 
 pub(crate) fn text(text: &[u8]) {
@@ -34,9 +34,9 @@ pub(crate) fn bytes(bytes: [u8; ROOM]) {
 }
 
 // An answer's number, then each figure that it carries.
-pub(crate) fn answer(listed: Flat) {
+pub(crate) fn answer(listed: Numbers) {
     let last = listed.count as usize;
-    let line = flat::line_of(listed);
+    let line = answer_numbers::line_of(listed);
     for i in 0..8 {
         if i <= last {
             next(line[i]);

@@ -61,7 +61,7 @@ fn next_rates() -> Rates {
 // A call's letter, then its answer.
 pub(crate) fn write_answer(call: u8, answer: Decision) {
     output::letter(call);
-    output::answer(figured::of_decision(answer));
+    output::answer(decision_numbers::of_decision(answer));
     output::end();
 }
 

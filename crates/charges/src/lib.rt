@@ -4,10 +4,10 @@ ghost use mathlib.Core.Path.{_≡_};
 ghost use Prim.Native.Nat.{_≤_, max};
 ghost use Rattle.tariff.specs.Prices.{rowOut, pricesOut, LegalRow, LegalPrices};
 ghost use Rattle.tariff.specs.Charges.{fewHours, rowOf, chargeFor, chargeMost, general, reduced, floorOf};
-ghost use Rattle.tariff.specs.Answers.{saidOfGeneral, saidOfFloored};
-ghost use Rattle.tariff.specs.Decision.{generalAnswer, flooredAnswer};
+ghost use Rattle.tariff.specs.Answers.{saidOfGeneral, saidOfCharges};
+ghost use Rattle.tariff.specs.Decision.{generalAnswer, chargesAnswer};
+use tariff::BothCharges;
 use tariff::Figures;
-use tariff::Floored;
 use tariff::General;
 use tariff::Prices;
 use tariff::Rates;
@@ -117,14 +117,14 @@ pub fn general_charge(figures: Figures, rates: Rates) -> General
 
 // The charge of an eligible customer, the larger of reduced charge and floor, beside the general charge; or 6. Who asks
 // for both asks here, once. Any figures and any rates have an answer.
-pub fn floored_charge(figures: Figures, rates: Rates) -> Floored
-    ensures { λ r. ⌜ saidOfFloored r ≡ flooredAnswer figures rates ⌝ }
+pub fn both_charges(figures: Figures, rates: Rates) -> BothCharges
+    ensures { λ r. ⌜ saidOfCharges r ≡ chargesAnswer figures rates ⌝ }
 {
     let prices = rates.prices;
     if prices_out(prices) {
-        return Floored::PriceOut;
+        return BothCharges::PriceOut;
     }
     let general = general_cents(figures, rates);
     let charge = with_floor(reduced_cents(figures, rates), general);
-    Floored::Cents(TwoCharges { charge, general })
+    BothCharges::Cents(TwoCharges { charge, general })
 }

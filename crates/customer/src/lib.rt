@@ -5,9 +5,9 @@
 ghost use mathlib.Core.Path.{_≡_};
 ghost use Rattle.tariff.specs.Answers.{saidOf};
 ghost use Rattle.terms.specs.Basis.{basis};
-ghost use Rattle.terms.specs.Opening.{openAnswer};
+ghost use Rattle.terms.specs.Opening.{customerOpenAnswer};
 ghost use Rattle.customer.specs.Counts.{takenFigures};
-ghost use Rattle.customer.specs.Answers.{openCustomer, dayUnder, dayAnswer, taken, dayCustomer, closeAnswer, decideAnswer, Steps};
+ghost use Rattle.customer.specs.Answers.{openCustomer, dayUnder, customerDayAnswer, customerTaken, dayCustomer, customerCloseAnswer, decideAnswer, Steps};
 ghost use Rattle.customer.specs.Rows.{DayFits};
 use answers::Place;
 use day_figures::Taking;
@@ -18,10 +18,7 @@ use tariff::Prices;
 use terms::Terms;
 use year_figures::YearFigures;
 
-// The highest legal reading of a customer, W.
-const CUSTOMER_MOST: u32 = 1_000_000_000;
-
-// What a day of legal readings can add to the sum: at most 100 of them.
+// What a day of legal readings can add to the sum, which has at most `readings::MOST_READINGS`.
 const DAY_SUM_MOST: u64 = 100_000_000_000;
 
 // A year that is given day by day: the days taken so far, and their figures.
@@ -64,9 +61,13 @@ pub fn decide(
     let YearFigures::All(figures) = collected else {
         return Decision::WrongLength;
     };
-    if CUSTOMER_MOST < figures.peak {
+    if answers::CUSTOMER_MOST < figures.peak {
         let run = Run::Year(rates.year);
-        return Decision::BadReading(legal::first_illegal(run, series, CUSTOMER_MOST));
+        return Decision::BadReading(legal_readings::first_illegal(
+            run,
+            series,
+            answers::CUSTOMER_MOST,
+        ));
     }
     decision::judge(figures, rates)
 }
@@ -86,7 +87,7 @@ fn day_answer(year: u16, seen: u16, sum: u64, day: &[u32]) -> Decision
     if day.len() != readings::day_span(run, seen).len {
         return Decision::WrongLength;
     }
-    let first = legal::first_above(day, CUSTOMER_MOST);
+    let first = legal_readings::first_above(day, answers::CUSTOMER_MOST);
     if first < day.len() {
         return Decision::BadReading(Place {
             day: seen + 1,
@@ -112,7 +113,7 @@ impl Customer {
     // state, on which every day and every closing is 13.
     pub fn open(sheet: &[u8], holidays: &[u16], prices: Prices, option: bool) -> Stepped
         ensures { λ r. ⌜ (let k = basis (now (sheet .entry)) (now (holidays .entry)) prices option in
-            Steps (openAnswer k) (openCustomer k) r) ⌝ }
+            Steps (customerOpenAnswer k) (openCustomer k) r) ⌝ }
     {
         let opened = terms::open(sheet, holidays, prices, option);
         let answer = opened.answer;
@@ -122,7 +123,7 @@ impl Customer {
                 answer,
                 customer: Customer {
                     terms,
-                    seen: 65535,
+                    seen: readings::SHUT_DAYS,
                     figures: tariff::NO_FIGURES,
                 },
             };
@@ -140,7 +141,7 @@ impl Customer {
     // A legal day is taken in: it fits, so that taking it never answers 13 or 4.
     fn add(self, day: &[u32]) -> Customer
         requires { ⌜ DayFits self (now day) ⌝ }
-        ensures { λ r. ⌜ r ≡ taken self (now (day .entry)) ⌝ }
+        ensures { λ r. ⌜ r ≡ customerTaken self (now (day .entry)) ⌝ }
     {
         let terms = self.terms;
         let seen = self.seen;
@@ -161,7 +162,7 @@ impl Customer {
 
     // One day more. Refuses 13, 4, 5 in this order, and then hands back the state as it was.
     pub fn day(self, day: &[u32]) -> Stepped
-        ensures { λ r. ⌜ Steps (dayAnswer self (now (day .entry))) (dayCustomer self (now (day .entry))) r ⌝ }
+        ensures { λ r. ⌜ Steps (customerDayAnswer self (now (day .entry))) (dayCustomer self (now (day .entry))) r ⌝ }
     {
         let answer = day_answer(self.terms.rates.year, self.seen, self.figures.sum, day);
         let Decision::Taken = answer else {
@@ -176,7 +177,7 @@ impl Customer {
 
     // The decision over the days taken: 13 where they are not all in, else as the whole series.
     pub fn close(self) -> Decision
-        ensures { λ r. ⌜ saidOf r ≡ closeAnswer self ⌝ }
+        ensures { λ r. ⌜ saidOf r ≡ customerCloseAnswer self ⌝ }
     {
         let rates = self.terms.rates;
         if self.seen != dates::year_days(rates.year) {

@@ -17,7 +17,7 @@ use Rattle.tariff.specs.declared.Decision.{Decision}
 use Rattle.tariff.specs.declared.Decision.the-variants.{Accepted, Eligible, Taken, YearOut, LevelOut, BadHolidays, WrongLength, BadReading, PriceOut, NoWindow, ShareShort, MoveShort, ReductionShort, Malformed, DayOut}
 use Rattle.tariff.specs.Answers.{saidOf}
 use Rattle.customer.specs.declared.Customer.{Customer}
-use Rattle.customer.specs.Answers.{overfull, dayAnswer, dayCustomer}
+use Rattle.customer.specs.Answers.{overfull, customerDayAnswer, dayCustomer}
 use Rattle.fields.specs.declared.Stage.the-variants as Stage
 use Rattle.fields.specs.declared.Stage.{Stage}
 use Rattle.fields.specs.Stages.{stageOf, dayStage}
@@ -37,8 +37,8 @@ module _ (P : Said → Type 0) (thirteen : P (only 13)) (four : P (only 4)) (fiv
   by-tests false false false true place = five place
   by-tests false false false false place = taken
 
-  pub day-cases : (c : Customer) (day : List ℕ) → P (dayAnswer c day)
-  unfolding dayAnswer nextAnswer
+  pub day-cases : (c : Customer) (day : List ℕ) → P (customerDayAnswer c day)
+  unfolding customerDayAnswer nextAnswer
   day-cases c day =
       let run = Year (c .terms .rates .year) in
       let first = firstAbove customerMost day in
@@ -71,7 +71,7 @@ stage-number DayOut n = refl
 -- the state after a day: the customer's year hands back itself where it refuses the day
 module _ (s : CustomerFile) (day : List ℕ) where
   abbrev said : Said
-  said = dayAnswer (s .customer) day
+  said = customerDayAnswer (s .customer) day
 
   abbrev with : Customer → Stage → CustomerFile
   with c stage = record { field = s .field; head = s .head; customer = c; stage = stage }

@@ -9,12 +9,12 @@ use Rattle.answers.specs.Said.{Said}
 use Rattle.dates.specs.Dates.{yearDays}
 use Rattle.readings.specs.declared.Run.the-variants.{Year}
 use Rattle.customer.specs.declared.Customer.{Customer}
-use Rattle.customer.specs.Answers.{shut, dayAnswer, dayCustomer, closeAnswer}
+use Rattle.customer.specs.Answers.{shutCustomer, customerDayAnswer, dayCustomer, customerCloseAnswer}
 use Rattle.fields.specs.declared.Stage.{Stage}
 use Rattle.fields.specs.declared.Stage.the-variants.{Going}
 use Rattle.fields.specs.Stages.{saidOfStage}
 use Rattle.fields.specs.Machine.{Reader, wants, fed}
-use Rattle.customer_head.specs.Header.{customerLayout, openedIn}
+use Rattle.customer_head.specs.Header.{customerHeadMost, customerLayout, openedIn}
 use Rattle.customer_file.specs.declared.CustomerFile.{CustomerFile}
 
 -- the year is opened once the header's last field is taken
@@ -26,7 +26,7 @@ abbrev pub customerHead : Customer → ℕ → List ℕ → CustomerFile
 customerHead old k head = record { field = k; head = head; customer = openedWith old head k; stage = Going }
 
 abbrev pub customerStart : CustomerFile
-customerStart = record { field = 0; head = replicate 159 0; customer = shut; stage = Going }
+customerStart = record { field = 0; head = replicate customerHeadMost 0; customer = shutCustomer; stage = Going }
 
 abbrev pub customerEnded : CustomerFile → Stage → CustomerFile
 customerEnded s stage = record { field = s .field; head = s .head; customer = s .customer; stage = stage }
@@ -44,7 +44,7 @@ customerReader =
       days = λ s. yearDays (s .customer .terms .rates .year);
       ended = customerEnded;
       headed = λ s head. customerHead (s .customer) (s .field + 1) head;
-      said = λ s day. dayAnswer (s .customer) day;
+      said = λ s day. customerDayAnswer (s .customer) day;
       added = λ s day. record { field = s .field; head = s .head; customer = dayCustomer (s .customer) day; stage = Going };
     }
 
@@ -56,4 +56,4 @@ customerFed s b = fed customerReader s b
 
 -- what it answers: where it stands, and once all days are in, what closing the year says
 abbrev pub answerOf : CustomerFile → Said
-answerOf s = saidOfStage (s .stage) (closeAnswer (s .customer))
+answerOf s = saidOfStage (s .stage) (customerCloseAnswer (s .customer))

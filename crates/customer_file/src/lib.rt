@@ -31,7 +31,7 @@ fn stage_of(decision: Decision) -> Stage
     ensures { λ r. ⌜ r ≡ dayStage (saidOf decision) ⌝ }
 {
     let Decision::BadReading(place) = decision else {
-        let number = figured::of_decision(decision).number as u8;
+        let number = decision_numbers::of_decision(decision).number as u8;
         if number == 0 {
             return Stage::Going;
         }
@@ -108,7 +108,7 @@ impl CustomerFile {
         }
         let k = self.field;
         let mut head = self.head;
-        packed::lay(&mut head, span.start, &b[..span.width]);
+        encoding::lay(&mut head, span.start, &b[..span.width]);
         let number = customer_head::refusal(&head, k);
         if number != 0 {
             return self.ended(Stage::Refused(number));

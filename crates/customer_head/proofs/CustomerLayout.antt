@@ -10,16 +10,16 @@ use borrow.Author.Tests.{eqb-true, leb-true}
 use lib.Dec.{leb, eqb}
 use lib.ListN.{length, getD, take, drop, length-take, length-drop, length-append, List·getD-append, List·getD-map, List·getD-eq-default}
 use lib.Seq.{getD-append-add, length-take-le, getD-take, getD-drop, ext-getD}
-use Rattle.over.specs.Over.{joined, sumOver, allOver, counted, table}
+use Rattle.ranges.specs.Ranges.{joined, sumOver, allOver, numberIf, table}
 use Rattle.holidays.specs.Holidays.{before}
-use Rattle.packed.specs.Bytes.{twoAt}
+use Rattle.encoding.specs.Bytes.{twoAt}
 use Rattle.sheet.specs.Bytes.{sheetSize}
 use Rattle.fields.specs.Layout.{Field, noField, fieldAt, widthAt, layoutOf, startOf, headSize}
 use Rattle.fields.specs.Common.{markField, versionField, yearField, levelField}
-use Rattle.customer_head.specs.Header.{sheetPlace, optionPlace, sheetPart, holidaysPlace, holidayCount, holidaysOf, pricesPlace, seasonField, optionField, countField, holidayOut, holidayField, capacityField, energyField, firstFields, priceFields, customerFields, customerLayout}
-use Rattle.over.proofs.Sums.{sum-none, sum-suc, sum-add, sum-cong}
-use Rattle.over.proofs.Tests.{all-at}
-use Rattle.over.proofs.Tables.{length-table, getD-table}
+use Rattle.customer_head.specs.Header.{customerHeadMost, sheetPlace, optionPlace, sheetPart, holidaysPlace, holidayCount, holidaysOf, pricesPlace, seasonField, optionField, countField, holidayOut, holidayField, capacityField, energyField, firstFields, priceFields, customerFields, customerLayout}
+use Rattle.ranges.proofs.Sums.{sum-none, sum-suc, sum-add, sum-cong}
+use Rattle.ranges.proofs.Tests.{all-at}
+use Rattle.ranges.proofs.Tables.{length-table, getD-table}
 use Rattle.fields.proofs.Bytes.{part-at}
 use Rattle.fields.proofs.Header.{Fits, fits-by}
 
@@ -146,22 +146,22 @@ module _ (b : List ℕ) where
       regroup i = omega arith
 
   -- the number that refuses it
-  pub refusal-first : (k : ℕ) → k < 12 → fieldAt (firstFields b) k .refusal (getD firstStarts k 0) ≡ customerLayout b .refusal k
+  pub refusal-first : (k : ℕ) → k < 12 → fieldAt (firstFields b) k .refusedAt (getD firstStarts k 0) ≡ customerLayout b .refusal k
   unfolding customerLayout layoutOf
   refusal-first k l = rw (first-at k l, first-starts k l)
 
-  pub season-refused : (j : ℕ) → j < 4 → seasonField b .refusal (13 + 12 * j) ≡ customerLayout b .refusal (6 + j)
+  pub season-refused : (j : ℕ) → j < 4 → seasonField b .refusedAt (13 + 12 * j) ≡ customerLayout b .refusal (6 + j)
   season-refused zero l = refusal-first 6 (omega arith)
   season-refused (suc zero) l = refusal-first 7 (omega arith)
   season-refused (suc (suc zero)) l = refusal-first 8 (omega arith)
   season-refused (suc (suc (suc zero))) l = refusal-first 9 (omega arith)
   season-refused (suc (suc (suc (suc j)))) l = absurd (omega arith)
 
-  pub holiday-refused : (j : ℕ) → j < n → counted (holidayOut b j) 3 ≡ customerLayout b .refusal (12 + j)
+  pub holiday-refused : (j : ℕ) → j < n → numberIf (holidayOut b j) 3 ≡ customerLayout b .refusal (12 + j)
   unfolding customerLayout layoutOf holidayField
-  holiday-refused j l = sym (ap (λ (f : Field). f .refusal (sumOver (widthAt fields) (12 + j))) (holiday-at j l))
+  holiday-refused j l = sym (ap (λ (f : Field). f .refusedAt (sumOver (widthAt fields) (12 + j))) (holiday-at j l))
 
-  pub price-refused : (j : ℕ) → j < 4 → fieldAt (priceFields b) j .refusal (pricesPlace b + 4 * j) ≡ customerLayout b .refusal (12 + (n + j))
+  pub price-refused : (j : ℕ) → j < 4 → fieldAt (priceFields b) j .refusedAt (pricesPlace b + 4 * j) ≡ customerLayout b .refusal (12 + (n + j))
   unfolding customerLayout layoutOf
   price-refused j l = rw (price-at j, price-starts j (omega arith))
 
@@ -198,10 +198,10 @@ module _ (b : List ℕ) where
     unfolding customerLayout layoutOf startOf
     start-first = sym (first-starts k l)
 
-  pub refusal-at : (i : ℕ) {k : ℕ} → k ≡ i → i < 12 → fieldAt (firstFields b) i .refusal (getD firstStarts i 0) ≡ customerLayout b .refusal k
+  pub refusal-at : (i : ℕ) {k : ℕ} → k ≡ i → i < 12 → fieldAt (firstFields b) i .refusedAt (getD firstStarts i 0) ≡ customerLayout b .refusal k
   refusal-at i e l = refusal-first i l ∙ ap (customerLayout b .refusal) (sym e)
 
-  pub refusal-season : (k : ℕ) → 6 ≤ k → k < 10 → seasonField b .refusal (13 + 12 * (k - 6)) ≡ customerLayout b .refusal k
+  pub refusal-season : (k : ℕ) → 6 ≤ k → k < 10 → seasonField b .refusedAt (13 + 12 * (k - 6)) ≡ customerLayout b .refusal k
   refusal-season k l m =
       let e : 6 + (k - 6) ≡ k = omega arith in
       season-refused (k - 6) (omega arith) ∙ ap (customerLayout b .refusal) e
@@ -219,7 +219,7 @@ module _ (b : List ℕ) where
       unfolding customerLayout layoutOf
       width-holiday = sym (holiday-widths (holiday k) (omega arith)) ∙ ap (widthAt fields) here
 
-      pub refusal-holiday : counted (holidayOut b (holiday k)) 3 ≡ customerLayout b .refusal k
+      pub refusal-holiday : numberIf (holidayOut b (holiday k)) 3 ≡ customerLayout b .refusal k
       refusal-holiday = holiday-refused (holiday k) (omega arith) ∙ ap (customerLayout b .refusal) here
 
   module _ (k : ℕ) (m : 12 + n ≤ k) where
@@ -235,13 +235,13 @@ module _ (b : List ℕ) where
       unfolding customerLayout layoutOf
       width-price = sym (price-widths (price k) (omega arith)) ∙ ap (widthAt fields) there
 
-      pub refusal-price : fieldAt (priceFields b) (price k) .refusal (pricesPlace b + 4 * price k) ≡ customerLayout b .refusal k
+      pub refusal-price : fieldAt (priceFields b) (price k) .refusedAt (pricesPlace b + 4 * price k) ≡ customerLayout b .refusal k
       refusal-price = price-refused (price k) (omega arith) ∙ ap (customerLayout b .refusal) there
 
     -- a price, or no field
-    pub refusal-rest : fieldAt (priceFields b) (price k) .refusal (startOf (customerLayout b) k) ≡ customerLayout b .refusal k
+    pub refusal-rest : fieldAt (priceFields b) (price k) .refusedAt (startOf (customerLayout b) k) ≡ customerLayout b .refusal k
     unfolding customerLayout layoutOf startOf
-    refusal-rest = sym (ap (λ (f : Field). f .refusal (sumOver (widthAt fields) k)) (ap (fieldAt fields) (sym there) ∙ price-at (price k)))
+    refusal-rest = sym (ap (λ (f : Field). f .refusedAt (sumOver (widthAt fields) k)) (ap (fieldAt fields) (sym there) ∙ price-at (price k)))
 
   module _ (k : ℕ) (m : 16 + n ≤ k) where
     behind : 12 + (n + (4 + (k - 16 - n))) ≡ k
@@ -256,10 +256,10 @@ module _ (b : List ℕ) where
     width-none = sym (no-widths (k - 16 - n)) ∙ ap (widthAt fields) behind
 
   -- every field has a byte, at most twelve, and a header of 159 bytes has room for it
-  pub fits : (k : ℕ) → Fits (customerLayout b) 12 159 k
+  pub fits : (k : ℕ) → Fits (customerLayout b) 12 customerHeadMost k
   fits k = go (decLt k 12) (decLt k (12 + n)) (decLt k (16 + n))
     where
-      go : Dec (k < 12) → Dec (k < 12 + n) → Dec (k < 16 + n) → Fits (customerLayout b) 12 159 k
+      go : Dec (k < 12) → Dec (k < 12 + n) → Dec (k < 16 + n) → Fits (customerLayout b) 12 customerHeadMost k
       go (yes l) h p =
           fits-by count-is (start-first k l) (width-first k l)
           (width-low k l) (omega (arith, start-low k l)) (λ z. omega arith) (λ z. omega (arith, width-some k l))

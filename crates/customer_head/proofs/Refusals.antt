@@ -9,10 +9,10 @@ use native.Mathlib.Omega.{arith}
 use borrow.Author.Tests.{eq-eqb, ne-eqb, leb-true}
 use lib.Dec.{leb, ltb, eqb}
 use lib.ListN.{getD, List·getD-eq-default}
-use Rattle.over.specs.Over.{joined, allOver, counted}
-use Rattle.over.proofs.Tests.{all-at}
+use Rattle.ranges.specs.Ranges.{joined, allOver, numberIf}
+use Rattle.ranges.proofs.Tests.{all-at}
 use Rattle.answers.specs.Ruling.{holidaysMost, yearOut, levelOut, capacityOut, energyOut}
-use Rattle.packed.specs.Bytes.{twoAt, fourAt, unlike, versionOut}
+use Rattle.encoding.specs.Bytes.{twoAt, fourAt, otherMark, versionOut}
 use Rattle.sheet.specs.Bytes.{mark, seasonFull}
 use Rattle.fields.specs.Layout.{Field, noField, fieldAt}
 use Rattle.fields.specs.Common.{markField, versionField, yearField, levelField}
@@ -24,13 +24,13 @@ abbrev pub firstNumbers : List ℕ
 firstNumbers = 12 ∷ 12 ∷ 12 ∷ 12 ∷ 1 ∷ 2 ∷ 12 ∷ 12 ∷ 12 ∷ 12 ∷ 12 ∷ 3 ∷ []
 
 -- a test and its number
-refused-by : (t : Bool) (m : ℕ) {r : ℕ} → 0 < m → counted t m ≡ r → t ≡ not (eqb r 0)
+refused-by : (t : Bool) (m : ℕ) {r : ℕ} → 0 < m → numberIf t m ≡ r → t ≡ not (eqb r 0)
 refused-by true m {r} l e =
     let f : m ≡ r = e in
     sym (ap not (ne-eqb r 0 (λ z. absurd (omega arith))))
 refused-by false m l e = ap (λ (x : ℕ). not (eqb x 0)) e
 
-numbered : (t : Bool) (m : ℕ) → counted (not (eqb (counted t m) 0)) m ≡ counted t m
+numbered : (t : Bool) (m : ℕ) → numberIf (not (eqb (numberIf t m) 0)) m ≡ numberIf t m
 numbered true zero = refl
 numbered true (suc m) = rw (ne-eqb (suc m) 0 (λ z. absurd (omega arith)))
 numbered false m = refl
@@ -45,11 +45,11 @@ module _ (b : List ℕ) where
       (k : ℕ)
       → k < 12
       → (i : ℕ)
-      → counted (not (eqb (fieldAt (firstFields b) k .refusal i) 0)) (getD firstNumbers k 0) ≡ fieldAt (firstFields b) k .refusal i
+      → numberIf (not (eqb (fieldAt (firstFields b) k .refusedAt i) 0)) (getD firstNumbers k 0) ≡ fieldAt (firstFields b) k .refusedAt i
   unfolding markField versionField yearField levelField seasonField optionField countField
-  first-numbers zero l i = numbered (unlike customerMark b i) 12
+  first-numbers zero l i = numbered (otherMark customerMark b i) 12
   first-numbers (suc zero) l i = numbered (versionOut b i) 12
-  first-numbers (suc (suc zero)) l i = numbered (unlike mark b i) 12
+  first-numbers (suc (suc zero)) l i = numbered (otherMark mark b i) 12
   first-numbers (suc (suc (suc zero))) l i = numbered (versionOut b i) 12
   first-numbers (suc (suc (suc (suc zero)))) l i = numbered (yearOut (twoAt b i)) 1
   first-numbers (suc (suc (suc (suc (suc zero))))) l i = numbered (levelOut (getD b i 0)) 2
@@ -61,7 +61,7 @@ module _ (b : List ℕ) where
   first-numbers (suc (suc (suc (suc (suc (suc (suc (suc (suc (suc (suc zero))))))))))) l i = numbered (ltb holidaysMost (getD b i 0)) 3
   first-numbers (suc (suc (suc (suc (suc (suc (suc (suc (suc (suc (suc (suc k)))))))))))) l i = absurd (omega arith)
 
-  pub first-number : (k : ℕ) → k < 12 → counted (not (eqb (customerLayout b .refusal k) 0)) (getD firstNumbers k 0) ≡ customerLayout b .refusal k
+  pub first-number : (k : ℕ) → k < 12 → numberIf (not (eqb (customerLayout b .refusal k) 0)) (getD firstNumbers k 0) ≡ customerLayout b .refusal k
   first-number k l = rw (← (refusal-first b k l)) (first-numbers k l _)
 
   -- the test of field i fails exactly where that field is refused
@@ -69,18 +69,18 @@ module _ (b : List ℕ) where
       (k : ℕ) {t : Bool} (i : ℕ)
       → i < 12
       → k ≡ i
-      → counted t (getD firstNumbers i 0) ≡ fieldAt (firstFields b) i .refusal (getD firstStarts i 0)
+      → numberIf t (getD firstNumbers i 0) ≡ fieldAt (firstFields b) i .refusedAt (getD firstStarts i 0)
       → t ≡ not (eqb (customerLayout b .refusal k) 0)
   fails-at k i l e f = refused-by _ (getD firstNumbers i 0) (number-some i l) (f ∙ refusal-at b i e l)
 
 -- the number of a field, by what the code has found
-pub option-no : (b : List ℕ) (i : ℕ) {x : ℕ} → x ≡ getD b i 0 → counted (ltb 1 x) 12 ≡ optionField b .refusal i
+pub option-no : (b : List ℕ) (i : ℕ) {x : ℕ} → x ≡ getD b i 0 → numberIf (ltb 1 x) 12 ≡ optionField b .refusedAt i
 unfolding optionField
-option-no b i e = ap (λ (x : ℕ). counted (ltb 1 x) 12) e
+option-no b i e = ap (λ (x : ℕ). numberIf (ltb 1 x) 12) e
 
-pub count-no : (b : List ℕ) (i : ℕ) {x : ℕ} → x ≡ getD b i 0 → counted (ltb 40 x) 3 ≡ countField b .refusal i
+pub count-no : (b : List ℕ) (i : ℕ) {x : ℕ} → x ≡ getD b i 0 → numberIf (ltb 40 x) 3 ≡ countField b .refusedAt i
 unfolding countField
-count-no b i e = ap (λ (x : ℕ). counted (ltb 40 x) 3) e
+count-no b i e = ap (λ (x : ℕ). numberIf (ltb 40 x) 3) e
 
 -- the prices: in each row the capacity price, then the energy price
 price-field : (b : List ℕ) (j : ℕ) → j < 4 → cond (eqb (j % 2) 0) (capacityField b) (energyField b) ≡ fieldAt (priceFields b) j
@@ -90,22 +90,22 @@ price-field b (suc (suc zero)) l = refl
 price-field b (suc (suc (suc zero))) l = refl
 price-field b (suc (suc (suc (suc j)))) l = absurd (omega arith)
 
-pub no-price : (b : List ℕ) (i j : ℕ) → 4 ≤ j → 0 ≡ fieldAt (priceFields b) j .refusal i
-no-price b i j l = ap (λ (f : Field). f .refusal i) (sym (List·getD-eq-default (priceFields b) noField l))
+pub no-price : (b : List ℕ) (i j : ℕ) → 4 ≤ j → 0 ≡ fieldAt (priceFields b) j .refusedAt i
+no-price b i j l = ap (λ (f : Field). f .refusedAt i) (sym (List·getD-eq-default (priceFields b) noField l))
 
 module _ (b : List ℕ) (i : ℕ) {t : Bool} where
-  pub season-no : t ≡ seasonFull b i → counted t 12 ≡ seasonField b .refusal i
+  pub season-no : t ≡ seasonFull b i → numberIf t 12 ≡ seasonField b .refusedAt i
   unfolding seasonField
-  season-no e = ap (λ (s : Bool). counted s 12) e
+  season-no e = ap (λ (s : Bool). numberIf s 12) e
 
   module _ (j : ℕ) (l : j < 4) where
-    pub capacity-no : j % 2 ≡ 0 → t ≡ capacityOut (fourAt b i) → counted t 6 ≡ fieldAt (priceFields b) j .refusal i
+    pub capacity-no : j % 2 ≡ 0 → t ≡ capacityOut (fourAt b i) → numberIf t 6 ≡ fieldAt (priceFields b) j .refusedAt i
     unfolding capacityField
-    capacity-no m e = ap (λ (s : Bool). counted s 6) e ∙ ap (λ (f : Field). f .refusal i) (rw (eq-eqb (j % 2) 0 m) at (price-field b j l))
+    capacity-no m e = ap (λ (s : Bool). numberIf s 6) e ∙ ap (λ (f : Field). f .refusedAt i) (rw (eq-eqb (j % 2) 0 m) at (price-field b j l))
 
-    pub energy-no : (j % 2 ≡ 0 → ⊥) → t ≡ energyOut (fourAt b i) → counted t 6 ≡ fieldAt (priceFields b) j .refusal i
+    pub energy-no : (j % 2 ≡ 0 → ⊥) → t ≡ energyOut (fourAt b i) → numberIf t 6 ≡ fieldAt (priceFields b) j .refusedAt i
     unfolding energyField
-    energy-no m e = ap (λ (s : Bool). counted s 6) e ∙ ap (λ (f : Field). f .refusal i) (rw (ne-eqb (j % 2) 0 m) at (price-field b j l))
+    energy-no m e = ap (λ (s : Bool). numberIf s 6) e ∙ ap (λ (f : Field). f .refusedAt i) (rw (ne-eqb (j % 2) 0 m) at (price-field b j l))
 
 -- the test of a season
 pub season-fails :

@@ -6,10 +6,10 @@ use mathlib.Core.List.{List, [], _∷_, _++_}
 use Prim.Native.Nat.{ℕ, _+_, _*_, min}
 use lib.Dec.{ltb, eqb}
 use lib.ListN.{getD}
-use Rattle.over.specs.Over.{counted, table}
+use Rattle.ranges.specs.Ranges.{numberIf, table}
 use Rattle.answers.specs.Ruling.{holidaysMost, capacityOut, energyOut}
 use Rattle.holidays.specs.Holidays.{badEntry}
-use Rattle.packed.specs.Bytes.{twoAt, fourAt, markSize}
+use Rattle.encoding.specs.Bytes.{twoAt, fourAt, markSize, versionSize}
 use Rattle.sheet.specs.Bytes.{mark, yearAt, sheetSize, seasonBytes, seasonFull}
 use Rattle.tariff.specs.declared.Prices.{Prices}
 use Rattle.terms.specs.Basis.{Basis, basis}
@@ -25,7 +25,7 @@ customerMark = 67 ∷ 85 ∷ 83 ∷ []
 
 -- where sheet, option, count and holidays stand
 abbrev pub sheetPlace : ℕ
-sheetPlace = markSize + 2
+sheetPlace = markSize + versionSize
 
 abbrev pub optionPlace : ℕ
 optionPlace = sheetPlace + sheetSize
@@ -35,6 +35,10 @@ countPlace = optionPlace + 1
 
 abbrev pub holidaysPlace : ℕ
 holidaysPlace = countPlace + 1
+
+-- the most bytes that a header has: with forty holidays
+abbrev pub customerHeadMost : ℕ
+customerHeadMost = 159
 
 -- the sheet, its year, and the customer's option
 abbrev pub sheetPart : List ℕ → List ℕ
@@ -60,8 +64,8 @@ pricesPlace b = holidaysPlace + 2 * holidayCount b
 abbrev pub priceOf : List ℕ → ℕ → ℕ
 priceOf b j = fourAt b (pricesPlace b + 4 * j)
 
-abbrev pub pricesOf : List ℕ → Prices
-pricesOf b =
+abbrev pub pricesIn : List ℕ → Prices
+pricesIn b =
     record {
       low = record { capacity = priceOf b 0; energy = priceOf b 1 };
       high = record { capacity = priceOf b 2; energy = priceOf b 3 };
@@ -69,27 +73,27 @@ pricesOf b =
 
 -- a season of the sheet: more than 40 set bits are 12
 unfoldable pub seasonField : List ℕ → Field
-seasonField b = record { width = seasonBytes; refusal = λ i. counted (seasonFull b i) 12 }
+seasonField b = record { width = seasonBytes; refusedAt = λ i. numberIf (seasonFull b i) 12 }
 
 -- "option byte (0 or 1, else 12)"; a count above 40 is 3, and so is a holiday that breaks the list's row
 unfoldable pub optionField : List ℕ → Field
-optionField b = record { width = 1; refusal = λ i. counted (ltb 1 (getD b i 0)) 12 }
+optionField b = record { width = 1; refusedAt = λ i. numberIf (ltb 1 (getD b i 0)) 12 }
 
 unfoldable pub countField : List ℕ → Field
-countField b = record { width = 1; refusal = λ i. counted (ltb holidaysMost (getD b i 0)) 3 }
+countField b = record { width = 1; refusedAt = λ i. numberIf (ltb holidaysMost (getD b i 0)) 3 }
 
 abbrev pub holidayOut : List ℕ → ℕ → Bool
 holidayOut b j = badEntry (customerYear b) (holidaysOf b) j
 
 unfoldable pub holidayField : List ℕ → ℕ → Field
-holidayField b j = record { width = 2; refusal = λ i. counted (holidayOut b j) 3 }
+holidayField b j = record { width = 2; refusedAt = λ i. numberIf (holidayOut b j) 3 }
 
 -- a capacity price, and an energy price, above its limit is 6
 unfoldable pub capacityField : List ℕ → Field
-capacityField b = record { width = 4; refusal = λ i. counted (capacityOut (fourAt b i)) 6 }
+capacityField b = record { width = 4; refusedAt = λ i. numberIf (capacityOut (fourAt b i)) 6 }
 
 unfoldable pub energyField : List ℕ → Field
-energyField b = record { width = 4; refusal = λ i. counted (energyOut (fourAt b i)) 6 }
+energyField b = record { width = 4; refusedAt = λ i. numberIf (energyOut (fourAt b i)) 6 }
 
 -- the fields of the header, in order: mark and version, the sheet's fields, option and count; the holidays; the prices
 abbrev pub firstFields : List ℕ → List Field
@@ -119,7 +123,7 @@ customerLayout b = layoutOf (customerFields b)
 
 -- the basis that the header states, and the year that it opens
 abbrev pub basisIn : List ℕ → Basis
-basisIn b = basis (sheetPart b) (holidaysOf b) (pricesOf b) (optionOf b)
+basisIn b = basis (sheetPart b) (holidaysOf b) (pricesIn b) (optionOf b)
 
 unfoldable pub openedIn : List ℕ → Customer
 openedIn b = openCustomer (basisIn b)

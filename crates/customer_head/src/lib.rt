@@ -6,10 +6,10 @@ ghost use mathlib.Core.Bool.{not};
 ghost use Prim.Native.Nat.{_≤_, _<_, min};
 ghost use lib.Dec.{eqb};
 ghost use lib.ListN.{take};
-ghost use Rattle.over.specs.Over.{counted};
+ghost use Rattle.ranges.specs.Ranges.{numberIf};
 ghost use Rattle.holidays.specs.Holidays.{before};
 ghost use Rattle.fields.specs.Layout.{fieldAt, fieldSpan};
-ghost use Rattle.customer_head.specs.Header.{holidayCount, holidaysOf, pricesOf, holidayOut, priceFields, customerLayout, openedIn};
+ghost use Rattle.customer_head.specs.Header.{holidayCount, holidaysOf, pricesIn, holidayOut, priceFields, customerLayout, openedIn};
 use customer::Customer;
 use fields::Span;
 use tariff::Prices;
@@ -67,7 +67,7 @@ fn count_of(head: &[u8]) -> usize
 {
     least(
         answers::HOLIDAYS_MOST,
-        packed::byte_at(head, COUNT_AT, 0) as usize,
+        encoding::byte_at(head, COUNT_AT, 0) as usize,
     )
 }
 
@@ -108,30 +108,30 @@ fn first_fails(head: &[u8], k: usize) -> bool
     ensures { λ r. ⌜ r ≡ not (eqb (customerLayout (now (head .entry)) .refusal k) 0) ⌝ }
 {
     if k < 1 {
-        return packed::unlike(head, 0, b"CUS");
+        return encoding::other_mark(head, 0, b"CUS");
     }
     if k < 2 {
-        return packed::two_at(head, VERSION_AT) != packed::VERSION;
+        return encoding::two_at(head, VERSION_AT) != encoding::VERSION;
     }
     if k < 3 {
-        return packed::unlike(head, SHEET_AT, b"HLZ");
+        return encoding::other_mark(head, SHEET_AT, b"HLZ");
     }
     if k < 4 {
-        return packed::two_at(head, SHEET_VERSION_AT) != packed::VERSION;
+        return encoding::two_at(head, SHEET_VERSION_AT) != encoding::VERSION;
     }
     if k < 5 {
-        return answers::year_out(packed::two_at(head, YEAR_AT));
+        return answers::year_out(encoding::two_at(head, YEAR_AT));
     }
     if k < 6 {
-        return answers::level_out(packed::byte_at(head, LEVEL_AT, 0));
+        return answers::level_out(encoding::byte_at(head, LEVEL_AT, 0));
     }
     if k < 10 {
         return sheet_read::season_full(head, SEASONS_AT + 12 * (k - 6));
     }
     if k < 11 {
-        return 1 < packed::byte_at(head, OPTION_AT, 0);
+        return 1 < encoding::byte_at(head, OPTION_AT, 0);
     }
-    answers::HOLIDAYS_MOST < packed::byte_at(head, COUNT_AT, 0) as usize
+    answers::HOLIDAYS_MOST < encoding::byte_at(head, COUNT_AT, 0) as usize
 }
 
 // The holiday before holiday j; 0 before the first.
@@ -142,26 +142,29 @@ fn holiday_before(head: &[u8], j: usize) -> u16
     if j == 0 {
         return 0;
     }
-    packed::two_at(head, HOLIDAYS_AT + HOLIDAY_BYTES * (j - 1))
+    encoding::two_at(head, HOLIDAYS_AT + HOLIDAY_BYTES * (j - 1))
 }
 
 fn holiday_no(head: &[u8], j: usize) -> u8
     requires { ⌜ j < holidayCount (now head) ⌝ }
-    ensures { λ r. ⌜ r ≡ counted (holidayOut (now (head .entry)) j) 3 ⌝ }
+    ensures { λ r. ⌜ r ≡ numberIf (holidayOut (now (head .entry)) j) 3 ⌝ }
 {
-    let day = packed::two_at(head, HOLIDAYS_AT + HOLIDAY_BYTES * j);
+    let day = encoding::two_at(head, HOLIDAYS_AT + HOLIDAY_BYTES * j);
     let last = holiday_before(head, j);
-    fields::number_if(holidays::unfit(packed::two_at(head, YEAR_AT), last, day), 3)
+    fields::number_if(
+        holidays::bad_holiday(encoding::two_at(head, YEAR_AT), last, day),
+        3,
+    )
 }
 
 // Price j, at place i: in each row the capacity price, then the energy price. Behind the last price there is none.
 fn price_no(head: &[u8], i: usize, j: usize) -> u8
-    ensures { λ r. ⌜ r ≡ fieldAt (priceFields (now (head .entry))) j .refusal i ⌝ }
+    ensures { λ r. ⌜ r ≡ fieldAt (priceFields (now (head .entry))) j .refusedAt i ⌝ }
 {
     if PRICE_FIELDS <= j {
         return 0;
     }
-    let price = packed::four_at(head, i);
+    let price = encoding::four_at(head, i);
     if j % 2 == 0 {
         return fields::number_if(answers::capacity_out(price), 6);
     }
@@ -187,23 +190,23 @@ fn holidays_of(head: &[u8]) -> [u16; answers::HOLIDAYS_MOST]
 {
     let mut out = [0; answers::HOLIDAYS_MOST];
     for j in 0..count_of(head) {
-        out[j] = packed::two_at(head, HOLIDAYS_AT + HOLIDAY_BYTES * j);
+        out[j] = encoding::two_at(head, HOLIDAYS_AT + HOLIDAY_BYTES * j);
     }
     out
 }
 
 // "The low row's capacity price and energy price, then the high row's."
 fn prices_of(head: &[u8]) -> Prices
-    ensures { λ r. ⌜ r ≡ pricesOf (now (head .entry)) ⌝ }
+    ensures { λ r. ⌜ r ≡ pricesIn (now (head .entry)) ⌝ }
 {
     let at = HOLIDAYS_AT + HOLIDAY_BYTES * count_of(head);
     let low = Row {
-        capacity: packed::four_at(head, at),
-        energy: packed::four_at(head, at + 4),
+        capacity: encoding::four_at(head, at),
+        energy: encoding::four_at(head, at + 4),
     };
     let high = Row {
-        capacity: packed::four_at(head, at + 8),
-        energy: packed::four_at(head, at + 12),
+        capacity: encoding::four_at(head, at + 8),
+        energy: encoding::four_at(head, at + 12),
     };
     Prices { low, high }
 }
@@ -215,7 +218,7 @@ pub fn opened(head: &[u8]) -> Customer
     let n = count_of(head);
     let list = holidays_of(head);
     let prices = prices_of(head);
-    let option = packed::byte_at(head, OPTION_AT, 0) == 1;
+    let option = encoding::byte_at(head, OPTION_AT, 0) == 1;
     let from = least(SHEET_AT, head.len());
     let to = least(OPTION_AT, head.len());
     let step = Customer::open(&head[from..to], &list[..n], prices, option);

@@ -2,24 +2,24 @@
 // Document 01, Two programs.
 ghost use mathlib.Core.Path.{_≡_};
 ghost use Prim.Native.Nat.{_≤_};
-ghost use Rattle.flat.specs.Flat.{flatOf};
+ghost use Rattle.answer_numbers.specs.Numbers.{numbersOf};
 ghost use Rattle.lines.specs.Text.{Put};
 ghost use Rattle.customer_file.specs.CustomerMachine.{answerOf};
 ghost use Rattle.customer_text.specs.Text.{customerText};
+use answer_numbers::Numbers;
 use customer_file::CustomerFile;
 use fields::Stage;
-use flat::Flat;
 
 // What the file is answered; 13 while the machine goes on.
-fn answer(file: CustomerFile) -> Flat
-    ensures { λ r. ⌜ (r ≡ flatOf (answerOf file)) × (r .count ≤ 7) ⌝ }
+fn answer(file: CustomerFile) -> Numbers
+    ensures { λ r. ⌜ (r ≡ numbersOf (answerOf file)) × (r .count ≤ 7) ⌝ }
 {
     let stage = file.stage;
     match stage {
-        Stage::Going => flat::bare(13),
-        Stage::Refused(number) => flat::bare(number as u64),
-        Stage::BadReading(place) => flat::with_place(place),
-        Stage::Complete => figured::of_decision(file.customer.close()),
+        Stage::Going => answer_numbers::only(13),
+        Stage::Refused(number) => answer_numbers::only(number as u64),
+        Stage::BadReading(place) => answer_numbers::with_place(place),
+        Stage::Complete => decision_numbers::of_decision(file.customer.close()),
     }
 }
 
@@ -29,6 +29,6 @@ pub fn text(file: CustomerFile, out: &mut [u8]) -> usize
 {
     let listed = answer(file);
     let n = listed.count as usize + 1;
-    let line = flat::line_of(listed);
+    let line = answer_numbers::line_of(listed);
     lines::figures_text(&line[..n], out)
 }

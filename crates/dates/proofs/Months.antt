@@ -11,10 +11,10 @@ use native.Mathlib.Omega.{arith}
 use borrow.Author.Tests.{lt-ltb, le-ltb, ltb-true, eqb-true}
 use lib.Dec.{ltb, eqb}
 use lib.ListN.{getD}
-use Rattle.over.specs.Limits.{Within}
-use Rattle.over.specs.Over.{joined, sumOver, countOver, allOver}
-use Rattle.over.proofs.Sums.{sum-add}
-use Rattle.over.proofs.Tests.{count-le, count-all, count-fails, count-add, count-cong, all-at}
+use Rattle.ranges.specs.Limits.{Within}
+use Rattle.ranges.specs.Ranges.{joined, sumOver, countOver, allOver}
+use Rattle.ranges.proofs.Sums.{sum-add}
+use Rattle.ranges.proofs.Tests.{count-le, count-all, count-fails, count-add, count-cong, all-at}
 use Rattle.dates.specs.Dates.{leapDay, yearDays, monthDays, daysTo, dayOf, monthOf, monthLeft}
 use Rattle.dates.proofs.Leaps.{by-leap}
 

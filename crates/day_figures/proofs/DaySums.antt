@@ -5,11 +5,11 @@ use mathlib.Core.List.{List}
 use Prim.Native.Nat.{ℕ, _+_, _*_, _≤_, _<_}
 use native.Mathlib.Omega.{arith}
 use lib.ListN.{length, getD}
-use Rattle.over.specs.Over.{sumOver}
-use Rattle.over.proofs.Largest.{largest-above}
-use Rattle.over.proofs.Sums.{sum-none, sum-more, sum-add}
+use Rattle.ranges.specs.Ranges.{sumOver}
+use Rattle.ranges.proofs.Largest.{largest-above}
+use Rattle.ranges.proofs.Sums.{sum-none, sum-more, sum-add}
 use Rattle.readings.specs.Legal.{highestOf}
-use Rattle.day_figures.specs.Within.{fourEnd}
+use Rattle.day_figures.specs.Passes.{fourEnd}
 
 -- what a pass over the first p places of each fourth of 4 n values keeps
 pub record Fourths (f : ℕ → ℕ) (n sum p : ℕ) : Type 0 where

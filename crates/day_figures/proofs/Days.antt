@@ -8,8 +8,8 @@ use Prim.Native.Nat.{ℕ, zero, suc, _+_, _*_, _≤_, _<_}
 use native.Mathlib.Numerals.{add-one}
 use native.Mathlib.Omega.{arith}
 use lib.ListN.{getD}
-use Rattle.over.specs.Over.{sumOver}
-use Rattle.over.proofs.Sums.{sum-le}
+use Rattle.ranges.specs.Ranges.{sumOver}
+use Rattle.ranges.proofs.Sums.{sum-le}
 use Rattle.readings.specs.declared.Run.{Run}
 use Rattle.readings.specs.Runs.{dayLen, reading}
 use Rattle.readings.proofs.Runs.{len-most}
@@ -17,7 +17,7 @@ use Rattle.tariff.specs.declared.Figures.{Figures}
 use Rattle.figures.specs.Figures.{sumOf, figuresOf, recordOf, takenIn}
 use Rattle.figures.proofs.Taken.{record-cong, taken-more}
 use Rattle.day_figures.specs.Day.{inRow, alone, withDay, dayMost, rowIf, withDays}
-use Rattle.day_figures.specs.Within.{allOnes}
+use Rattle.day_figures.specs.Passes.{allOnes}
 
 -- a day adds at most 100 readings of 32 bits, and so does each of the first n days
 day-most : (run : Run) (d : ℕ) (at : ℕ → ℕ) → ((p : ℕ) → at p ≤ allOnes) → sumOver at (dayLen run d) ≤ dayMost

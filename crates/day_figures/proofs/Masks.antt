@@ -8,14 +8,14 @@ use native.Mathlib.Decide.{decLt}
 use native.Mathlib.Omega.{arith}
 use lib.ListN.{length, getD, set, replicate, length-set, length-replicate, getD-replicate, List·getD-eq-default}
 use lib.Seq.{getD-set-same, getD-set-other}
-use Rattle.over.specs.Over.{counted}
-use Rattle.over.proofs.Tables.{is-table}
+use Rattle.ranges.specs.Ranges.{numberIf}
+use Rattle.ranges.proofs.Tables.{is-table}
 use Rattle.answers.specs.Ruling.{dayQuarters}
-use Rattle.day_figures.specs.Within.{allOnes, masksOf}
+use Rattle.day_figures.specs.Passes.{allOnes, masksOf}
 
 module _ (row : List Bool) where
   abbrev maskAt : ℕ → ℕ
-  maskAt k = counted (getD row k false) allOnes
+  maskAt k = numberIf (getD row k false) allOnes
 
   -- the masks of the first q quarters are made
   pub record Made (q : ℕ) (out : List ℕ) : Type 0 where
@@ -60,4 +60,4 @@ module _ (row : List Bool) where
       go : (k : ℕ) → k < dayQuarters → Dec (k < q) → getD out k 0 ≡ maskAt k
       go k b (yes c) = m .each k c
       go k b (no c) =
-          m .rest k (omega arith) ∙ sym (ap (λ (s : Bool). counted s allOnes) (List·getD-eq-default row false {n = k} (omega arith)))
+          m .rest k (omega arith) ∙ sym (ap (λ (s : Bool). numberIf s allOnes) (List·getD-eq-default row false {n = k} (omega arith)))

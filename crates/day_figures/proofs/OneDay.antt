@@ -11,13 +11,13 @@ use borrow.Author.Tests.{lt-ltb, le-ltb}
 use lib.Bits.{bitAnd, and-mask, and-zero-r}
 use lib.Dec.{ltb, eqb}
 use lib.ListN.{length, getD}
-use Rattle.over.specs.Over.{largestOver, sumOver, anyOver, firstOver, counted, largestIn, placeIn, table}
-use Rattle.over.proofs.Bools.{decided, both}
-use Rattle.over.proofs.Largest.{largest-cong}
-use Rattle.over.proofs.Tests.{any-at, any-fails, all-passed}
-use Rattle.over.proofs.First.{first-holds}
-use Rattle.over.proofs.Tables.{getD-table}
-use Rattle.over.proofs.Inside.{place-in}
+use Rattle.ranges.specs.Ranges.{largestOver, sumOver, anyOver, firstOver, numberIf, largestIn, placeIn, table}
+use Rattle.ranges.proofs.Bools.{decided, both}
+use Rattle.ranges.proofs.Largest.{largest-cong}
+use Rattle.ranges.proofs.Tests.{any-at, any-fails, all-passed}
+use Rattle.ranges.proofs.First.{first-holds}
+use Rattle.ranges.proofs.Tables.{getD-table}
+use Rattle.ranges.proofs.Inside.{place-in}
 use Rattle.answers.specs.Ruling.{dayQuarters}
 use Rattle.readings.specs.declared.Run.{Run}
 use Rattle.readings.specs.Legal.{highestOf}
@@ -27,10 +27,10 @@ use Rattle.tariff.specs.declared.Figures.{Figures}
 use Rattle.figures.specs.Figures.{anyOn, highOn, quarterOn, DayRecord, recordOf, better, takenIn}
 use Rattle.day_figures.specs.declared.Tops.{Tops}
 use Rattle.day_figures.specs.Day.{alone, inRow, rowIf}
-use Rattle.day_figures.specs.Within.{topsOf, allOnes, masksOf, someLeft, maskedHigh, plainly}
+use Rattle.day_figures.specs.Passes.{topsOf, allOnes, masksOf, someLeft, maskedHigh, plainly}
 
 -- a mask leaves a reading of 32 bits where the quarter is set, and else nothing
-mask-leaves : (b : Bool) (v : ℕ) → v ≤ allOnes → bitAnd v (counted b allOnes) ≡ counted b v
+mask-leaves : (b : Bool) (v : ℕ) → v ≤ allOnes → bitAnd v (numberIf b allOnes) ≡ numberIf b v
 mask-leaves true v l = and-mask v 32 ∙ mod-eq-of-lt (omega arith)
 mask-leaves false v l = and-zero-r v
 
@@ -39,11 +39,11 @@ module _ (run : Run) (row : List Bool) (d : ℕ) where
       (p v : ℕ)
       → p < dayLen run d
       → v ≤ allOnes
-      → bitAnd v (getD (masksOf row) (quarterOf run d p) 0) ≡ counted (inRow run row d p) v
+      → bitAnd v (getD (masksOf row) (quarterOf run d p) 0) ≡ numberIf (inRow run row d p) v
   unfolding masksOf
   masked-is p v l s =
       let q = quarterOf run d p in
-      ap (bitAnd v) (getD-table (λ k. counted (getD row k false) allOnes) dayQuarters q 0 (quarter-in run d p l))
+      ap (bitAnd v) (getD-table (λ k. numberIf (getD row k false) allOnes) dayQuarters q 0 (quarter-in run d p l))
       ∙ mask-leaves (getD row q false) v s
 
   -- what the masks leave of a day's readings is what counts
@@ -62,11 +62,11 @@ module _ (run : Run) (row : List Bool) (d : ℕ) where
 unset : (row : List Bool) (q : ℕ) → someLeft (masksOf row) ≡ false → q < dayQuarters → getD row q false ≡ false
 unfolding masksOf someLeft
 unset row q h l =
-    let mask : ℕ → ℕ = λ k. counted (getD row k false) allOnes in
+    let mask : ℕ → ℕ = λ k. numberIf (getD row k false) allOnes in
     let none = all-passed (λ k. ltb 0 (getD (table mask dayQuarters) k 0)) dayQuarters h .fails q l in
     go (getD row q false) (rw (getD-table mask dayQuarters q 0 l) at none)
   where
-    go : (b : Bool) → ltb 0 (counted b allOnes) ≡ false → b ≡ false
+    go : (b : Bool) → ltb 0 (numberIf b allOnes) ≡ false → b ≡ false
     go false e = refl
     go true e = e
 

@@ -8,12 +8,12 @@ ghost use Prim.Native.Nat.{ℕ, _+_, _%_, _≤_, _<_, min};
 ghost use lib.Bits.{bitAnd};
 ghost use lib.Dec.{eqb};
 ghost use lib.ListN.{length, getD};
-ghost use Rattle.over.specs.Over.{firstOver, counted};
+ghost use Rattle.ranges.specs.Ranges.{firstOver, numberIf};
 ghost use Rattle.answers.specs.Ruling.{dayQuarters};
 ghost use Rattle.readings.specs.Runs.{dayLen};
 ghost use Rattle.readings.specs.Legal.{highestOf};
 ghost use Rattle.day_figures.specs.Day.{alone, inRow, withDay, dayMost, sumEnd, daysOut, dayTaken, rowIf, daysTaken};
-ghost use Rattle.day_figures.specs.Within.{fourEnd, allOnes, masksOf, someLeft, maskedHigh, topsOf, plainly, Fits, DaySum};
+ghost use Rattle.day_figures.specs.Passes.{fourEnd, allOnes, masksOf, someLeft, maskedHigh, topsOf, plainly, Fits, DaySum};
 use readings::Run;
 use tariff::Figures;
 
@@ -99,13 +99,13 @@ fn tops_of(day: &[u32]) -> Tops
     requires { ⌜ length (now day) ≤ 100 ⌝ }
     ensures { λ r. ⌜ (r ≡ topsOf (now (day .entry))) × (r .sum ≤ dayMost) ⌝ }
 {
-    let peak = legal::highest(day);
+    let peak = legal_readings::highest(day);
     let sum = sum_of(day, peak);
     Tops { peak, sum }
 }
 
 fn mask_if(set: bool) -> u32
-    ensures { λ r. ⌜ r ≡ counted set allOnes ⌝ }
+    ensures { λ r. ⌜ r ≡ numberIf set allOnes ⌝ }
 {
     if set { ALL_ONES } else { 0 }
 }
@@ -122,10 +122,10 @@ fn row_end(row: &[bool]) -> usize
 }
 
 // The row as masks of 32 bits, all ones where a quarter is set: no reading widens them then.
-fn masks_of(row: &[bool]) -> [u32; 96]
+fn masks_of(row: &[bool]) -> [u32; answers::DAY_QUARTERS]
     ensures { λ r. ⌜ r ≡ masksOf (now (row .entry)) ⌝ }
 {
-    let mut out = [0; 96];
+    let mut out = [0; answers::DAY_QUARTERS];
     for q in 0..row_end(row) {
         out[q] = mask_if(row[q]);
     }
@@ -133,7 +133,7 @@ fn masks_of(row: &[bool]) -> [u32; 96]
 }
 
 // Does any mask leave something? No way out of the loop, so that it costs next to nothing.
-fn some_left(masks: &[u32; 96]) -> bool
+fn some_left(masks: &[u32; answers::DAY_QUARTERS]) -> bool
     ensures { λ r. ⌜ r ≡ someLeft (now (masks .entry)) ⌝ }
 {
     let mut any = false;
@@ -151,13 +151,13 @@ fn masked(reading: u32, mask: u32) -> u32
 }
 
 // The highest reading of day d that the masks leave.
-fn masked_high(masks: &[u32; 96], run: Run, d: u16, day: &[u32]) -> u32
+fn masked_high(masks: &[u32; answers::DAY_QUARTERS], run: Run, d: u16, day: &[u32]) -> u32
     requires { ⌜ length (now day) ≡ dayLen run d ⌝ }
     ensures { λ r. ⌜ r ≡ maskedHigh (now (masks .entry)) run d (now (day .entry)) ⌝ }
 {
     let mut high = 0;
     for p in 0..day.len() {
-        high = legal::larger(high, masked(day[p], masks[readings::quarter_of(run, d, p)]));
+        high = legal_readings::larger(high, masked(day[p], masks[readings::quarter_of(run, d, p)]));
     }
     high
 }
@@ -189,7 +189,7 @@ fn take_plain(f: Figures, t: Tops) -> Figures
     ensures { λ r. ⌜ r ≡ plainly f t ⌝ }
 {
     Figures {
-        peak: legal::larger(f.peak, t.peak),
+        peak: legal_readings::larger(f.peak, t.peak),
         sum: f.sum + t.sum,
         any: f.any,
         high: f.high,
@@ -213,7 +213,7 @@ fn take_masked(
     run: Run,
     d: u16,
     row: &[bool],
-    masks: &[u32; 96],
+    masks: &[u32; answers::DAY_QUARTERS],
     day: &[u32],
 ) -> Figures
     requires { ⌜ Fits f run d (now day) next × (now masks ≡ masksOf (now row)) ⌝ }
@@ -248,7 +248,7 @@ fn take_fit(
     flag: bool,
     some: bool,
     row: &[bool],
-    masks: &[u32; 96],
+    masks: &[u32; answers::DAY_QUARTERS],
     day: &[u32],
 ) -> Figures
     requires { ⌜ Fits f run d (now day) next × (now masks ≡ masksOf (now row)) × (some ≡ someLeft (now masks)) ⌝ }

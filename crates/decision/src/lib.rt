@@ -9,10 +9,10 @@ ghost use Rattle.tariff.specs.declared.Rates.{Rates};
 ghost use Rattle.tariff.specs.Answers.{saidOf, plainOf, peaksOf};
 ghost use Rattle.tariff.specs.Charges.{general, chargesOf};
 ghost use Rattle.tariff.specs.Decision.{moved, shareShort, eligibleRules, chargeRules, eligibleAnswer, chargeAnswer, judgeAnswer};
+use tariff::BothCharges;
 use tariff::Charged;
 use tariff::Decision;
 use tariff::Figures;
-use tariff::Floored;
 use tariff::General;
 use tariff::Peaks;
 use tariff::Plain;
@@ -143,8 +143,8 @@ pub fn eligible(figures: Figures, rates: Rates) -> Decision
 pub fn charge(figures: Figures, rates: Rates) -> Decision
     ensures { λ r. ⌜ saidOf r ≡ chargeAnswer figures rates ⌝ }
 {
-    let asked = charges::floored_charge(figures, rates);
-    let Floored::Cents(both) = asked else {
+    let asked = charges::both_charges(figures, rates);
+    let BothCharges::Cents(both) = asked else {
         return Decision::PriceOut;
     };
     charge_rules(figures, both)
@@ -159,8 +159,8 @@ pub fn judge(figures: Figures, rates: Rates) -> Decision
     if answers::level_out(rates.level) {
         return Decision::LevelOut;
     }
-    let asked = charges::floored_charge(figures, rates);
-    let Floored::Cents(both) = asked else {
+    let asked = charges::both_charges(figures, rates);
+    let BothCharges::Cents(both) = asked else {
         return Decision::PriceOut;
     };
     let first = eligible_rules(figures, rates, both.general);

@@ -38,8 +38,8 @@ placed-same {a} {b} {First} one e c d = go (ℕ-discrete (a .number) 5)
     named : NamesFirst a First → NamesFirst b First → a ≡ b
     named x y =
         let p = one (x .on) (x .at) (y .on) (y .at) (x .first) (y .first) in
-        let same : a .carries ≡ b .carries = x .named ∙ (λ i. (p .0 i + 1) ∷ p .1 i ∷ []) ∙ sym (y .named) in
-        λ i. record { number = e i; carries = same i }
+        let same : a .figures ≡ b .figures = x .named ∙ (λ i. (p .0 i + 1) ∷ p .1 i ∷ []) ∙ sym (y .named) in
+        λ i. record { number = e i; figures = same i }
 
     go : Dec (a .number ≡ 5) → a ≡ b
     go (yes z) = named (c .place z) (d .place (sym e ∙ z))

@@ -9,9 +9,9 @@ use native.Mathlib.Omega.{arith}
 use borrow.Author.Tests.{eq-eqb, ne-eqb}
 use lib.Dec.{ltb, eqb}
 use lib.ListN.{length, getD, take, drop}
-use Rattle.over.specs.Limits.{Within}
-use Rattle.over.specs.Over.{table}
-use Rattle.over.proofs.Tables.{getD-table, table-cong}
+use Rattle.ranges.specs.Limits.{Within}
+use Rattle.ranges.specs.Ranges.{table}
+use Rattle.ranges.proofs.Tables.{getD-table, table-cong}
 use Rattle.answers.specs.Ruling.{dayQuarters, gridMost}
 use Rattle.answers.specs.Said.{Said, only, orElse}
 use Rattle.periods.specs.Period.{periodDays}
@@ -21,16 +21,16 @@ use Rattle.readings.specs.Legal.{highestOf}
 use Rattle.readings.specs.Days.{seriesAnswer}
 use Rattle.readings.proofs.Days.{next-exactly}
 use Rattle.sheet.specs.declared.Sheet.{Sheet}
-use Rattle.sheet.specs.Windows.{seasons, places, isSet}
+use Rattle.sheet.specs.Windows.{seasons, windowPlaces, isSet}
 use Rattle.sheet.specs.Bytes.{sheetSize}
-use Rattle.sheet.specs.Answers.{SheetRead, readOf, writeAnswer, written}
+use Rattle.sheet.specs.Answers.{ReadSaid, readOf, writeAnswer, written}
 use Rattle.sheet.proofs.Windows.{set-at, length-flat}
 use Rattle.sheet.proofs.Exactly.{read-exactly, write-exactly}
 use Rattle.sheet.proofs.Back.{buffer-read}
 use Rattle.windows.specs.Chosen.{kept, curveOf, curvesOf}
 use Rattle.windows.proofs.Forty.{chosen-at}
 use Rattle.grid_curves.specs.Curves.{curveAt, flatCurves}
-use Rattle.grid.specs.Answers.{openAnswer, sheetOf, finishAnswer, finished, windowsAnswer, windowsBuffer}
+use Rattle.grid.specs.Answers.{gridOpenAnswer, sheetOf, finishAnswer, finished, windowsAnswer, windowsBuffer}
 use Rattle.grid.specs.Rows.{periodPeak}
 use Rattle.grid_curves.proofs.Curves.{peak-curves}
 use Rattle.grid.proofs.Exactly.{open-exactly, close-exactly, windows-exactly}
@@ -96,7 +96,7 @@ curve-is y xs s h =
     ∙ table-cong _ (curveAt y xs (periodDays y) s) dayQuarters (λ q l.
     let a : (dayQuarters * (s - 1) + q) / dayQuarters + 1 ≡ s = omega arith in
     let b : (dayQuarters * (s - 1) + q) % dayQuarters ≡ q = omega arith in
-    getD-table (λ i. curveAt y xs (periodDays y) (i / dayQuarters + 1) (i % dayQuarters)) places (dayQuarters * (s - 1) + q) 0 (omega arith) ∙ rw (a, b))
+    getD-table (λ i. curveAt y xs (periodDays y) (i / dayQuarters + 1) (i % dayQuarters)) windowPlaces (dayQuarters * (s - 1) + q) 0 (omega arith) ∙ rw (a, b))
 
 -- an accepted series
 module _ (y level : ℕ) (xs buffer : List ℕ) (z : windowsAnswer y level xs (length buffer) .number ≡ 0) where
@@ -110,7 +110,7 @@ module _ (y level : ℕ) (xs buffer : List ℕ) (z : windowsAnswer y level xs (l
   unfolding windowsAnswer
   finish-is =
       let a = otherwise (ltb (length buffer) sheetSize) 14 _ (omega arith) z in
-      let b = second (openAnswer y level) _ (sym (number-is a) ∙ z) in
+      let b = second (gridOpenAnswer y level) _ (sym (number-is a) ∙ z) in
       let c = second (seriesAnswer (Period y) gridMost xs) _ (sym (number-is (a ∙ b)) ∙ z) in
       a ∙ b ∙ c
 
@@ -144,11 +144,11 @@ unfolding sheetOf
 to-the-quarter-hour y level xs buffer z =
     let r = reads y level xs buffer z in
     record {
-      accepted = ap (λ (x : SheetRead). x .answer) r;
-      year-is = ap (λ (x : SheetRead). x .sheet .year) r;
-      level-is = ap (λ (x : SheetRead). x .sheet .level) r;
+      accepted = ap (λ (x : ReadSaid). x .answer) r;
+      year-is = ap (λ (x : ReadSaid). x .sheet .year) r;
+      level-is = ap (λ (x : ReadSaid). x .sheet .level) r;
       windows-are = λ s q h l peak c i j.
-          let shown = ap (λ (x : SheetRead). isSet (x .sheet .windows) s q) r ∙ window-is y level xs buffer z s q h l in
+          let shown = ap (λ (x : ReadSaid). isSet (x .sheet .windows) s q) r ∙ window-is y level xs buffer z s q h l in
           rw (shown, ← peak-one y xs peak i)
           (kept-plain peak c (curveIn y xs s) (λ p m. curve-one y xs s c j p m ∙ sym (getD-table (curveAt y xs (periodDays y) s) dayQuarters p 0 m)) q l);
       rest-stays = ap (drop sheetSize) (buffer-is y level xs buffer z) ∙ rest-stays (laid y level xs buffer z) buffer (accepts y level xs buffer z);

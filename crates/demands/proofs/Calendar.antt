@@ -9,12 +9,12 @@ use native.Mathlib.Omega.{arith}
 use borrow.Author.Tests.{lt-leb, leb-false, eq-eqb, eqb-true}
 use lib.Dec.{leb, eqb}
 use lib.ListN.{getD}
-use Rattle.over.specs.Over.{bit}
-use Rattle.over.proofs.Bools.{decided, both, pair, neither, clash}
+use Rattle.ranges.specs.Ranges.{bit}
+use Rattle.ranges.proofs.Bools.{decided, both, pair, neither, clash}
 use Rattle.dates.specs.Dates.{yearDays, saturday, weekdayOf}
 use Rattle.holidays.specs.Holidays.{listed}
 use Rattle.calendar.specs.Free.{weekend, christmas, free, candidate, mondayCandidate, fridayCandidate, bridge, carries}
-use Rattle.calendar.specs.Answer.{dayAnswer}
+use Rattle.calendar.specs.Answer.{calendarAnswer}
 use Rattle.calendar.proofs.Rules.{christmas-by}
 use Rattle.calendar.proofs.Weeks.{carries-when}
 use Rattle.demands.specs.Module.{ours}
@@ -135,16 +135,16 @@ bit-zero : (b : Bool) → (bit b ∷ [] ≡ 0 ∷ []) ↔ (b ≡ false)
 bit-zero true = ((λ e. absurd (omega (arith, ap (λ (x : List ℕ). getD x 0 0) e))), (λ e. absurd (clash refl e)))
 bit-zero false = ((λ e. refl), (λ e. refl))
 
-module _ (y : ℕ) (hs : List ℕ) (d : ℕ) (z : dayAnswer y hs d .number ≡ 0) where
-  carried-is : dayAnswer y hs d .carries ≡ bit (carries y hs d) ∷ []
+module _ (y : ℕ) (hs : List ℕ) (d : ℕ) (z : calendarAnswer y hs d .number ≡ 0) where
+  carried-is : calendarAnswer y hs d .figures ≡ bit (carries y hs d) ∷ []
   carried-is = carried .calendar y hs d .listed ∙ simp (eq-eqb _ _ z)
 
-  yes-when : (dayAnswer y hs d .carries ≡ 1 ∷ []) ↔ CarriesWindows y hs d
+  yes-when : (calendarAnswer y hs d .figures ≡ 1 ∷ []) ↔ CarriesWindows y hs d
   yes-when =
       rw carried-is
       ((λ e. carries-plain y hs d .0 (bit-one _ .0 e)), λ w. bit-one _ .1 (carries-plain y hs d .1 w))
 
-  no-when : (dayAnswer y hs d .carries ≡ 0 ∷ []) ↔ (CarriesWindows y hs d → ⊥)
+  no-when : (calendarAnswer y hs d .figures ≡ 0 ∷ []) ↔ (CarriesWindows y hs d → ⊥)
   no-when =
       rw carried-is (
         (λ e w. clash (carries-plain y hs d .1 w) (bit-zero _ .0 e)),

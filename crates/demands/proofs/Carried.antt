@@ -9,7 +9,7 @@ use native.Mathlib.Omega.{arith}
 use borrow.Author.Tests.{lt-ltb, eq-eqb, ne-eqb}
 use lib.Dec.{leb, ltb, eqb}
 use lib.ListN.{length, getD}
-use Rattle.over.specs.Over.{bit}
+use Rattle.ranges.specs.Ranges.{bit}
 use Rattle.answers.specs.declared.Place.{Place}
 use Rattle.answers.specs.Ruling.{gridMost, customerMost, yearOut, levelOut}
 use Rattle.answers.specs.Said.{Said, only, orElse}
@@ -17,7 +17,7 @@ use Rattle.dates.specs.Dates.{yearDays}
 use Rattle.periods.specs.Period.{periodDays}
 use Rattle.holidays.specs.Holidays.{badHolidays}
 use Rattle.calendar.specs.Free.{carries}
-use Rattle.calendar.specs.Answer.{dayOut, dayAnswer}
+use Rattle.calendar.specs.Answer.{dayOut, calendarAnswer}
 use Rattle.readings.specs.declared.Run.{Run}
 use Rattle.readings.specs.declared.Run.the-variants.{Year, Period}
 use Rattle.readings.specs.Runs.{runDays, dayLen, runReadings}
@@ -31,13 +31,13 @@ use Rattle.readings.proofs.Illegal.{some-illegal, first-illegal, some-illegal-i
 use Rattle.readings.proofs.Days.{next-exactly}
 use Rattle.sheet.specs.declared.Sheet.{Sheet}
 use Rattle.sheet.specs.Windows.{tooFull}
-use Rattle.packed.specs.Bytes.{twoAt, versionOut}
+use Rattle.encoding.specs.Bytes.{twoAt, versionOut}
 use Rattle.sheet.specs.Bytes.{versionAt, yearAt, levelAt, sheetSize, windowsIn, unmarked}
 use Rattle.sheet.specs.Answers.{readAnswer, writeAnswer}
 use Rattle.sheet.specs.Rows.{ReadRow}
 use Rattle.sheet.specs.Rows.ReadRow.{malformed, one, two, full, zero}
 use Rattle.sheet.proofs.Exactly.{read-zero}
-use Rattle.grid.specs.Answers.{windowsAnswer, openAnswer as gridOpens, closeAnswer as gridCloses, finishAnswer, sheetOf}
+use Rattle.grid.specs.Answers.{windowsAnswer, gridOpenAnswer, gridCloseAnswer, finishAnswer, sheetOf}
 use Rattle.grid.specs.Rows.{WindowsRow}
 use Rattle.grid.specs.Rows.WindowsRow.{five}
 use Rattle.grid.specs.declared.Grid.{Grid}
@@ -48,12 +48,12 @@ use Rattle.tariff.specs.Prices.{pricesOut}
 use Rattle.tariff.specs.Charges.{general, charge}
 use Rattle.tariff.specs.Decision.{noWindow, shareShort, moveShort, reductionShort, eligibleRules, chargeRules, judgeRules, eligibleAnswer, chargeAnswer, judgeAnswer}
 use Rattle.terms.specs.Basis.{Basis, basisYear, basisRates}
-use Rattle.terms.specs.Opening.{termsOf, openAnswer as customerOpens}
+use Rattle.terms.specs.Opening.{termsOf, customerOpenAnswer}
 use Rattle.terms.specs.Rows.{CustomerOpenRow}
 use Rattle.terms.specs.Rows.CustomerOpenRow.{sheet, three, six, zero}
 use Rattle.terms.proofs.Exactly.{open-zero}
 use Rattle.customer.specs.declared.Customer.{Customer}
-use Rattle.customer.specs.Answers.{wholeAnswer, decideAnswer, overfull, dayAnswer as customerDay, closeAnswer as customerCloses}
+use Rattle.customer.specs.Answers.{wholeAnswer, decideAnswer, overfull, customerDayAnswer, customerCloseAnswer}
 use Rattle.customer.specs.Rows.{CustomerDayRow, SeriesRow, DecideRow}
 use Rattle.customer.specs.Rows.CustomerDayRow.{over, next}
 use Rattle.customer.specs.Rows.SeriesRow.{four, five, judged}
@@ -62,10 +62,10 @@ use Rattle.customer.specs.Demand.{basisRun, basisFigures}
 use Rattle.customer.proofs.Exactly.{customer-day-exactly, decide-exactly}
 use Rattle.customer.proofs.Whole.{judge-five}
 use Rattle.demands.specs.Module.{ours, Refused}
-use Rattle.demands.specs.Refusals.{bare, withFigures, yearColumn, Carries, CarriesPlace, FirstToday, Carried}
+use Rattle.demands.specs.Refusals.{zeroAlone, withFigures, yearColumn, Carries, CarriesPlace, FirstToday, Carried}
 
 -- an answer, a choice between two, and a second answer behind the refusals of a first
-leaf : {a : Said} {column : ℕ → List ℕ} → a .carries ≡ column (a .number) → Carries a column
+leaf : {a : Said} {column : ℕ → List ℕ} → a .figures ≡ column (a .number) → Carries a column
 leaf e = record { listed = e }
 
 choice : (P : Said → Type 0) (t : Bool) {a b : Said} → P a → P b → P (cond t a b)
@@ -98,8 +98,8 @@ module _ (column : ℕ → List ℕ) (one : column 1 ≡ []) (two : column 2 ≡
       (choice (Refusing column) (tooFull (windowsIn b)) (λ r. leaf (sym twelve))
       (λ r. absurd (r refl)))))))
 
-  opens : (k : Basis) → Refusing column (customerOpens k)
-  unfolding customerOpens
+  opens : (k : Basis) → Refusing column (customerOpenAnswer k)
+  unfolding customerOpenAnswer
   opens k =
       choice (Refusing column) (eqb (readAnswer (k .sheet) .number) 0)
       (choice (Refusing column) (badHolidays (basisYear k) (k .holidays)) (λ r. leaf (sym three))
@@ -108,16 +108,16 @@ module _ (column : ℕ → List ℕ) (one : column 1 ≡ []) (two : column 2 ≡
       (reads (k .sheet))
 
 -- an answer whose refusals and whose 0 carry nothing
-bare-all : (a : Said) → (Refused a → Carries a (bare [])) → (a .number ≡ 0 → only 0 ≡ a) → Carries a (bare [])
+bare-all : (a : Said) → (Refused a → Carries a (zeroAlone [])) → (a .number ≡ 0 → only 0 ≡ a) → Carries a (zeroAlone [])
 bare-all a p z = go (ℕ-discrete (a .number) 0)
   where
-    go : Dec (a .number ≡ 0) → Carries a (bare [])
+    go : Dec (a .number ≡ 0) → Carries a (zeroAlone [])
     go (yes e) = rw (← z e) (leaf refl)
     go (no n) = p n
 
 -- any column that lists nothing but for 5
-module _ (column : ℕ → List ℕ) (same : (n : ℕ) → eqb n 5 ≡ false → column n ≡ bare [] n) where
-  nothing : (n : ℕ) → eqb n 5 ≡ false → bare [] n ≡ [] → Carries (only n) column
+module _ (column : ℕ → List ℕ) (same : (n : ℕ) → eqb n 5 ≡ false → column n ≡ zeroAlone [] n) where
+  nothing : (n : ℕ) → eqb n 5 ≡ false → zeroAlone [] n ≡ [] → Carries (only n) column
   nothing n e z = leaf (sym (same n e ∙ z))
 
   writes : (s : Sheet) (room : ℕ) → Carries (writeAnswer s room) column
@@ -129,16 +129,16 @@ module _ (column : ℕ → List ℕ) (same : (n : ℕ) → eqb n 5 ≡ false →
       (either (tooFull (s .windows)) (nothing 12 refl refl)
       (nothing 0 refl refl))))
 
-  grid-opens : (y level : ℕ) → Carries (gridOpens y level) column
-  unfolding gridOpens
+  grid-opens : (y level : ℕ) → Carries (gridOpenAnswer y level) column
+  unfolding gridOpenAnswer
   grid-opens y level = either (yearOut y) (nothing 1 refl refl) (either (levelOut level) (nothing 2 refl refl) (nothing 0 refl refl))
 
   finishes : (y level : ℕ) (flat : List ℕ) (room : ℕ) → Carries (finishAnswer y level flat room) column
   unfolding finishAnswer
   finishes y level flat room = either (eqb (highestOf flat) 0) (nothing 7 refl refl) (writes (sheetOf y level flat) room)
 
-  grid-closes : (g : Grid) (room : ℕ) → Carries (gridCloses g room) column
-  unfolding gridCloses
+  grid-closes : (g : Grid) (room : ℕ) → Carries (gridCloseAnswer g room) column
+  unfolding gridCloseAnswer
   grid-closes g room =
       either (ltb room sheetSize) (nothing 14 refl refl)
       (either (not (eqb (g .seen) (periodDays (g .year)))) (nothing 13 refl refl)
@@ -155,7 +155,7 @@ module _ (place : Place) (others : ℕ → List ℕ) where
 -- a day that is given alone
 next-listed :
     (run : Run) (limit n : ℕ) (day : List ℕ)
-    → Carries (nextAnswer run limit n day) (withPlace (record { day = n + 1; position = firstAbove limit day }) (bare []))
+    → Carries (nextAnswer run limit n day) (withPlace (record { day = n + 1; position = firstAbove limit day }) (zeroAlone []))
 unfolding nextAnswer
 next-listed run limit n day =
     either (leb (runDays run) n) (leaf refl)
@@ -175,19 +175,19 @@ series-listed run limit xs others none =
     (choice (Refusing column) (ltb 0 (firstIllegal run limit xs .day)) (λ r. leaf refl)
     (λ r. absurd (r refl)))
 
-windows-listed : (y level : ℕ) (xs : List ℕ) (room : ℕ) → Carries (windowsAnswer y level xs room) (withPlace (firstIllegal (Period y) gridMost xs) (bare []))
+windows-listed : (y level : ℕ) (xs : List ℕ) (room : ℕ) → Carries (windowsAnswer y level xs room) (withPlace (firstIllegal (Period y) gridMost xs) (zeroAlone []))
 unfolding windowsAnswer
 windows-listed y level xs room =
     let place = firstIllegal (Period y) gridMost xs in
-    let column = withPlace place (bare []) in
+    let column = withPlace place (zeroAlone []) in
     either (ltb room sheetSize) (leaf refl)
-    (behind (gridOpens y level) (λ r. grid-opens column (before place (bare [])) y level)
-    (behind (seriesAnswer (Period y) gridMost xs) (series-listed (Period y) gridMost xs (bare []) refl)
-    (finishes column (before place (bare [])) y level _ room)))
+    (behind (gridOpenAnswer y level) (λ r. grid-opens column (before place (zeroAlone [])) y level)
+    (behind (seriesAnswer (Period y) gridMost xs) (series-listed (Period y) gridMost xs (zeroAlone []) refl)
+    (finishes column (before place (zeroAlone [])) y level _ room)))
 
 -- the decision over figures, under any column that lists what the year's does, but for 5
 module _ (f : Figures) (r : Rates) (column : ℕ → List ℕ) where
-  module _ (done : List ℕ) (same : (n : ℕ) → eqb n 5 ≡ false → column n ≡ withFigures f (general f r) (bare done) n) where
+  module _ (done : List ℕ) (same : (n : ℕ) → eqb n 5 ≡ false → column n ≡ withFigures f (general f r) (zeroAlone done) n) where
     eligible-refuses : Refusing column (eligibleRules f r)
     unfolding eligibleRules
     eligible-refuses =
@@ -211,7 +211,7 @@ module _ (f : Figures) (r : Rates) (column : ℕ → List ℕ) where
           (either (pricesOut (r .prices)) (leaf (sym (same 6 refl)))
           (behind (eligibleRules f r) eligible-refuses charge-listed))
 
-eligible-listed : (f : Figures) (r : Rates) → Carries (eligibleAnswer f r) (withFigures f (general f r) (bare (1 ∷ [])))
+eligible-listed : (f : Figures) (r : Rates) → Carries (eligibleAnswer f r) (withFigures f (general f r) (zeroAlone (1 ∷ [])))
 unfolding eligibleAnswer eligibleRules
 eligible-listed f r =
     either (levelOut (r .level)) (leaf refl)
@@ -235,23 +235,23 @@ unfolding decideAnswer wholeAnswer
 decides k xs =
     let place = firstIllegal (basisRun k) customerMost xs in
     let others = yearColumn (basisFigures k xs) (basisRates k) in
-    behind (customerOpens k) (opens (withPlace place others) refl refl refl refl refl k)
+    behind (customerOpenAnswer k) (opens (withPlace place others) refl refl refl refl refl k)
     (behind (seriesAnswer (basisRun k) customerMost xs) (series-listed (basisRun k) customerMost xs others refl)
     (judge-listed (basisFigures k xs) (basisRates k) (withPlace place others) _ (before place others) refl))
 
 customer-days :
     (c : Customer) (day : List ℕ)
-    → Carries (customerDay c day) (withPlace (record { day = c .seen + 1; position = firstAbove customerMost day }) (bare []))
-unfolding customerDay
+    → Carries (customerDayAnswer c day) (withPlace (record { day = c .seen + 1; position = firstAbove customerMost day }) (zeroAlone []))
+unfolding customerDayAnswer
 customer-days c day = either (overfull c) (leaf refl) (next-listed (Year (c .terms .rates .year)) customerMost (c .seen) day)
 
-customer-closes : (c : Customer) → Carries (customerCloses c) (yearColumn (c .figures) (c .terms .rates))
-unfolding customerCloses
+customer-closes : (c : Customer) → Carries (customerCloseAnswer c) (yearColumn (c .figures) (c .terms .rates))
+unfolding customerCloseAnswer
 customer-closes c =
     either (not (eqb (c .seen) (yearDays (c .terms .rates .year)))) (leaf refl) (judged-listed (c .figures) (c .terms .rates))
 
-calendar-listed : (y : ℕ) (hs : List ℕ) (d : ℕ) → Carries (dayAnswer y hs d) (bare (bit (carries y hs d) ∷ []))
-unfolding dayAnswer
+calendar-listed : (y : ℕ) (hs : List ℕ) (d : ℕ) → Carries (calendarAnswer y hs d) (zeroAlone (bit (carries y hs d) ∷ []))
+unfolding calendarAnswer
 calendar-listed y hs d =
     either (yearOut y) (leaf refl) (either (badHolidays y hs) (leaf refl) (either (dayOut y d) (leaf refl) (leaf refl)))
 
@@ -343,7 +343,7 @@ found-today run limit n day (zero c v) e = absurd (omega arith)
 
 customer-today :
     (c : Customer) (day : List ℕ)
-    → customerDay c day .number ≡ 5
+    → customerDayAnswer c day .number ≡ 5
     → Found (record { day = c .seen + 1; position = firstAbove customerMost day }) (FirstToday customerMost (c .seen) day)
 customer-today c day e = go (customer-day-exactly c day 5 .0 e) refl
   where
@@ -359,25 +359,25 @@ pub carried : Carried ours
 carried =
     record {
       calendar = calendar-listed;
-      read = λ b. bare-all (readAnswer b) (reads (bare []) refl refl refl refl refl b) (read-zero b);
-      write = writes (bare []) (λ n e. refl);
+      read = λ b. bare-all (readAnswer b) (reads (zeroAlone []) refl refl refl refl refl b) (read-zero b);
+      write = writes (zeroAlone []) (λ n e. refl);
       windows = λ y level xs buffer. placed (windows-listed y level xs (length buffer)) (windows-place y level xs buffer);
-      grid-open = grid-opens (bare []) (λ n e. refl);
+      grid-open = grid-opens (zeroAlone []) (λ n e. refl);
       grid-day =
           λ g day. placed (next-listed (Period (g .year)) gridMost (g .seen) day)
           (λ e. found-today (Period (g .year)) gridMost (g .seen) day (next-exactly (Period (g .year)) gridMost (g .seen) day 5 .0 e) refl);
-      grid-close = grid-closes (bare []) (λ n e. refl);
+      grid-close = grid-closes (zeroAlone []) (λ n e. refl);
       eligible = eligible-listed;
       charge = charged;
       judge = judged-listed;
       decide = λ k xs. placed (decides k xs) (decide-place k xs);
-      customer-open = λ k. bare-all (customerOpens k) (opens (bare []) refl refl refl refl refl k) (open-zero k);
+      customer-open = λ k. bare-all (customerOpenAnswer k) (opens (zeroAlone []) refl refl refl refl refl k) (open-zero k);
       customer-day = λ c day. placed (customer-days c day) (customer-today c day);
       customer-close = customer-closes;
     }
 
 -- so an answer is its number with what the column lists for it
-pub said-is : (a : Said) (column : ℕ → List ℕ) (n : ℕ) → Carries a column → a .number ≡ n → a ≡ record { number = n; carries = column n }
+pub said-is : (a : Said) (column : ℕ → List ℕ) (n : ℕ) → Carries a column → a .number ≡ n → a ≡ record { number = n; figures = column n }
 said-is a column n c e =
-    let listed : a .carries ≡ column n = c .listed ∙ ap column e in
-    λ i. record { number = e i; carries = listed i }
+    let listed : a .figures ≡ column n = c .listed ∙ ap column e in
+    λ i. record { number = e i; figures = listed i }

@@ -2,7 +2,7 @@
 -- peak, by the law of equal values.
 -- Assumes nothing.
 use mathlib.Core.Path.{_≡_, refl}
-use Rattle.over.specs.Over.{joined, largestOver, sumOver, countOver, anyOver, table, inBase}
+use Rattle.ranges.specs.Ranges.{joined, largestOver, sumOver, countOver, anyOver, table, inBase}
 use Rattle.answers.specs.Ruling.{shareOf, levelOut}
 use Rattle.dates.specs.Dates.{leap, leapDay, daysTo, weekdayOf}
 use Rattle.holidays.specs.Holidays.{listed}

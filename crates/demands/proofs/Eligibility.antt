@@ -10,15 +10,15 @@ use native.Mathlib.Nat.{le-trans}
 use native.Mathlib.Omega.{arith}
 use borrow.Author.Tests.{eq-eqb}
 use lib.ListN.{length, getD}
-use Rattle.over.specs.Over.{bit, sumOver}
-use Rattle.over.proofs.Largest.{largest-le}
-use Rattle.over.proofs.Bools.{both, pair}
-use Rattle.over.proofs.Tests.{any-at, any-fails}
+use Rattle.ranges.specs.Ranges.{bit, sumOver}
+use Rattle.ranges.proofs.Largest.{largest-le}
+use Rattle.ranges.proofs.Bools.{both, pair}
+use Rattle.ranges.proofs.Tests.{any-at, any-fails}
 use Rattle.answers.specs.Ruling.{ChargeYear}
 use Rattle.answers.specs.Said.{only}
 use Rattle.dates.specs.Dates.{seasonOf}
 use Rattle.calendar.specs.Free.{carries}
-use Rattle.calendar.specs.Answer.{dayAnswer}
+use Rattle.calendar.specs.Answer.{calendarAnswer}
 use Rattle.calendar.specs.Answer.DayRow.{zero}
 use Rattle.calendar.proofs.Answers.{exactly}
 use Rattle.readings.specs.Runs.{dayLen, dayStart, quarterOf, reading}
@@ -41,7 +41,7 @@ use Rattle.figures.proofs.Peak.{first-place, nowhere-in}
 use Rattle.year_figures.specs.Counts.{setOn}
 use Rattle.terms.specs.declared.Terms.{Terms}
 use Rattle.terms.specs.Basis.{Basis, basisYear, basisRates}
-use Rattle.terms.specs.Opening.{termsOf, openAnswer}
+use Rattle.terms.specs.Opening.{termsOf, customerOpenAnswer}
 use Rattle.terms.specs.Rows.{LegalBasis}
 use Rattle.terms.proofs.Exactly.{open-legal}
 use Rattle.customer.specs.Counts.{counts}
@@ -114,7 +114,7 @@ module _ (k : Basis) (xs : List ℕ) where
       }
 
 -- on an opened basis the calendar answers 0 for every day of the year, and the sheet that reading shows is the basis's
-module _ (k : Basis) (o : openAnswer k ≡ only 0) where
+module _ (k : Basis) (o : customerOpenAnswer k ≡ only 0) where
   abbrev hs : List ℕ
   hs = k .holidays
 
@@ -133,15 +133,15 @@ module _ (k : Basis) (o : openAnswer k ≡ only 0) where
   shown = handed (readAnswer (k .sheet)) (sheetIn (k .sheet)) _ (read-exactly (k .sheet) 0 .1 (legal .read))
 
   module _ (d p : ℕ) (l : d < basisDays k) where
-    answered : dayAnswer (basisYear k) hs (d + 1) .number ≡ 0
+    answered : calendarAnswer (basisYear k) hs (d + 1) .number ≡ 0
     answered = exactly (basisYear k) hs (d + 1) 0 .1 (zero (legal-year (legal .read) refl) (legal .holidays) (record { from = omega arith; to = omega arith }))
 
-    yes-is : dayAnswer (basisYear k) hs (d + 1) .carries ≡ bit (carries (basisYear k) hs (d + 1)) ∷ []
+    yes-is : calendarAnswer (basisYear k) hs (d + 1) .figures ≡ bit (carries (basisYear k) hs (d + 1)) ∷ []
     yes-is = carried .calendar (basisYear k) hs (d + 1) .listed ∙ simp (eq-eqb _ _ answered)
 
     by-answers :
         (inWindow k d p ≡ true)
-        ↔ ((dayAnswer (basisYear k) hs (d + 1) .carries ≡ 1 ∷ [])
+        ↔ ((calendarAnswer (basisYear k) hs (d + 1) .figures ≡ 1 ∷ [])
         × (isSet (readSheet (k .sheet) .windows) (seasonOf (basisYear k) (d + 1)) (quarterOf (basisRun k) d p) ≡ true))
     unfolding setOn
     by-answers =

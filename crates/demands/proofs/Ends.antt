@@ -8,7 +8,7 @@ use native.Mathlib.Decide.{decLt}
 use native.Mathlib.Omega.{arith}
 use lib.ListN.{length, getD, take, drop, replicate, length-append, length-replicate, length-drop, List·getD-append, List·getD-eq-default}
 use lib.Seq.{getD-append-add, take-append-le, drop-append-le}
-use Rattle.over.proofs.Tables.{table-cong}
+use Rattle.ranges.proofs.Tables.{table-cong}
 use Rattle.answers.specs.Said.{Said}
 use Rattle.readings.specs.declared.Run.{Run}
 use Rattle.readings.specs.Runs.{runDays, dayLen, dayStart, runReadings, reading}

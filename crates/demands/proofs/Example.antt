@@ -6,8 +6,8 @@ use mathlib.Core.Bool.{true, false}
 use mathlib.Core.List.{List, []}
 use Prim.Native.Nat.{ℕ, _+_, _<_}
 use lib.ListN.{getD}
-use Rattle.over.specs.Over.{joined, sumOver, countOver, anyOver, table, inBase}
-use Rattle.over.proofs.Tables.{getD-table}
+use Rattle.ranges.specs.Ranges.{joined, sumOver, countOver, anyOver, table, inBase}
+use Rattle.ranges.proofs.Tables.{getD-table}
 use Rattle.answers.specs.Ruling.{yearOut, levelOut, shareOf}
 use Rattle.answers.specs.Said.{only}
 use Rattle.dates.specs.Dates.{leap, leapDay, daysTo, monthOf, seasonOf, weekdayOf, mostDays}
@@ -15,7 +15,7 @@ use Rattle.holidays.specs.Holidays.{listed, badHolidays}
 use Rattle.calendar.specs.Free.{christmas, free, candidate, bridge, kindBy, carries, windowDays}
 use Rattle.readings.specs.Runs.{quarterOf}
 use Rattle.sheet.specs.Windows.{isSet, setIn, tooFull}
-use Rattle.packed.specs.Bytes.{twoAt, unlike}
+use Rattle.encoding.specs.Bytes.{twoAt, otherMark}
 use Rattle.sheet.specs.Bytes.{windowsIn, sheetIn}
 use Rattle.sheet.specs.Answers.{readAnswer}
 use Rattle.year_figures.specs.Counts.{setOn}
@@ -26,7 +26,7 @@ unfoldable pub example : List ℕ
 example = exampleSheet
 
 pub example-read : readAnswer example ≡ only 0
-unfolding example readAnswer unlike twoAt yearOut levelOut tooFull setIn windowsIn table inBase anyOver countOver sumOver joined
+unfolding example readAnswer otherMark twoAt yearOut levelOut tooFull setIn windowsIn table inBase anyOver countOver sumOver joined
 example-read = refl
 
 pub example-year : sheetIn example .year ≡ 2025

@@ -5,7 +5,7 @@ use mathlib.Core.Logic.{_⊎_, inl, inr}
 use mathlib.Core.List.{List}
 use Prim.Native.Nat.{ℕ}
 use native.Mathlib.Omega.{arith}
-use Rattle.over.specs.Limits.{Within}
+use Rattle.ranges.specs.Limits.{Within}
 use Rattle.answers.specs.Ruling.{Level}
 use Rattle.answers.specs.Said.{Said, only}
 use Rattle.readings.proofs.Runs.{year-run}
@@ -21,7 +21,7 @@ use Rattle.tariff.proofs.Answered.{number-is}
 use Rattle.tariff.proofs.Exactly.{judge-exactly}
 use Rattle.tariff.proofs.Demand.{pays-is}
 use Rattle.terms.specs.Basis.{Basis, basisYear, basisRates}
-use Rattle.terms.specs.Opening.{termsOf, openAnswer}
+use Rattle.terms.specs.Opening.{termsOf, customerOpenAnswer}
 use Rattle.terms.proofs.Exactly.{open-legal}
 use Rattle.customer.specs.Answers.{judged, decideAnswer}
 use Rattle.customer.specs.Demand.{LegalYear, basisFigures}
@@ -39,7 +39,7 @@ use Rattle.demands.proofs.Carried.{carried, said-is}
 legal-read : {b : List ℕ} → ReadRow b 0 → Level (sheetIn b .level)
 legal-read (zero f y l w) = l
 
-pub legal-opening : (k : Basis) → openAnswer k ≡ only 0 → LegalRates (basisRates k)
+pub legal-opening : (k : Basis) → customerOpenAnswer k ≡ only 0 → LegalRates (basisRates k)
 legal-opening k o =
     let legal = open-legal k (number-is o) in
     record { legal-level = legal-read (legal .read); legal-prices = legal .prices }
@@ -78,7 +78,7 @@ fair k xs a l g z =
     let c = chargedOf f (general f (basisRates k)) (charge f (basisRates k)) in
     let is : a ≡ withCharge c = one ∙ said-is _ (yearColumn f (basisRates k)) 0 (carried .judge f (basisRates k)) (sym (number-is one) ∙ z) in
     let fair = accepted-fair k xs c (sym is ∙ one) in
-    record { c = c .charge; g = c .peaks .plain .general; rest = _; carried = ap (λ (s : Said). s .carries) is; fifth = fair .floor; below = fair .reduction }
+    record { c = c .charge; g = c .peaks .plain .general; rest = _; carried = ap (λ (s : Said). s .figures) is; fifth = fair .floor; below = fair .reduction }
 
 pub fairness : Fairness ours
 fairness =

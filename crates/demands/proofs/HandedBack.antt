@@ -17,7 +17,7 @@ use Rattle.readings.proofs.Given.{offered-stays}
 use Rattle.readings.proofs.Machines.{Holds, holds-taken, thirteen-full}
 use Rattle.sheet.specs.Bytes.{sheetSize}
 use Rattle.grid.specs.declared.Grid.{Grid}
-use Rattle.grid.specs.Answers.{openAnswer as gridOpens, openGrid, shut as gridShut, dayAnswer as gridDay, dayGrid, closeAnswer as gridCloses}
+use Rattle.grid.specs.Answers.{gridOpenAnswer, openGrid, shutGrid, gridDayAnswer, dayGrid, gridCloseAnswer}
 use Rattle.grid.specs.Rows.{OpenRow, CloseRow}
 use Rattle.grid.specs.Rows.OpenRow.{one, two, zero}
 use Rattle.grid.specs.Rows.CloseRow.{fourteen, early, seven, one, two, zero}
@@ -30,38 +30,38 @@ use Rattle.tariff.specs.declared.Figures.{Figures}
 use Rattle.figures.specs.Figures.{figuresOf}
 use Rattle.terms.specs.declared.Terms.{Terms}
 use Rattle.terms.specs.Basis.{Basis}
-use Rattle.terms.specs.Opening.{termsOf, openAnswer}
+use Rattle.terms.specs.Opening.{termsOf, customerOpenAnswer}
 use Rattle.customer.proofs.Answered.{opened-state}
 use Rattle.customer.specs.declared.Customer.{Customer}
-use Rattle.customer.specs.Answers.{shut as customerShut, sumMost, dayAnswer as customerDay, dayCustomer, closeAnswer as customerCloses, openCustomer}
+use Rattle.customer.specs.Answers.{shutCustomer, sumMost, customerDayAnswer, dayCustomer, customerCloseAnswer, openCustomer}
 use Rattle.customer.specs.Rows.{CustomerCloseRow}
 use Rattle.customer.specs.Rows.CustomerCloseRow.{early, judged}
 use Rattle.customer.specs.Demand.{basisRun, basisDays}
 use Rattle.customer.proofs.Exactly.{customer-close-exactly}
 use Rattle.customer.proofs.Whole.{holding as customerHolding, machine as customerMachine, opens-holding, legal-sum}
 use Rattle.demands.specs.Module.{ours, gridAfter, customerAfter, Refused}
-use Rattle.demands.specs.Refusals.{bare, HandedBack}
+use Rattle.demands.specs.Refusals.{zeroAlone, HandedBack}
 use Rattle.demands.proofs.Refusals.{left-as-before, fixed-state}
 use Rattle.demands.proofs.Carried.{carried, said-is}
 use Rattle.demands.proofs.Fair.{legal-opening}
 
 -- an answer that carries nothing
-bare-zero : {a : Said} → a .number ≡ 0 → a .carries ≡ bare [] (a .number) → a ≡ only 0
-bare-zero {a} z l = said-is a (bare []) 0 (record { listed = l }) z
+bare-zero : {a : Said} → a .number ≡ 0 → a .figures ≡ zeroAlone [] (a .number) → a ≡ only 0
+bare-zero {a} z l = said-is a (zeroAlone []) 0 (record { listed = l }) z
 
 -- the grid
 module _ (y level : ℕ) (days : List (List ℕ)) where
   abbrev grid : Grid
   grid = gridAfter ours y level days
 
-  grid-shut : Refused (gridOpens y level) → grid ≡ gridShut
+  grid-shut : Refused (gridOpenAnswer y level) → grid ≡ shutGrid
   grid-shut r =
       ap (λ (g : Grid). offered dayGrid g days) (fixed-state .grid-open y level r)
-      ∙ offered-stays dayGrid gridShut (λ day. left-as-before .grid-day gridShut day (λ z. omega (arith, number-is (fixed-state .grid-day day)))) days
+      ∙ offered-stays dayGrid shutGrid (λ day. left-as-before .grid-day shutGrid day (λ z. omega (arith, number-is (fixed-state .grid-day day)))) days
 
-  module _ (z : gridOpens y level .number ≡ 0) where
-    grid-holds : Holds (gridMachine y level) (takenReadings gridDay dayGrid (openGrid y level) days)
-        (length (takenDays gridDay dayGrid (openGrid y level) days)) grid
+  module _ (z : gridOpenAnswer y level .number ≡ 0) where
+    grid-holds : Holds (gridMachine y level) (takenReadings gridDayAnswer dayGrid (openGrid y level) days)
+        (length (takenDays gridDayAnswer dayGrid (openGrid y level) days)) grid
     grid-holds = holds-taken (gridMachine y level) (openGrid y level) (opens-empty y level (bare-zero z (carried .grid-open y level .listed))) days
 
     legal-grid : {n : ℕ} → OpenRow y level n → n ≡ 0 → ChargeYear y × Level level
@@ -79,34 +79,34 @@ module _ (y level : ℕ) (days : List (List ℕ)) where
 
   grid-thirteen :
       (day : List ℕ)
-      → gridDay grid day .number ≡ 13
-      → Refused (gridOpens y level) ⊎ (length (takenDays gridDay dayGrid (openGrid y level) days) ≡ periodDays y)
-  grid-thirteen day e = go (ℕ-discrete (gridOpens y level .number) 0)
+      → gridDayAnswer grid day .number ≡ 13
+      → Refused (gridOpenAnswer y level) ⊎ (length (takenDays gridDayAnswer dayGrid (openGrid y level) days) ≡ periodDays y)
+  grid-thirteen day e = go (ℕ-discrete (gridOpenAnswer y level .number) 0)
     where
-      go : Dec (gridOpens y level .number ≡ 0) → Refused (gridOpens y level) ⊎ (length (takenDays gridDay dayGrid (openGrid y level) days) ≡ periodDays y)
+      go : Dec (gridOpenAnswer y level .number ≡ 0) → Refused (gridOpenAnswer y level) ⊎ (length (takenDays gridDayAnswer dayGrid (openGrid y level) days) ≡ periodDays y)
       go (no r) = inl r
       go (yes z) = inr (thirteen-full (gridMachine y level) (grid-holds z) day e ∙ period-run y)
 
-  grid-never : (buffer : List ℕ) → (gridCloses grid (length buffer) .number ≡ 1 → ⊥) × (gridCloses grid (length buffer) .number ≡ 2 → ⊥)
-  grid-never buffer = go (ℕ-discrete (gridOpens y level .number) 0) (decLt (length buffer) sheetSize)
+  grid-never : (buffer : List ℕ) → (gridCloseAnswer grid (length buffer) .number ≡ 1 → ⊥) × (gridCloseAnswer grid (length buffer) .number ≡ 2 → ⊥)
+  grid-never buffer = go (ℕ-discrete (gridOpenAnswer y level .number) 0) (decLt (length buffer) sheetSize)
     where
       not-so : {a : Said} {n k : ℕ} → a ≡ only n → (n ≡ k → ⊥) → a .number ≡ k → ⊥
       not-so e d f = d (sym (number-is e) ∙ f)
 
       shut-not :
           {n : ℕ}
-          → gridCloses gridShut (length buffer) ≡ only n
+          → gridCloseAnswer shutGrid (length buffer) ≡ only n
           → 13 ≤ n
-          → Refused (gridOpens y level)
-          → (gridCloses grid (length buffer) .number ≡ 1 → ⊥) × (gridCloses grid (length buffer) .number ≡ 2 → ⊥)
+          → Refused (gridOpenAnswer y level)
+          → (gridCloseAnswer grid (length buffer) .number ≡ 1 → ⊥) × (gridCloseAnswer grid (length buffer) .number ≡ 2 → ⊥)
       shut-not e l r =
-          let f = ap (λ (g : Grid). gridCloses g (length buffer)) (grid-shut r) ∙ e in
+          let f = ap (λ (g : Grid). gridCloseAnswer g (length buffer)) (grid-shut r) ∙ e in
           (not-so f (λ k. omega arith), not-so f (λ k. omega arith))
 
       go :
-          Dec (gridOpens y level .number ≡ 0)
+          Dec (gridOpenAnswer y level .number ≡ 0)
           → Dec (length buffer < sheetSize)
-          → (gridCloses grid (length buffer) .number ≡ 1 → ⊥) × (gridCloses grid (length buffer) .number ≡ 2 → ⊥)
+          → (gridCloseAnswer grid (length buffer) .number ≡ 1 → ⊥) × (gridCloseAnswer grid (length buffer) .number ≡ 2 → ⊥)
       go (no r) (yes h) = shut-not (fixed-state .grid-short buffer h) (omega arith) r
       go (no r) (no h) = shut-not (fixed-state .grid-close buffer (omega arith)) (omega arith) r
       go (yes z) h =
@@ -121,18 +121,18 @@ module _ (k : Basis) (days : List (List ℕ)) where
   abbrev terms : Terms
   terms = termsOf k
 
-  customer-shut : Refused (openAnswer k) → customer ≡ customerShut
+  customer-shut : Refused (customerOpenAnswer k) → customer ≡ shutCustomer
   customer-shut r =
       ap (λ (c : Customer). offered dayCustomer c days) (fixed-state .customer-open k r)
-      ∙ offered-stays dayCustomer customerShut
-      (λ day. left-as-before .customer-day customerShut day (λ z. omega (arith, number-is (fixed-state .customer-day day)))) days
+      ∙ offered-stays dayCustomer shutCustomer
+      (λ day. left-as-before .customer-day shutCustomer day (λ z. omega (arith, number-is (fixed-state .customer-day day)))) days
 
-  module _ (z : openAnswer k .number ≡ 0) where
-    opens : openAnswer k ≡ only 0
+  module _ (z : customerOpenAnswer k .number ≡ 0) where
+    opens : customerOpenAnswer k ≡ only 0
     opens = bare-zero z (carried .customer-open k .listed)
 
-    customer-holds : Holds (customerMachine terms) (takenReadings customerDay dayCustomer (openCustomer k) days)
-        (length (takenDays customerDay dayCustomer (openCustomer k) days)) customer
+    customer-holds : Holds (customerMachine terms) (takenReadings customerDayAnswer dayCustomer (openCustomer k) days)
+        (length (takenDays customerDayAnswer dayCustomer (openCustomer k) days)) customer
     customer-holds =
         holds-taken (customerMachine terms) (openCustomer k) (sym (opened-state k (sym opens)) ∙ opens-holding terms) days
 
@@ -151,28 +151,28 @@ module _ (k : Basis) (days : List (List ℕ)) where
 
   customer-sum : customer .figures .sum ≤ sumMost (customer .seen)
   unfolding figuresOf
-  customer-sum = go (ℕ-discrete (openAnswer k .number) 0)
+  customer-sum = go (ℕ-discrete (customerOpenAnswer k .number) 0)
     where
-      go : Dec (openAnswer k .number ≡ 0) → customer .figures .sum ≤ sumMost (customer .seen)
+      go : Dec (customerOpenAnswer k .number ≡ 0) → customer .figures .sum ≤ sumMost (customer .seen)
       go (no r) = rw (customer-shut r) (omega arith)
       go (yes z) = let h = customer-holds z in rw (h .is) (legal-sum (basisRun k) _ _ (h .read))
 
   customer-thirteen :
       (day : List ℕ)
-      → customerDay customer day .number ≡ 13
-      → Refused (openAnswer k) ⊎ (length (takenDays customerDay dayCustomer (openCustomer k) days) ≡ basisDays k)
-  customer-thirteen day e = go (ℕ-discrete (openAnswer k .number) 0)
+      → customerDayAnswer customer day .number ≡ 13
+      → Refused (customerOpenAnswer k) ⊎ (length (takenDays customerDayAnswer dayCustomer (openCustomer k) days) ≡ basisDays k)
+  customer-thirteen day e = go (ℕ-discrete (customerOpenAnswer k .number) 0)
     where
-      go : Dec (openAnswer k .number ≡ 0) → Refused (openAnswer k) ⊎ (length (takenDays customerDay dayCustomer (openCustomer k) days) ≡ basisDays k)
+      go : Dec (customerOpenAnswer k .number ≡ 0) → Refused (customerOpenAnswer k) ⊎ (length (takenDays customerDayAnswer dayCustomer (openCustomer k) days) ≡ basisDays k)
       go (no r) = inl r
       go (yes z) = inr (thirteen-full (customerMachine terms) (customer-holds z) day e ∙ year-run (terms .rates .year))
 
-  customer-never : (customerCloses customer .number ≡ 2 → ⊥) × (customerCloses customer .number ≡ 6 → ⊥)
-  customer-never = go (ℕ-discrete (openAnswer k .number) 0)
+  customer-never : (customerCloseAnswer customer .number ≡ 2 → ⊥) × (customerCloseAnswer customer .number ≡ 6 → ⊥)
+  customer-never = go (ℕ-discrete (customerOpenAnswer k .number) 0)
     where
-      go : Dec (openAnswer k .number ≡ 0) → (customerCloses customer .number ≡ 2 → ⊥) × (customerCloses customer .number ≡ 6 → ⊥)
+      go : Dec (customerOpenAnswer k .number ≡ 0) → (customerCloseAnswer customer .number ≡ 2 → ⊥) × (customerCloseAnswer customer .number ≡ 6 → ⊥)
       go (no r) =
-          let f = number-is (ap customerCloses (customer-shut r) ∙ fixed-state .customer-close) in
+          let f = number-is (ap customerCloseAnswer (customer-shut r) ∙ fixed-state .customer-close) in
           ((λ e. omega (arith, f)), (λ e. omega (arith, f)))
       go (yes z) =
           let h = customer-holds z in

@@ -6,7 +6,7 @@ use mathlib.Core.List.{List}
 use Prim.Native.Nat.{ℕ, _<_}
 use native.Mathlib.Omega.{arith}
 use lib.ListN.{length, getD}
-use Rattle.over.specs.Limits.{Within}
+use Rattle.ranges.specs.Limits.{Within}
 use Rattle.answers.specs.Ruling.{gridMost, customerMost, missing}
 use Rattle.periods.specs.Period.{periodDays}
 use Rattle.readings.specs.declared.Run.{Run}

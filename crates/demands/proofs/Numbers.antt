@@ -6,8 +6,8 @@ use mathlib.Core.Logic.{_↔_, _⊎_, ⊎-elim}
 use Prim.Native.Nat.{ℕ, _+_, _-_, _%_, _≤_}
 use native.Mathlib.Omega.{arith}
 use borrow.Author.Tests.{le-leb, lt-leb, eq-eqb, ne-eqb}
-use Rattle.over.specs.Limits.{Within}
-use Rattle.over.proofs.Sums.{sum-more}
+use Rattle.ranges.specs.Limits.{Within}
+use Rattle.ranges.proofs.Sums.{sum-more}
 use Rattle.answers.specs.Ruling.{shareOf}
 use Rattle.dates.specs.Dates.{leap, leapDay, yearDays, monthDays, daysTo, dayOf, seasonOfMonth, seasonOf}
 use Rattle.dates.proofs.Counted.{anchor, next-day, new-year}

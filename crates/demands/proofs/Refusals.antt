@@ -5,11 +5,11 @@ use borrow.Author.Tests.{ne-eqb}
 use lib.ListN.{length}
 use Rattle.answers.specs.Said.{Said, after}
 use Rattle.sheet.specs.Answers.{readAnswer, readSheet, writeAnswer, written}
-use Rattle.grid.specs.Answers.{windowsAnswer, windowsBuffer, openAnswer as gridOpens, shut as gridShut, dayAnswer as gridDay, dayGrid, closeAnswer as gridCloses, closeBuffer}
+use Rattle.grid.specs.Answers.{windowsAnswer, windowsBuffer, gridOpenAnswer, shutGrid, gridDayAnswer, dayGrid, gridCloseAnswer, gridCloseBuffer}
 use Rattle.grid.proofs.Steps.{close-short}
 use Rattle.grid.proofs.Only.{shut-day as grid-shut-day, shut-close as grid-shut-close}
-use Rattle.terms.specs.Opening.{openAnswer as customerOpens}
-use Rattle.customer.specs.Answers.{openCustomer, dayAnswer as customerDay, dayCustomer}
+use Rattle.terms.specs.Opening.{customerOpenAnswer}
+use Rattle.customer.specs.Answers.{openCustomer, customerDayAnswer, dayCustomer}
 use Rattle.customer.proofs.Only.{shut-day as customer-shut-day, shut-close as customer-shut-close}
 use Rattle.demands.specs.Module.{ours, Refused}
 use Rattle.demands.specs.Refusals.{LeftAsBefore, FixedState}
@@ -19,14 +19,14 @@ stays : {A : Type 0} (a : Said) (new old : A) → Refused a → after a new old 
 stays a new old r = rw (ne-eqb _ _ r)
 
 pub left-as-before : LeftAsBefore ours
-unfolding written windowsBuffer dayGrid closeBuffer dayCustomer
+unfolding written windowsBuffer dayGrid gridCloseBuffer dayCustomer
 left-as-before =
     record {
       write = λ s buffer r. stays (writeAnswer s (length buffer)) _ _ r;
       windows = λ y level xs buffer r. stays (windowsAnswer y level xs (length buffer)) _ _ r;
-      grid-day = λ g day r. stays (gridDay g day) _ _ r;
-      grid-close = λ g buffer r. stays (gridCloses g (length buffer)) _ _ r;
-      customer-day = λ c day r. stays (customerDay c day) _ _ r;
+      grid-day = λ g day r. stays (gridDayAnswer g day) _ _ r;
+      grid-close = λ g buffer r. stays (gridCloseAnswer g (length buffer)) _ _ r;
+      customer-day = λ c day r. stays (customerDayAnswer c day) _ _ r;
     }
 
 pub fixed-state : FixedState ours
@@ -34,11 +34,11 @@ unfolding readSheet openCustomer
 fixed-state =
     record {
       read = λ b r. stays (readAnswer b) _ _ r;
-      grid-open = λ y level r. stays (gridOpens y level) _ _ r;
+      grid-open = λ y level r. stays (gridOpenAnswer y level) _ _ r;
       grid-day = grid-shut-day;
       grid-close = grid-shut-close;
-      grid-short = λ buffer l. sym (close-short gridShut buffer l .0);
-      customer-open = λ k r. stays (customerOpens k) _ _ r;
+      grid-short = λ buffer l. sym (close-short shutGrid buffer l .0);
+      customer-open = λ k r. stays (customerOpenAnswer k) _ _ r;
       customer-day = customer-shut-day;
       customer-close = customer-shut-close;
     }

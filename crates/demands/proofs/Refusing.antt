@@ -6,13 +6,13 @@ use mathlib.Core.List.{List, []}
 use Prim.Native.Nat.{ℕ, _*_, _≤_}
 use native.Mathlib.Omega.{arith}
 use lib.ListN.{length, getD, take, length-replicate}
-use Rattle.over.specs.Over.{joined, anyOver}
-use Rattle.over.proofs.Tables.{length-table}
+use Rattle.ranges.specs.Ranges.{joined, anyOver}
+use Rattle.ranges.proofs.Tables.{length-table}
 use Rattle.answers.specs.Ruling.{Level, gridMost, customerMost, yearOut, levelOut}
 use Rattle.answers.specs.Said.{Said, only}
 use Rattle.dates.specs.Dates.{leap, leapDay}
 use Rattle.holidays.specs.Holidays.{badHolidays}
-use Rattle.calendar.specs.Answer.{dayOut, dayAnswer}
+use Rattle.calendar.specs.Answer.{dayOut, calendarAnswer}
 use Rattle.readings.specs.declared.Run.{Run}
 use Rattle.readings.specs.declared.Run.the-variants.{Period}
 use Rattle.readings.specs.Runs.{runDays}
@@ -21,13 +21,13 @@ use Rattle.readings.specs.Days.{offered, daysOf, AsWhole}
 use Rattle.readings.proofs.Runs.{period-run}
 use Rattle.readings.proofs.Illegal.{all-legal-in}
 use Rattle.sheet.specs.declared.Sheet.{Sheet}
-use Rattle.sheet.specs.Windows.{places}
+use Rattle.sheet.specs.Windows.{windowPlaces}
 use Rattle.sheet.specs.Bytes.{sheetSize, windowAt, windowsIn, sheetIn}
 use Rattle.sheet.specs.Rows.{ReadRow, WriteRow}
 use Rattle.sheet.specs.Rows.ReadRow.{malformed, one, two, full, zero}
 use Rattle.sheet.specs.Rows.WriteRow.{zero}
 use Rattle.grid.specs.declared.Grid.{Grid}
-use Rattle.grid.specs.Answers.{openAnswer as gridOpens}
+use Rattle.grid.specs.Answers.{gridOpenAnswer}
 use Rattle.tariff.specs.Answers.{payable}
 use Rattle.tariff.specs.Rows.{EligibleRow, ChargeRow, JudgeRow}
 use Rattle.tariff.specs.Rows.EligibleRow.{zero}
@@ -39,7 +39,7 @@ use Rattle.terms.specs.Basis.{Basis, basisRates}
 use Rattle.customer.specs.declared.Customer.{Customer}
 use Rattle.customer.specs.Demand.{basisRun, LegalYear, basisFigures}
 use Rattle.demands.specs.Module.{Module, gridEnd, gridWhole}
-use Rattle.demands.specs.Refusals.{bare}
+use Rattle.demands.specs.Refusals.{zeroAlone}
 use Rattle.demands.specs.Demands.{Demands}
 use Rattle.demands.specs.Wrong.{RefusesAlways, DoesNothing}
 use Rattle.demands.specs.Wrong.RefusesAlways.{calendar, read, write, windows, grid-open, grid-day, grid-close, eligible, charge, judge, decide, customer-open, customer-day, customer-close}
@@ -54,17 +54,17 @@ use Rattle.demands.proofs.WrongYears.{pricedBasis, xs, legal, row, open
 use Rattle.demands.proofs.WrongDays.{wrong-grid-days, wrong-customer-days}
 
 -- 2 January 2025 without holidays is answered
-second-january : dayAnswer 2025 [] 2 .number ≡ 0
-unfolding dayAnswer yearOut badHolidays dayOut leapDay leap anyOver joined
+second-january : calendarAnswer 2025 [] 2 .number ≡ 0
+unfolding calendarAnswer yearOut badHolidays dayOut leapDay leap anyOver joined
 second-january = refl
 
 -- the printed example's sheet can be read, so it can be written
 abbrev sheet : Sheet
 sheet = sheetIn example
 
-sheet-long : length (sheet .windows) ≡ places
+sheet-long : length (sheet .windows) ≡ windowPlaces
 unfolding windowsIn
-sheet-long = length-table (windowAt example) places
+sheet-long = length-table (windowAt example) windowPlaces
 
 write-row : {b : List ℕ} {n : ℕ} → ReadRow b n → n ≡ 0 → WriteRow (sheetIn b) (length blankBuffer) 0
 write-row (malformed f) e = absurd (omega arith)
@@ -77,12 +77,12 @@ write-row (zero f y l w) e = zero (omega (arith, length-replicate {A = ℕ} shee
 level-in : (level : ℕ) → 1 ≤ level → level ≤ 7 → Level level
 level-in level a b = record { from = a; to = b }
 
-opened-5 : gridOpens 2025 5 .number ≡ 0
-unfolding gridOpens yearOut levelOut
+opened-5 : gridOpenAnswer 2025 5 .number ≡ 0
+unfolding gridOpenAnswer yearOut levelOut
 opened-5 = refl
 
-opened-6 : gridOpens 2025 6 .number ≡ 0
-unfolding gridOpens yearOut levelOut
+opened-6 : gridOpenAnswer 2025 6 .number ≡ 0
+unfolding gridOpenAnswer yearOut levelOut
 opened-6 = refl
 
 abbrev period : Run
@@ -130,21 +130,21 @@ charge-row (eleven h s m cut) e = absurd (omega arith)
 charge-row (zero h s m cut) e = zero (h .legal-prices) (s .some) cut
 
 module _ (m : Module) (d : Demands m) where
-  grid-opened : (level : ℕ) → gridOpens 2025 level .number ≡ 0 → m .gridOpen 2025 level ≡ only 0
+  grid-opened : (level : ℕ) → gridOpenAnswer 2025 level .number ≡ 0 → m .gridOpen 2025 level ≡ only 0
   grid-opened level z =
-      said-is (m .gridOpen 2025 level) (bare []) 0 (d .carried .grid-open 2025 level)
+      said-is (m .gridOpen 2025 level) (zeroAlone []) 0 (d .carried .grid-open 2025 level)
       (d .exactly-when .grid-open 2025 level 0 .1 (exactly-when .grid-open 2025 level 0 .0 z))
 
   grid-whole :
       (level : ℕ)
-      → gridOpens 2025 level .number ≡ 0
+      → gridOpenAnswer 2025 level .number ≡ 0
       → AsWhole period gridMost (m .gridDay) (m .gridNext) (m .gridOpened 2025 level) (gridEnd m blankBuffer) (gridWhole m 2025 level blankBuffer)
   grid-whole level z = d .days-as-whole .grid 2025 level blankBuffer (grid-opened level z)
 
   abbrev gridAt : ℕ → Grid
   gridAt level = offered (m .gridNext) (m .gridOpened 2025 level) (daysOf period same (runDays period))
 
-  grid-closed : (level : ℕ) → gridOpens 2025 level .number ≡ 0 → gridEnd m blankBuffer (gridAt level) ≡ gridWhole m 2025 level blankBuffer same
+  grid-closed : (level : ℕ) → gridOpenAnswer 2025 level .number ≡ 0 → gridEnd m blankBuffer (gridAt level) ≡ gridWhole m 2025 level blankBuffer same
   grid-closed level z = grid-whole level z .all-days same same-legal
 
   year-opened : m .customerOpen k ≡ only 0

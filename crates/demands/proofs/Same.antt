@@ -9,7 +9,7 @@ use native.Mathlib.Decide.{ℕ-discrete}
 use native.Mathlib.Omega.{arith}
 use lib.Dec.{eqb}
 use lib.ListN.{getD}
-use Rattle.over.specs.Limits.{Within}
+use Rattle.ranges.specs.Limits.{Within}
 use Rattle.answers.specs.Said.{Said}
 use Rattle.tariff.specs.declared.Rates.{Rates}
 use Rattle.tariff.specs.declared.Figures.{Figures}
@@ -39,11 +39,11 @@ by-number P zero eight nine ten eleven n = ⊎-elim (λ e. rw e zero) (λ w. go 
 
 -- the peak and the sum that it carries, whatever the number is
 abbrev pub peakSaid : Said → ℕ
-peakSaid a = getD (a .carries) (cond (eqb (a .number) 0) 2 1) 0
+peakSaid a = getD (a .figures) (cond (eqb (a .number) 0) 2 1) 0
 
 module _ (f : Figures) (r : Rates) where
   abbrev listed : ℕ → Said
-  listed n = record { number = n; carries = yearColumn f r n }
+  listed n = record { number = n; figures = yearColumn f r n }
 
   pub column-said : (n : ℕ) → (n ≡ 0) ⊎ Within 8 11 n → (sumSaid (listed n) ≡ f .sum) × (peakSaid (listed n) ≡ f .peak)
   column-said =

@@ -8,7 +8,7 @@ use native.Mathlib.Nat.{le-antisymm, not-suc-le-zero}
 use native.Mathlib.Decide.{decLt}
 use native.Mathlib.Omega.{arith}
 use lib.ListN.{length, getD, replicate, length-replicate, getD-replicate, List·getD-eq-default}
-use Rattle.over.proofs.Largest.{largest-le}
+use Rattle.ranges.proofs.Largest.{largest-le}
 use Rattle.readings.specs.declared.Run.{Run}
 use Rattle.readings.specs.Runs.{runDays, dayLen, dayStart, runReadings, reading}
 use Rattle.readings.specs.Legal.{dayPeak, peakOf}

@@ -9,15 +9,15 @@ use native.Mathlib.Omega.{arith}
 use borrow.Author.Tests.{eq-eqb, eqb-true}
 use lib.ListN.{length, getD, take, drop}
 use lib.Seq.{drop-at}
-use Rattle.over.specs.Limits.{Within}
-use Rattle.over.specs.Over.{inBase, joined}
-use Rattle.over.proofs.Tables.{getD-table}
+use Rattle.ranges.specs.Limits.{Within}
+use Rattle.ranges.specs.Ranges.{inBase, joined}
+use Rattle.ranges.proofs.Tables.{getD-table}
 use Rattle.answers.specs.Said.{Said, after, only}
-use Rattle.packed.specs.Bytes.{twoAt}
+use Rattle.encoding.specs.Bytes.{twoAt}
 use Rattle.sheet.specs.declared.Sheet.{Sheet}
-use Rattle.sheet.specs.Windows.{places, placeOf, isSet}
+use Rattle.sheet.specs.Windows.{windowPlaces, quarterPlace, isSet}
 use Rattle.sheet.specs.Bytes.{sheetSize, sheetBytes, windowAt, windowsIn, sheetIn}
-use Rattle.sheet.specs.Answers.{SheetRead, readAnswer, readSheet, writeAnswer, written}
+use Rattle.sheet.specs.Answers.{ReadSaid, readAnswer, readSheet, writeAnswer, written}
 use Rattle.sheet.specs.Rows.{ReadRow}
 use Rattle.sheet.specs.Rows.ReadRow.{malformed, one, two, full, zero}
 use Rattle.sheet.proofs.Windows.{set-at}
@@ -39,10 +39,10 @@ bit-there :
     → (getD b (8 + 12 * (n - 1) + q / 8) 0 / 2 ^ (7 - q % 8) % 2 ≡ 1) ↔ (isSet (windowsIn b) n q ≡ true)
 unfolding windowsIn
 bit-there b n q w l =
-    let byte : 8 + placeOf n q / 8 ≡ 8 + 12 * (n - 1) + q / 8 = omega arith in
-    let bit : 8 - 1 - placeOf n q % 8 ≡ 7 - q % 8 = omega arith in
-    let shown : windowAt b (placeOf n q) ≡ isSet (windowsIn b) n q =
-    sym (getD-table (windowAt b) places (placeOf n q) _ (omega arith)) ∙ set-at (windowsIn b) n q w l in
+    let byte : 8 + quarterPlace n q / 8 ≡ 8 + 12 * (n - 1) + q / 8 = omega arith in
+    let bit : 8 - 1 - quarterPlace n q % 8 ≡ 7 - q % 8 = omega arith in
+    let shown : windowAt b (quarterPlace n q) ≡ isSet (windowsIn b) n q =
+    sym (getD-table (windowAt b) windowPlaces (quarterPlace n q) _ (omega arith)) ∙ set-at (windowsIn b) n q w l in
     rw (← shown, ← byte, ← bit) ((λ e. eq-eqb _ _ e), eqb-true _ _)
 
 laid-out : (b : List ℕ) {n : ℕ} → ReadRow b n → n ≡ 0 → LaidOut b (sheetIn b)
@@ -69,12 +69,12 @@ read-so b z = rw (handed (readAnswer b) (sheetIn b) _ z) (laid-out b (read-exact
 
 reads-back :
     (s : Sheet) (buffer : List ℕ)
-    → length (s .windows) ≡ places
+    → length (s .windows) ≡ windowPlaces
     → writeAnswer s (length buffer) .number ≡ 0
     → (readAnswer (take 56 (written s buffer)) ≡ only 0) × (readSheet (take 56 (written s buffer)) ≡ s)
 reads-back s buffer l z =
     let r = buffer-read s buffer l z in
-    (ap (λ (x : SheetRead). x .answer) r, ap (λ (x : SheetRead). x .sheet) r)
+    (ap (λ (x : ReadSaid). x .answer) r, ap (λ (x : ReadSaid). x .sheet) r)
 
 pub rest-stays : (s : Sheet) (buffer : List ℕ) → writeAnswer s (length buffer) .number ≡ 0 → drop 56 (written s buffer) ≡ drop 56 buffer
 unfolding written
@@ -84,7 +84,7 @@ rest-stays s buffer z =
 
 written-so :
     (s : Sheet) (buffer : List ℕ)
-    → length (s .windows) ≡ places
+    → length (s .windows) ≡ windowPlaces
     → writeAnswer s (length buffer) .number ≡ 0
     → LaidOut (take 56 (written s buffer)) s
 written-so s buffer l z =

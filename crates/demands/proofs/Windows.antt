@@ -11,10 +11,10 @@ use native.Mathlib.Omega.{arith}
 use borrow.Author.Tests.{lt-ltb, le-ltb, ltb-true, eq-eqb, ne-eqb, eqb-true}
 use lib.Dec.{ltb, eqb}
 use lib.ListN.{getD}
-use Rattle.over.specs.Over.{countOver, counted}
-use Rattle.over.proofs.Bools.{both, pair}
-use Rattle.over.proofs.Largest.{largest-le}
-use Rattle.over.proofs.Tests.{count-cong}
+use Rattle.ranges.specs.Ranges.{countOver, numberIf}
+use Rattle.ranges.proofs.Bools.{both, pair}
+use Rattle.ranges.proofs.Largest.{largest-le}
+use Rattle.ranges.proofs.Tests.{count-cong}
 use Rattle.periods.specs.Period.{periodDays}
 use Rattle.readings.specs.declared.Run.the-variants.{Period}
 use Rattle.readings.specs.Runs.{dayLen, quarterOf, reading}
@@ -27,7 +27,7 @@ use Rattle.grid_curves.proofs.Curves.{in-curve}
 use Rattle.demands.specs.Windows.{NoneAboveIn, IsPeak, IsCurve, ahead, Kept}
 
 -- a value that counts where a test passes
-counted-low : (b : Bool) {v w : ℕ} → (b ≡ true → v ≤ w) → counted b v ≤ w
+counted-low : (b : Bool) {v w : ℕ} → (b ≡ true → v ≤ w) → numberIf b v ≤ w
 counted-low true l = l refl
 counted-low false l = omega arith
 

@@ -6,8 +6,8 @@ use mathlib.Core.List.{List, []}
 use Prim.Native.Nat.{ℕ, zero, suc, _+_, _*_, _≤_, _<_}
 use native.Mathlib.Omega.{arith}
 use lib.ListN.{length, getD, length-replicate}
-use Rattle.over.specs.Over.{sumOver}
-use Rattle.over.proofs.Sums.{sum-none, sum-suc, sum-above, sum-cong}
+use Rattle.ranges.specs.Ranges.{sumOver}
+use Rattle.ranges.proofs.Sums.{sum-none, sum-suc, sum-above, sum-cong}
 use Rattle.answers.specs.Ruling.{gridMost, customerMost}
 use Rattle.answers.specs.Said.{Said, only}
 use Rattle.periods.proofs.Periods.{period-days}
@@ -26,11 +26,11 @@ use Rattle.grid.specs.Rows.WindowsRow.{seven, zero}
 use Rattle.tariff.proofs.Answered.{number-is}
 use Rattle.figures.specs.Figures.{sumOf, figuresOf}
 use Rattle.terms.specs.Basis.{Basis, basisYear}
-use Rattle.terms.specs.Opening.{openAnswer}
+use Rattle.terms.specs.Opening.{customerOpenAnswer}
 use Rattle.customer.specs.declared.Customer.{Customer}
 use Rattle.customer.specs.Demand.{basisRun, LegalYear}
 use Rattle.demands.specs.Module.{Module, customerAfter}
-use Rattle.demands.specs.Refusals.{bare}
+use Rattle.demands.specs.Refusals.{zeroAlone}
 use Rattle.demands.specs.Demands.{Demands}
 use Rattle.demands.specs.Fair.Given.{whole}
 use Rattle.demands.specs.Wrong.{WrongDays, DayTwice, sumSaid}
@@ -89,9 +89,9 @@ module _ (m : Module) (d : Demands m) where
     year-many : 1 < runDays year
     year-many = omega (arith, year-run (basisYear k))
 
-    opens : openAnswer k ≡ only 0
+    opens : customerOpenAnswer k ≡ only 0
     opens =
-        said-is (openAnswer k) (bare []) 0 (carried .customer-open k) (exactly-when .customer-open k 0 .1 (d .exactly-when .customer-open k 0 .0 (number-is o)))
+        said-is (customerOpenAnswer k) (zeroAlone []) 0 (carried .customer-open k) (exactly-when .customer-open k 0 .1 (d .exactly-when .customer-open k 0 .0 (number-is o)))
 
     ends-year : (v : ℕ) → v ≤ customerMost → LegalYear k (ends year year-many v)
     ends-year v l = record { opens = opens; series = ends-legal year year-many v customerMost l }
@@ -165,9 +165,9 @@ module _ (m : Module) (d : Demands m) (twice : DayTwice m) where
   day-twice =
       let number = number-is closed in
       let c = at (runDays run) in
-      let carries = said-is (m .customerClose c) _ _ (d .carried .customer-close c) number in
+      let figures = said-is (m .customerClose c) _ _ (d .carried .customer-close c) number in
       let answered = d .fairness .answered k series (m .decide k series) lawful whole in
-      let shown = ap sumSaid carries ∙ column-said (c .figures) (c .terms .rates) _ answered .0 in
+      let shown = ap sumSaid figures ∙ column-said (c .figures) (c .terms .rates) _ answered .0 in
       omega (
         arith,
         shown,

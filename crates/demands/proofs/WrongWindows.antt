@@ -11,11 +11,11 @@ use native.Mathlib.Omega.{arith}
 use borrow.Author.Tests.{lt-ltb, le-ltb, eq-eqb, ne-eqb}
 use lib.Dec.{eqb}
 use lib.ListN.{length, getD, take, replicate, length-replicate}
-use Rattle.over.specs.Over.{table, joined, sumOver, countOver, largestOver, counted}
-use Rattle.over.proofs.Bools.{clash, pair}
-use Rattle.over.proofs.Largest.{largest-le}
-use Rattle.over.proofs.Tables.{getD-table}
-use Rattle.over.proofs.Tests.{count-fails}
+use Rattle.ranges.specs.Ranges.{table, joined, sumOver, countOver, largestOver, numberIf}
+use Rattle.ranges.proofs.Bools.{clash, pair}
+use Rattle.ranges.proofs.Largest.{largest-le}
+use Rattle.ranges.proofs.Tables.{getD-table}
+use Rattle.ranges.proofs.Tests.{count-fails}
 use Rattle.answers.specs.Ruling.{Level, gridMost, dayQuarters, lineParts, peakParts, windowsMost}
 use Rattle.dates.specs.Dates.{leap, leapDay, daysTo, monthOf, seasonOf}
 use Rattle.periods.specs.Period.{periodDays, periodDate, periodSeason}
@@ -111,7 +111,7 @@ same-top =
 same-kept : kept (periodPeak 2025 same) (summerCurve same) 0 ≡ true
 same-kept = rw same-peak (kept-top 1 (summerCurve same) (omega arith) same-top same-low)
 
-counted-low : (b : Bool) {v w : ℕ} → v ≤ w → counted b v ≤ w
+counted-low : (b : Bool) {v w : ℕ} → v ≤ w → numberIf b v ≤ w
 counted-low true l = l
 counted-low false l = omega arith
 
@@ -122,8 +122,8 @@ first-zero = largest-le _ (periodDays 2025) 0 (λ d l. go d (decLt 0 d))
     go :
         (d : ℕ)
         → Dec (0 < d)
-        → counted (inSeason 2025 d 3)
-        (largestOver (λ p. counted (eqb (quarterOf (Period 2025) d p) 0) (reading (Period 2025) first d p)) (dayLen (Period 2025) d)) ≤ 0
+        → numberIf (inSeason 2025 d 3)
+        (largestOver (λ p. numberIf (eqb (quarterOf (Period 2025) d p) 0) (reading (Period 2025) first d p)) (dayLen (Period 2025) d)) ≤ 0
     go d (yes l) =
         counted-low (inSeason 2025 d 3)
         (largest-le _ (dayLen (Period 2025) d) 0 (λ p m. counted-low (eqb (quarterOf (Period 2025) d p) 0) (omega (arith, start-later (Period 2025) 1 d p l))))

@@ -7,8 +7,8 @@ use mathlib.Core.List.{List, []}
 use Prim.Native.Nat.{ℕ, _*_, _≤_, _<_}
 use native.Mathlib.Decide.{decLt}
 use native.Mathlib.Omega.{arith}
-use Rattle.over.proofs.Bools.{clash, both, pair}
-use Rattle.over.proofs.Tests.{any-at}
+use Rattle.ranges.proofs.Bools.{clash, both, pair}
+use Rattle.ranges.proofs.Tests.{any-at}
 use Rattle.answers.specs.Ruling.{capacityMost, customerMost}
 use Rattle.answers.specs.Said.{only}
 use Rattle.readings.specs.Runs.{runDays, dayLen}
@@ -26,7 +26,7 @@ use Rattle.tariff.proofs.Exactly.{judge-exactly}
 use Rattle.tariff.proofs.Limits.{prices-legal}
 use Rattle.terms.specs.declared.Terms.{Terms}
 use Rattle.terms.specs.Basis.{Basis, basis, basisRates}
-use Rattle.terms.specs.Opening.{termsOf, openAnswer}
+use Rattle.terms.specs.Opening.{termsOf, customerOpenAnswer}
 use Rattle.terms.proofs.Answered.{open-done}
 use Rattle.customer.specs.Counts.{counts}
 use Rattle.customer.specs.Answers.{decideAnswer}
@@ -35,7 +35,7 @@ use Rattle.figures.specs.Figures.{anyOn, figuresOf, FirstPlace}
 use Rattle.figures.proofs.Peak.{first-place}
 use Rattle.demands.specs.Cases.{priced}
 use Rattle.demands.specs.Module.{Module}
-use Rattle.demands.specs.Refusals.{bare}
+use Rattle.demands.specs.Refusals.{zeroAlone}
 use Rattle.demands.specs.Fair.Given.{whole}
 use Rattle.demands.specs.Demands.{Demands}
 use Rattle.demands.specs.Wrong.{OneCharge, MadeUpSum}
@@ -60,7 +60,7 @@ module _ (price : ℕ) (least : 100 ≤ price) (most : price ≤ capacityMost) w
   abbrev terms : Terms
   terms = termsOf k
 
-  pub opens : openAnswer k ≡ only 0
+  pub opens : customerOpenAnswer k ≡ only 0
   opens =
       let row : LegalRow (priced price 0) = record { capacity = most; energy = omega arith } in
       sym (open-done k (sym example-read) no-holidays (prices-legal (capacityOnly price) .1 (record { low = row; high = row })))
@@ -135,7 +135,7 @@ module _ (price : ℕ) (least : 100 ≤ price) (most : price ≤ capacityMost) w
   module _ (m : Module) (d : Demands m) where
     pub opened : m .customerOpen k ≡ only 0
     opened =
-        said-is (m .customerOpen k) (bare []) 0 (d .carried .customer-open k)
+        said-is (m .customerOpen k) (zeroAlone []) 0 (d .carried .customer-open k)
         (d .exactly-when .customer-open k 0 .1 (exactly-when .customer-open k 0 .0 (number-is opens)))
 
     pub accepted : m .decide k xs .number ≡ 0

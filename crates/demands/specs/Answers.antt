@@ -7,8 +7,8 @@ use mathlib.Core.Logic.{_↔_, _⊎_}
 use mathlib.Core.List.{List, [], _∷_}
 use Prim.Native.Nat.{ℕ, _+_, _*_, _≤_, _<_}
 use lib.ListN.{length, getD, take, drop}
-use Rattle.over.specs.Limits.{Within}
-use Rattle.over.specs.Over.{sumOver}
+use Rattle.ranges.specs.Limits.{Within}
+use Rattle.ranges.specs.Ranges.{sumOver}
 use Rattle.answers.specs.Ruling.{dayQuarters, gridMost, customerMost, missing}
 use Rattle.answers.specs.Said.{only, badPlace}
 use Rattle.dates.specs.Dates.{seasonOf}
@@ -133,7 +133,7 @@ pub record Eligibility (m : Module) : Type 0 where
       → m .customerOpen k ≡ only 0
       → d < basisDays k
       → (inWindow k d p ≡ true)
-      ↔ ((m .calendar (basisYear k) (k .holidays) (d + 1) .carries ≡ 1 ∷ [])
+      ↔ ((m .calendar (basisYear k) (k .holidays) (d + 1) .figures ≡ 1 ∷ [])
       × (isSet (m .sheetRead (k .sheet) .windows) (seasonOf (basisYear k) (d + 1)) (quarterOf (basisRun k) d p) ≡ true))
   -- M is the highest reading and S the sum of all readings
   pub peak :

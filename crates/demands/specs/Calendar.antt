@@ -37,5 +37,5 @@ pub record CarriesWindows (y : ℕ) (hs : List ℕ) (d : ℕ) : Type 0 where
 
 -- where the calendar answers 0, it carries yes (1) exactly when the day carries windows, else no (0)
 pub record Calendar (m : Module) : Type 0 where
-  pub yes : (y : ℕ) (hs : List ℕ) (d : ℕ) → m .calendar y hs d .number ≡ 0 → (m .calendar y hs d .carries ≡ 1 ∷ []) ↔ CarriesWindows y hs d
-  pub no : (y : ℕ) (hs : List ℕ) (d : ℕ) → m .calendar y hs d .number ≡ 0 → (m .calendar y hs d .carries ≡ 0 ∷ []) ↔ (CarriesWindows y hs d → ⊥)
+  pub yes : (y : ℕ) (hs : List ℕ) (d : ℕ) → m .calendar y hs d .number ≡ 0 → (m .calendar y hs d .figures ≡ 1 ∷ []) ↔ CarriesWindows y hs d
+  pub no : (y : ℕ) (hs : List ℕ) (d : ℕ) → m .calendar y hs d .number ≡ 0 → (m .calendar y hs d .figures ≡ 0 ∷ []) ↔ (CarriesWindows y hs d → ⊥)

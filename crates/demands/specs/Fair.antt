@@ -8,7 +8,7 @@ use mathlib.Core.List.{List, _∷_}
 use Prim.Native.Nat.{ℕ, _+_, _*_, _≤_}
 use lib.Dec.{eqb}
 use lib.ListN.{length}
-use Rattle.over.specs.Limits.{Within}
+use Rattle.ranges.specs.Limits.{Within}
 use Rattle.answers.specs.Said.{Said}
 use Rattle.readings.specs.Days.{takenDays, takenReadings}
 use Rattle.tariff.specs.Charges.{general, charge}
@@ -43,7 +43,7 @@ pub record FairCharge (a : Said) : Type 0 where
   pub c : ℕ
   pub g : ℕ
   pub rest : List ℕ
-  pub carried : a .carries ≡ c ∷ g ∷ rest
+  pub carried : a .figures ≡ c ∷ g ∷ rest
   pub fifth : g ≤ 5 * c
   pub below : c + 500 * 100 ≤ g
 

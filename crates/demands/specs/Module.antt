@@ -6,21 +6,21 @@ use mathlib.Core.List.{List}
 use Prim.Native.Nat.{ℕ}
 use lib.ListN.{length}
 use Rattle.answers.specs.Said.{Said}
-use Rattle.calendar.specs.Answer.{dayAnswer as calendarAnswer}
+use Rattle.calendar.specs.Answer.{calendarAnswer}
 use Rattle.readings.specs.declared.Run.{Run}
 use Rattle.readings.specs.Part.{dayPart}
 use Rattle.readings.specs.Days.{offered}
 use Rattle.sheet.specs.declared.Sheet.{Sheet}
 use Rattle.sheet.specs.Answers.{readAnswer, readSheet, writeAnswer, written as sheetWritten}
 use Rattle.grid.specs.declared.Grid.{Grid}
-use Rattle.grid.specs.Answers.{windowsAnswer, windowsBuffer, openAnswer as gridOpens, openGrid, dayAnswer as gridDayAnswer, dayGrid, closeAnswer as gridCloses, closeBuffer}
+use Rattle.grid.specs.Answers.{windowsAnswer, windowsBuffer, gridOpenAnswer, openGrid, gridDayAnswer, dayGrid, gridCloseAnswer, gridCloseBuffer}
 use Rattle.tariff.specs.declared.Rates.{Rates}
 use Rattle.tariff.specs.declared.Figures.{Figures}
 use Rattle.tariff.specs.Decision.{eligibleAnswer, chargeAnswer, judgeAnswer}
 use Rattle.terms.specs.Basis.{Basis}
-use Rattle.terms.specs.Opening.{openAnswer}
+use Rattle.terms.specs.Opening.{customerOpenAnswer}
 use Rattle.customer.specs.declared.Customer.{Customer}
-use Rattle.customer.specs.Answers.{dayAnswer as customerDayAnswer, dayCustomer, closeAnswer as customerCloses, openCustomer, decideAnswer}
+use Rattle.customer.specs.Answers.{customerDayAnswer, dayCustomer, customerCloseAnswer, openCustomer, decideAnswer}
 
 pub record Module : Type 0 where
   -- a calendar day: year, holiday list, day
@@ -66,21 +66,21 @@ ours =
       written = sheetWritten;
       windows = windowsAnswer;
       windowsLaid = windowsBuffer;
-      gridOpen = gridOpens;
+      gridOpen = gridOpenAnswer;
       gridOpened = openGrid;
       gridDay = gridDayAnswer;
       gridNext = dayGrid;
-      gridClose = gridCloses;
-      gridLaid = closeBuffer;
+      gridClose = gridCloseAnswer;
+      gridLaid = gridCloseBuffer;
       eligible = eligibleAnswer;
       charge = chargeAnswer;
       judge = judgeAnswer;
       decide = decideAnswer;
-      customerOpen = openAnswer;
+      customerOpen = customerOpenAnswer;
       customerOpened = openCustomer;
       customerDay = customerDayAnswer;
       customerNext = dayCustomer;
-      customerClose = customerCloses;
+      customerClose = customerCloseAnswer;
     }
 
 -- the state after days that are offered to an opening, refused ones among them

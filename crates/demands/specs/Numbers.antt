@@ -4,7 +4,7 @@
 use mathlib.Core.Path.{_≡_}
 use mathlib.Core.Logic.{_↔_, _⊎_}
 use Prim.Native.Nat.{ℕ, suc, _+_, _-_, _*_, _%_, _≤_, _<_}
-use Rattle.over.specs.Limits.{Within}
+use Rattle.ranges.specs.Limits.{Within}
 use Rattle.answers.specs.Ruling.{ChargeYear, Level, gridMost, customerMost, missing, capacityMost, energyMost, holidaysMost, dayQuarters, windowsMost, shareOf, leastMove}
 use Rattle.dates.specs.Dates.{yearDays, monthDays, dayOf, weekdayOf, seasonOf}
 use Rattle.periods.specs.Period.{periodDays, periodDate, periodSeason}

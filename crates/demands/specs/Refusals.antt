@@ -10,7 +10,7 @@ use mathlib.Core.List.{List, [], _∷_}
 use Prim.Native.Nat.{ℕ, _+_, _≤_, _<_}
 use lib.Dec.{eqb}
 use lib.ListN.{length}
-use Rattle.over.specs.Over.{bit}
+use Rattle.ranges.specs.Ranges.{bit}
 use Rattle.answers.specs.Ruling.{gridMost, customerMost}
 use Rattle.answers.specs.Said.{Said, only}
 use Rattle.periods.specs.Period.{periodDays}
@@ -22,13 +22,13 @@ use Rattle.sheet.specs.declared.Sheet.{Sheet}
 use Rattle.sheet.specs.Bytes.{sheetSize}
 use Rattle.sheet.specs.Answers.{blank}
 use Rattle.grid.specs.declared.Grid.{Grid}
-use Rattle.grid.specs.Answers.{shut as gridShut}
+use Rattle.grid.specs.Answers.{shutGrid}
 use Rattle.tariff.specs.declared.Rates.{Rates}
 use Rattle.tariff.specs.declared.Figures.{Figures}
 use Rattle.tariff.specs.Charges.{general, charge}
 use Rattle.terms.specs.Basis.{Basis, basisRates}
 use Rattle.customer.specs.declared.Customer.{Customer}
-use Rattle.customer.specs.Answers.{shut as customerShut, sumMost}
+use Rattle.customer.specs.Answers.{shutCustomer, sumMost}
 use Rattle.customer.specs.Demand.{basisRun, basisDays, basisFigures}
 use Rattle.demands.specs.Module.{Module, gridAfter, customerAfter, Refused}
 
@@ -49,13 +49,13 @@ pub record LeftAsBefore (m : Module) : Type 0 where
 pub record FixedState (m : Module) : Type 0 where
   -- beside a refused sheet stands one fixed sheet
   pub read : (b : List ℕ) → Refused (m .read b) → m .sheetRead b ≡ blank
-  pub grid-open : (y level : ℕ) → Refused (m .gridOpen y level) → m .gridOpened y level ≡ gridShut
-  pub grid-day : (day : List ℕ) → m .gridDay gridShut day ≡ only 13
-  pub grid-close : (buffer : List ℕ) → sheetSize ≤ length buffer → m .gridClose gridShut (length buffer) ≡ only 13
-  pub grid-short : (buffer : List ℕ) → length buffer < sheetSize → m .gridClose gridShut (length buffer) ≡ only 14
-  pub customer-open : (k : Basis) → Refused (m .customerOpen k) → m .customerOpened k ≡ customerShut
-  pub customer-day : (day : List ℕ) → m .customerDay customerShut day ≡ only 13
-  pub customer-close : m .customerClose customerShut ≡ only 13
+  pub grid-open : (y level : ℕ) → Refused (m .gridOpen y level) → m .gridOpened y level ≡ shutGrid
+  pub grid-day : (day : List ℕ) → m .gridDay shutGrid day ≡ only 13
+  pub grid-close : (buffer : List ℕ) → sheetSize ≤ length buffer → m .gridClose shutGrid (length buffer) ≡ only 13
+  pub grid-short : (buffer : List ℕ) → length buffer < sheetSize → m .gridClose shutGrid (length buffer) ≡ only 14
+  pub customer-open : (k : Basis) → Refused (m .customerOpen k) → m .customerOpened k ≡ shutCustomer
+  pub customer-day : (day : List ℕ) → m .customerDay shutCustomer day ≡ only 13
+  pub customer-close : m .customerClose shutCustomer ≡ only 13
 
 -- Some rows can hold only for a state that no call handed back: on what an opening, accepted or not, and days after it
 -- handed back, a day is answered 13 only where the opening was refused or all days are in, since a sum that no days
@@ -80,8 +80,8 @@ pub record HandedBack (m : Module) : Type 0 where
       (n ≡ 2 → ⊥) × (n ≡ 6 → ⊥)
 
 -- The table's column "carries", for number n. 0 carries what the call is asked for, and most refusals nothing.
-abbrev pub bare : List ℕ → ℕ → List ℕ
-bare done n = cond (eqb n 0) done []
+abbrev pub zeroAlone : List ℕ → ℕ → List ℕ
+zeroAlone done n = cond (eqb n 0) done []
 
 -- a year with the figures f and the general charge g. 8: "g, M, S"; 9, and 10 and 11 "as 9": "g, M, S, H with its
 -- place"
@@ -94,18 +94,18 @@ withFigures f g others n =
 -- the decision over figures. 0: "c, g, M, S, H with its place"
 abbrev pub yearColumn : Figures → Rates → ℕ → List ℕ
 yearColumn f r n =
-    withFigures f (general f r) (bare (charge f r ∷ general f r ∷ f .peak ∷ f .sum ∷ f .high ∷ f .day ∷ f .quarter ∷ [])) n
+    withFigures f (general f r) (zeroAlone (charge f r ∷ general f r ∷ f .peak ∷ f .sum ∷ f .high ∷ f .day ∷ f .quarter ∷ [])) n
 
 -- the answer a carries what a column lists for its number
 pub record Carries (a : Said) (column : ℕ → List ℕ) : Type 0 where
-  pub listed : a .carries ≡ column (a .number)
+  pub listed : a .figures ≡ column (a .number)
 
 -- 5: "day from 1, quarter from 0, of the first one"; `First d q` says that the first illegal reading is the one at
 -- position q of day d, from 0. Every other number carries what a column lists.
 pub record NamesFirst (a : Said) (First : ℕ → ℕ → Type 0) : Type 0 where
   pub on : ℕ
   pub at : ℕ
-  pub named : a .carries ≡ (on + 1) ∷ at ∷ []
+  pub named : a .figures ≡ (on + 1) ∷ at ∷ []
   pub first : First on at
 
 pub record CarriesPlace (a : Said) (First : ℕ → ℕ → Type 0) (column : ℕ → List ℕ) : Type 0 where
@@ -119,21 +119,21 @@ pub record FirstToday (limit n : ℕ) (day : List ℕ) (d q : ℕ) : Type 0 wher
 
 -- "A refusal carries its number and the figures listed for it"
 pub record Carried (m : Module) : Type 0 where
-  pub calendar : (y : ℕ) (hs : List ℕ) (d : ℕ) → Carries (m .calendar y hs d) (bare (bit (carries y hs d) ∷ []))
-  pub read : (b : List ℕ) → Carries (m .read b) (bare [])
-  pub write : (s : Sheet) (room : ℕ) → Carries (m .write s room) (bare [])
+  pub calendar : (y : ℕ) (hs : List ℕ) (d : ℕ) → Carries (m .calendar y hs d) (zeroAlone (bit (carries y hs d) ∷ []))
+  pub read : (b : List ℕ) → Carries (m .read b) (zeroAlone [])
+  pub write : (s : Sheet) (room : ℕ) → Carries (m .write s room) (zeroAlone [])
   pub windows :
       (y level : ℕ) (xs buffer : List ℕ)
-      → CarriesPlace (m .windows y level xs (length buffer)) (FirstIllegalIn (Period y) gridMost xs) (bare [])
-  pub grid-open : (y level : ℕ) → Carries (m .gridOpen y level) (bare [])
-  pub grid-day : (g : Grid) (day : List ℕ) → CarriesPlace (m .gridDay g day) (FirstToday gridMost (g .seen) day) (bare [])
-  pub grid-close : (g : Grid) (room : ℕ) → Carries (m .gridClose g room) (bare [])
-  pub eligible : (f : Figures) (r : Rates) → Carries (m .eligible f r) (withFigures f (general f r) (bare (1 ∷ [])))
+      → CarriesPlace (m .windows y level xs (length buffer)) (FirstIllegalIn (Period y) gridMost xs) (zeroAlone [])
+  pub grid-open : (y level : ℕ) → Carries (m .gridOpen y level) (zeroAlone [])
+  pub grid-day : (g : Grid) (day : List ℕ) → CarriesPlace (m .gridDay g day) (FirstToday gridMost (g .seen) day) (zeroAlone [])
+  pub grid-close : (g : Grid) (room : ℕ) → Carries (m .gridClose g room) (zeroAlone [])
+  pub eligible : (f : Figures) (r : Rates) → Carries (m .eligible f r) (withFigures f (general f r) (zeroAlone (1 ∷ [])))
   pub charge : (f : Figures) (r : Rates) → Carries (m .charge f r) (yearColumn f r)
   pub judge : (f : Figures) (r : Rates) → Carries (m .judge f r) (yearColumn f r)
   pub decide :
       (k : Basis) (xs : List ℕ)
       → CarriesPlace (m .decide k xs) (FirstIllegalIn (basisRun k) customerMost xs) (yearColumn (basisFigures k xs) (basisRates k))
-  pub customer-open : (k : Basis) → Carries (m .customerOpen k) (bare [])
-  pub customer-day : (c : Customer) (day : List ℕ) → CarriesPlace (m .customerDay c day) (FirstToday customerMost (c .seen) day) (bare [])
+  pub customer-open : (k : Basis) → Carries (m .customerOpen k) (zeroAlone [])
+  pub customer-day : (c : Customer) (day : List ℕ) → CarriesPlace (m .customerDay c day) (FirstToday customerMost (c .seen) day) (zeroAlone [])
   pub customer-close : (c : Customer) → Carries (m .customerClose c) (yearColumn (c .figures) (c .terms .rates))

@@ -6,10 +6,10 @@ use mathlib.Core.Logic.{_↔_}
 use mathlib.Core.List.{List}
 use Prim.Native.Nat.{ℕ, _+_, _-_, _*_, _/_, _%_, _^_, _<_}
 use lib.ListN.{length, getD, take, drop}
-use Rattle.over.specs.Limits.{Within}
+use Rattle.ranges.specs.Limits.{Within}
 use Rattle.answers.specs.Said.{only}
 use Rattle.sheet.specs.declared.Sheet.{Sheet}
-use Rattle.sheet.specs.Windows.{places, isSet}
+use Rattle.sheet.specs.Windows.{windowPlaces, isSet}
 use Rattle.sheet.specs.Bytes.{AreBytes}
 use Rattle.demands.specs.Module.{Module}
 
@@ -35,7 +35,7 @@ pub record Sheets (m : Module) : Type 0 where
   -- an accepted sheet stands in the first 56 bytes; "all further bytes stay"
   pub written-so :
       (s : Sheet) (buffer : List ℕ)
-      → length (s .windows) ≡ places
+      → length (s .windows) ≡ windowPlaces
       → m .write s (length buffer) .number ≡ 0
       → LaidOut (take 56 (m .written s buffer)) s
   pub rest-stays : (s : Sheet) (buffer : List ℕ) → m .write s (length buffer) .number ≡ 0 → drop 56 (m .written s buffer) ≡ drop 56 buffer
@@ -44,7 +44,7 @@ pub record Sheets (m : Module) : Type 0 where
   -- so what is written reads back as the same windows, and one meaning has one list of bytes
   pub reads-back :
       (s : Sheet) (buffer : List ℕ)
-      → length (s .windows) ≡ places
+      → length (s .windows) ≡ windowPlaces
       → m .write s (length buffer) .number ≡ 0
       → (m .read (take 56 (m .written s buffer)) ≡ only 0) × (m .sheetRead (take 56 (m .written s buffer)) ≡ s)
   pub same-bytes :

@@ -9,7 +9,7 @@ use mathlib.Core.List.{List}
 use Prim.Native.Nat.{ℕ, _+_, _-_, _*_}
 use lib.Dec.{eqb}
 use lib.ListN.{length, getD}
-use Rattle.over.specs.Over.{sumOver}
+use Rattle.ranges.specs.Ranges.{sumOver}
 use Rattle.answers.specs.Ruling.{gridMost, customerMost}
 use Rattle.answers.specs.Said.{Said, only}
 use Rattle.readings.specs.declared.Run.{Run}
@@ -75,7 +75,7 @@ pub record OneCharge (m : Module) : Type 0 where
 -- "A made-up S": for some legal year the S that the answer carries, behind c, g, M or behind g, M, is not the sum of
 -- the year's readings
 abbrev pub sumSaid : Said → ℕ
-sumSaid a = getD (a .carries) (cond (eqb (a .number) 0) 3 2) 0
+sumSaid a = getD (a .figures) (cond (eqb (a .number) 0) 3 2) 0
 
 pub record MadeUpSum (m : Module) : Type 0 where
   pub basis : Basis

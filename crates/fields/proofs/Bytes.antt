@@ -7,11 +7,12 @@ use Prim.Native.Nat.{ℕ, _+_, _-_, _*_, _/_, _≤_, _<_, min}
 use native.Mathlib.Omega.{arith}
 use lib.ListN.{length, getD, take, drop, length-take, length-drop, List·getD-append}
 use lib.Seq.{paste, take-take, take-add, take-at, drop-drop, drop-append-add, length-take-le, getD-take, getD-drop, ext-getD}
-use Rattle.over.specs.Over.{table}
-use Rattle.over.proofs.Tables.{length-table, getD-table, is-table}
-use Rattle.packed.specs.Bytes.{fourAt}
-use Rattle.packed.proofs.Bytes.{four-same}
-use Rattle.fields.specs.Series.{readingBytes, mostReadings, readingsOf, seriesIn}
+use Rattle.ranges.specs.Ranges.{table}
+use Rattle.ranges.proofs.Tables.{length-table, getD-table, is-table}
+use Rattle.encoding.specs.Bytes.{fourAt}
+use Rattle.encoding.proofs.Bytes.{four-same}
+use Rattle.readings.specs.Runs.{mostReadings}
+use Rattle.fields.specs.Series.{readingBytes, readingsOf, seriesIn}
 use Rattle.fields.specs.File.{part}
 
 -- the part of a file that a machine is handed

@@ -9,61 +9,61 @@ use native.Mathlib.Nat.{add-zero}
 use native.Mathlib.Omega.{arith}
 use lib.Dec.{eqb}
 use lib.ListN.{getD}
-use Rattle.over.specs.Over.{counted}
+use Rattle.ranges.specs.Ranges.{numberIf}
 use Rattle.answers.specs.Ruling.{yearOut, levelOut}
 use Rattle.answers.specs.Said.{Said, only}
-use Rattle.packed.specs.Bytes.{markSize, unlike, formatVersion, twoAt}
-use Rattle.packed.proofs.Bytes.{two-same, unlike-same}
+use Rattle.encoding.specs.Bytes.{markSize, otherMark, formatVersion, twoAt}
+use Rattle.encoding.proofs.Bytes.{two-same, unlike-same}
 use Rattle.fields.specs.Layout.{Field}
 use Rattle.fields.specs.Common.{markField, versionField, yearField, levelField}
 
 -- a field of w bytes that looks at no other byte
 abbrev pub Own : (List ℕ → Field) → ℕ → Type 0
-Own f w = (b c : List ℕ) (i : ℕ) → ((j : ℕ) → j < w → getD b (i + j) 0 ≡ getD c (i + j) 0) → f b .refusal i ≡ f c .refusal i
+Own f w = (b c : List ℕ) (i : ℕ) → ((j : ℕ) → j < w → getD b (i + j) 0 ≡ getD c (i + j) 0) → f b .refusedAt i ≡ f c .refusedAt i
 
 pub one-same : (b c : List ℕ) (i : ℕ) → ((j : ℕ) → j < 1 → getD b (i + j) 0 ≡ getD c (i + j) 0) → getD b i 0 ≡ getD c i 0
 one-same b c i h = rw (add-zero i) at (h 0 (omega arith))
 
 pub mark-own : (m : List ℕ) → Own (markField m) markSize
 unfolding markField
-mark-own m b c i h = ap (λ (t : Bool). counted t 12) (unlike-same b c i i m h)
+mark-own m b c i h = ap (λ (t : Bool). numberIf t 12) (unlike-same b c i i m h)
 
 pub version-own : Own versionField 2
 unfolding versionField
-version-own b c i h = ap (λ (x : ℕ). counted (not (eqb x formatVersion)) 12) (two-same b c i i h)
+version-own b c i h = ap (λ (x : ℕ). numberIf (not (eqb x formatVersion)) 12) (two-same b c i i h)
 
 pub year-own : Own yearField 2
 unfolding yearField
-year-own b c i h = ap (λ (x : ℕ). counted (yearOut x) 1) (two-same b c i i h)
+year-own b c i h = ap (λ (x : ℕ). numberIf (yearOut x) 1) (two-same b c i i h)
 
 pub level-own : Own levelField 1
 unfolding levelField
-level-own b c i h = ap (λ (x : ℕ). counted (levelOut x) 2) (one-same b c i h)
+level-own b c i h = ap (λ (x : ℕ). numberIf (levelOut x) 2) (one-same b c i h)
 
 -- the number of a field, by what the code has found
 module _ (b : List ℕ) (i : ℕ) where
-  pub mark-no : (m : List ℕ) {t : Bool} → t ≡ unlike m b i → counted t 12 ≡ markField m b .refusal i
+  pub mark-no : (m : List ℕ) {t : Bool} → t ≡ otherMark m b i → numberIf t 12 ≡ markField m b .refusedAt i
   unfolding markField
-  mark-no m e = ap (λ (t : Bool). counted t 12) e
+  mark-no m e = ap (λ (t : Bool). numberIf t 12) e
 
-  pub version-no : {n : ℕ} → n ≡ twoAt b i → counted (not (eqb n formatVersion)) 12 ≡ versionField b .refusal i
+  pub version-no : {n : ℕ} → n ≡ twoAt b i → numberIf (not (eqb n formatVersion)) 12 ≡ versionField b .refusedAt i
   unfolding versionField
-  version-no e = ap (λ (n : ℕ). counted (not (eqb n formatVersion)) 12) e
+  version-no e = ap (λ (n : ℕ). numberIf (not (eqb n formatVersion)) 12) e
 
-  pub year-no : {n : ℕ} {t : Bool} → n ≡ twoAt b i → t ≡ yearOut n → counted t 1 ≡ yearField b .refusal i
+  pub year-no : {n : ℕ} {t : Bool} → n ≡ twoAt b i → t ≡ yearOut n → numberIf t 1 ≡ yearField b .refusedAt i
   unfolding yearField
-  year-no e f = ap (λ (t : Bool). counted t 1) (f ∙ ap yearOut e)
+  year-no e f = ap (λ (t : Bool). numberIf t 1) (f ∙ ap yearOut e)
 
-  pub level-no : {t : Bool} → t ≡ levelOut (getD b i 0) → counted t 2 ≡ levelField b .refusal i
+  pub level-no : {t : Bool} → t ≡ levelOut (getD b i 0) → numberIf t 2 ≡ levelField b .refusedAt i
   unfolding levelField
-  level-no e = ap (λ (t : Bool). counted t 2) e
+  level-no e = ap (λ (t : Bool). numberIf t 2) e
 
 -- a field that is not refused has passed its test
-pub unrefused : (t : Bool) (n : ℕ) → counted t (suc n) ≡ 0 → t ≡ false
+pub unrefused : (t : Bool) (n : ℕ) → numberIf t (suc n) ≡ 0 → t ≡ false
 unrefused true n e = absurd (omega arith)
 unrefused false n e = refl
 
 -- one that is refused has failed it, and its number is the one beside the test
-pub refused-as : {said : Said} (t : Bool) (n : ℕ) {r : ℕ} → counted t (suc n) ≡ r → (r ≡ 0 → ⊥) → (t ≡ true → only (suc n) ≡ said) → said ≡ only r
+pub refused-as : {said : Said} (t : Bool) (n : ℕ) {r : ℕ} → numberIf t (suc n) ≡ r → (r ≡ 0 → ⊥) → (t ≡ true → only (suc n) ≡ said) → said ≡ only r
 refused-as true n e z h = sym (h refl) ∙ ap only e
 refused-as false n e z h = absurd (z (sym e))

@@ -11,11 +11,11 @@ use borrow.Author.Tests.{lt-ltb, le-ltb, eq-eqb, ne-eqb, ltb-true, ltb-false}
 use lib.Dec.{ltb}
 use lib.ListN.{length, getD, take, drop}
 use lib.Seq.{take-all, take-add, length-take-le, getD-take}
-use Rattle.over.specs.Over.{firstOver}
-use Rattle.over.proofs.Bools.{clash}
-use Rattle.over.proofs.Largest.{largest-le, largest-cong}
-use Rattle.over.proofs.Tests.{Passed, all-passed}
-use Rattle.over.proofs.First.{first-at, first-le, first-below, first-holds, first-cong}
+use Rattle.ranges.specs.Ranges.{firstOver}
+use Rattle.ranges.proofs.Bools.{clash}
+use Rattle.ranges.proofs.Largest.{largest-le, largest-cong}
+use Rattle.ranges.proofs.Tests.{Passed, all-passed}
+use Rattle.ranges.proofs.First.{first-at, first-le, first-below, first-holds, first-cong}
 use Rattle.answers.specs.Said.{Said, only, badPlace, orElse}
 use Rattle.answers.proofs.Laws.{next-speaks}
 use Rattle.readings.specs.declared.Run.{Run}

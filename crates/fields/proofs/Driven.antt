@@ -13,8 +13,8 @@ use borrow.Author.Tests.{ne-eqb}
 use lib.Dec.{eqb}
 use lib.ListN.{length, take, drop}
 use lib.Seq.{drop-drop}
-use Rattle.over.proofs.Bools.{decided}
-use Rattle.over.proofs.Tests.{Passed, passed-none, passed-more}
+use Rattle.ranges.proofs.Bools.{decided}
+use Rattle.ranges.proofs.Tests.{Passed, passed-none, passed-more}
 use Rattle.answers.specs.Said.{Said, only, orElse}
 use Rattle.readings.specs.declared.Run.{Run}
 use Rattle.readings.specs.Runs.{runDays, dayStart}

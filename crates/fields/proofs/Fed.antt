@@ -10,7 +10,7 @@ use borrow.Author.Tests.{lt-ltb, le-ltb, ltb-true, ltb-false}
 use lib.Dec.{ltb, eqb}
 use lib.ListN.{length, take, drop}
 use lib.Seq.{paste}
-use Rattle.over.proofs.Tests.{Passed}
+use Rattle.ranges.proofs.Tests.{Passed}
 use Rattle.answers.specs.Said.{Said, only}
 use Rattle.readings.specs.declared.Run.{Run}
 use Rattle.readings.specs.Runs.{dayStart}

@@ -11,10 +11,10 @@ use native.Mathlib.Omega.{arith}
 use borrow.Author.Tests.{lt-ltb, le-ltb, eq-eqb, ne-eqb, ltb-false, eqb-true, not-false}
 use lib.Dec.{eqb}
 use lib.ListN.{length}
-use Rattle.over.proofs.Bools.{neither}
-use Rattle.over.proofs.Sums.{sum-none, sum-more, sum-cong}
-use Rattle.over.proofs.Tests.{Passed, passed-more}
-use Rattle.over.proofs.First.{first-at, first-fails}
+use Rattle.ranges.proofs.Bools.{neither}
+use Rattle.ranges.proofs.Sums.{sum-none, sum-more, sum-cong}
+use Rattle.ranges.proofs.Tests.{Passed, passed-more}
+use Rattle.ranges.proofs.First.{first-at, first-fails}
 use Rattle.answers.specs.Said.{only}
 use Rattle.fields.specs.declared.Span.{Span}
 use Rattle.fields.specs.Layout.{Layout, startOf, fieldSpan, cutOff, stops, firstStop, headAnswer}

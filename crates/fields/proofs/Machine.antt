@@ -10,16 +10,16 @@ use borrow.Author.Tests.{lt-ltb, le-ltb, eq-eqb, ne-eqb}
 use lib.Dec.{eqb}
 use lib.ListN.{length, take}
 use lib.Seq.{paste}
-use Rattle.over.specs.Over.{table}
-use Rattle.packed.specs.Bytes.{fourAt, laid}
-use Rattle.packed.proofs.Bytes.{laid-whole}
-use Rattle.readings.specs.Runs.{dayLen}
+use Rattle.ranges.specs.Ranges.{table}
+use Rattle.encoding.specs.Bytes.{fourAt, laid}
+use Rattle.encoding.proofs.Bytes.{laid-whole}
 use Rattle.readings.proofs.Runs.{len-most}
 use Rattle.fields.specs.declared.Span.{Span}
 use Rattle.fields.specs.declared.Stage.{Stage}
 use Rattle.fields.specs.declared.Stage.the-variants.{Going, Refused, Complete}
 use Rattle.fields.specs.Layout.{startOf, fieldSpan}
-use Rattle.fields.specs.Series.{readingBytes, mostReadings, readingsOf}
+use Rattle.readings.specs.Runs.{dayLen, mostReadings}
+use Rattle.fields.specs.Series.{readingBytes, readingsOf}
 use Rattle.fields.specs.Stages.{going, stageOf, dayStage}
 use Rattle.fields.specs.Machine.{Reader, layoutIn, fieldSize, nextSize, wants, headWith, numberWith, fieldFed, dayIn, dayGiven, dayFed, endFed, fed}
 use Rattle.fields.proofs.Bytes.{readings-held}

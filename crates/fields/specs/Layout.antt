@@ -5,14 +5,14 @@ use mathlib.Core.List.{List}
 use Prim.Native.Nat.{ℕ, _+_}
 use lib.Dec.{ltb, eqb}
 use lib.ListN.{length, getD}
-use Rattle.over.specs.Over.{sumOver, firstOver}
+use Rattle.ranges.specs.Ranges.{sumOver, firstOver}
 use Rattle.answers.specs.Said.{Said, only}
 use Rattle.fields.specs.declared.Span.{Span}
 
 -- a field: the bytes that it takes, and the number that refuses it where it starts at a place, 0 where none does
 pub record Field : Type 0 where
   pub width : ℕ
-  pub refusal : ℕ → ℕ
+  pub refusedAt : ℕ → ℕ
 
 -- how many fields; the bytes that each takes; the number that refuses it, 0 where none does
 pub record Layout : Type 0 where
@@ -22,7 +22,7 @@ pub record Layout : Type 0 where
 
 -- the layout that lists these fields, one after the other
 abbrev pub noField : Field
-noField = record { width = 0; refusal = λ i. 0 }
+noField = record { width = 0; refusedAt = λ i. 0 }
 
 abbrev pub fieldAt : List Field → ℕ → Field
 fieldAt fs k = getD fs k noField
@@ -35,7 +35,7 @@ layoutOf fs =
     record {
       count = length fs;
       width = widthAt fs;
-      refusal = λ k. fieldAt fs k .refusal (sumOver (widthAt fs) k);
+      refusal = λ k. fieldAt fs k .refusedAt (sumOver (widthAt fs) k);
     }
 
 -- a field starts where the ones before it end

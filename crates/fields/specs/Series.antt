@@ -6,9 +6,9 @@ use mathlib.Core.List.{List}
 use Prim.Native.Nat.{ℕ, _+_, _*_, _/_}
 use lib.Dec.{ltb, eqb}
 use lib.ListN.{length, drop}
-use Rattle.over.specs.Over.{firstOver, table}
+use Rattle.ranges.specs.Ranges.{firstOver, table}
 use Rattle.answers.specs.Said.{Said, only, badPlace}
-use Rattle.packed.specs.Bytes.{fourAt}
+use Rattle.encoding.specs.Bytes.{fourAt}
 use Rattle.readings.specs.declared.Run.{Run}
 use Rattle.readings.specs.Runs.{runDays, dayLen, dayStart, runReadings}
 use Rattle.readings.specs.Legal.{badDay, firstIllegal}
@@ -16,10 +16,6 @@ use Rattle.readings.specs.Legal.{badDay, firstIllegal}
 -- the bytes of a reading
 abbrev pub readingBytes : ℕ
 readingBytes = 4
-
--- the most readings of a day
-abbrev pub mostReadings : ℕ
-mostReadings = 100
 
 -- the readings that bytes hold, and the series of a file
 unfoldable pub readingsOf : List ℕ → List ℕ

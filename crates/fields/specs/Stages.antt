@@ -15,7 +15,7 @@ going Complete = false
 -- where it stands after a day's refusal: only 5 carries figures, a place
 unfoldable pub stageOf : Said → Stage
 stageOf said =
-    cond (eqb (said .number) 5) (BadReading (record { day = getD (said .carries) 0 0; position = getD (said .carries) 1 0 }))
+    cond (eqb (said .number) 5) (BadReading (record { day = getD (said .figures) 0 0; position = getD (said .figures) 1 0 }))
     (Refused (said .number))
 
 -- where it stands after a day: it goes on where the day is taken

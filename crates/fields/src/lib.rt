@@ -3,15 +3,14 @@
 // steps that such machines share.
 ghost use mathlib.Core.Path.{_≡_};
 ghost use Prim.Native.Nat.{ℕ, _*_};
-ghost use Rattle.over.specs.Over.{counted, table};
-ghost use Rattle.packed.specs.Bytes.{fourAt};
-ghost use Rattle.fields.specs.Series.{readingBytes, mostReadings};
+ghost use Rattle.ranges.specs.Ranges.{numberIf, table};
+ghost use Rattle.encoding.specs.Bytes.{fourAt};
+ghost use Rattle.readings.specs.Runs.{mostReadings};
+ghost use Rattle.fields.specs.Series.{readingBytes};
 ghost use Rattle.fields.specs.Stages.{going};
 use answers::Place;
 
-// Readings that a day has at most, and the bytes of a reading.
-pub const DAY_MOST: usize = 100;
-
+// The bytes of a reading.
 pub const READING_BYTES: usize = 4;
 
 // Where a field of a header starts, and how many bytes it takes.
@@ -42,18 +41,18 @@ pub fn is_going(stage: Stage) -> bool
 
 // The number that refuses a field which fails its test, and 0 for one that passes.
 pub fn number_if(fails: bool, number: u8) -> u8
-    ensures { λ r. ⌜ r ≡ counted fails number ⌝ }
+    ensures { λ r. ⌜ r ≡ numberIf fails number ⌝ }
 {
     if fails { number } else { 0 }
 }
 
 // The readings in a day's bytes, 0 behind the last.
-pub fn readings_in(b: &[u8]) -> [u32; DAY_MOST]
+pub fn readings_in(b: &[u8]) -> [u32; readings::MOST_READINGS]
     ensures { λ r. ⌜ r ≡ table (λ (i : ℕ). fourAt (now (b .entry)) (readingBytes * i)) mostReadings ⌝ }
 {
-    let mut out = [0; DAY_MOST];
-    for i in 0..DAY_MOST {
-        out[i] = packed::four_at(b, READING_BYTES * i);
+    let mut out = [0; readings::MOST_READINGS];
+    for i in 0..readings::MOST_READINGS {
+        out[i] = encoding::four_at(b, READING_BYTES * i);
     }
     out
 }

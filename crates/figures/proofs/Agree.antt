@@ -5,10 +5,10 @@ use mathlib.Core.Path.{_≡_, refl, ap, _∙_}
 use mathlib.Core.Bool.{Bool, true, false, cond}
 use mathlib.Core.List.{List}
 use Prim.Native.Nat.{ℕ, _+_, _≤_, _<_}
-use Rattle.over.specs.Over.{anyOver}
-use Rattle.over.proofs.Largest.{largest-cong}
-use Rattle.over.proofs.Sums.{sum-cong}
-use Rattle.over.proofs.Inside.{place-in, in-cong, place-cong, in-mono}
+use Rattle.ranges.specs.Ranges.{anyOver}
+use Rattle.ranges.proofs.Largest.{largest-cong}
+use Rattle.ranges.proofs.Sums.{sum-cong}
+use Rattle.ranges.proofs.Inside.{place-in, in-cong, place-cong, in-mono}
 use Rattle.readings.specs.declared.Run.{Run}
 use Rattle.readings.specs.Runs.{dayLen, quarterOf, reading}
 use Rattle.readings.specs.Legal.{dayPeak, peakOf}

@@ -6,9 +6,9 @@ use mathlib.Core.List.{List}
 use Prim.Native.Nat.{ℕ, _≤_, _<_}
 use native.Mathlib.Nat.{le-trans}
 use native.Mathlib.Omega.{arith}
-use Rattle.over.specs.Over.{placeIn}
-use Rattle.over.proofs.Tests.{all-passed, any-at}
-use Rattle.over.proofs.Inside.{in-above, place-in, place-passes, place-has, place-first}
+use Rattle.ranges.specs.Ranges.{placeIn}
+use Rattle.ranges.proofs.Tests.{all-passed, any-at}
+use Rattle.ranges.proofs.Inside.{in-above, place-in, place-passes, place-has, place-first}
 use Rattle.readings.specs.declared.Run.{Run}
 use Rattle.readings.specs.Runs.{dayLen, reading}
 use Rattle.figures.specs.Figures.{anyOn, highOn, quarterOn, highIn, highDay, figuresOf, FirstPlace}

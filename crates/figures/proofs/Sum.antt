@@ -4,8 +4,8 @@ use mathlib.Core.Path.{_≡_, sym, ap, _∙_}
 use mathlib.Core.List.{List}
 use Prim.Native.Nat.{ℕ, zero, suc, _+_}
 use lib.ListN.{getD}
-use Rattle.over.specs.Over.{sumOver}
-use Rattle.over.proofs.Sums.{sum-none, sum-suc, sum-add}
+use Rattle.ranges.specs.Ranges.{sumOver}
+use Rattle.ranges.proofs.Sums.{sum-none, sum-suc, sum-add}
 use Rattle.readings.specs.declared.Run.{Run}
 use Rattle.readings.specs.Runs.{dayLen, dayStart, reading}
 use Rattle.readings.proofs.Runs.{start-none, start-suc}

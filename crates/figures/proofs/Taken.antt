@@ -4,12 +4,12 @@ use mathlib.Core.Path.{_≡_, refl, sym, ap, _∙_}
 use mathlib.Core.Bool.{Bool, false, cond, or-true}
 use mathlib.Core.List.{List}
 use Prim.Native.Nat.{ℕ, _+_, _<_}
-use Rattle.over.specs.Over.{sumOver, anyOver, largestIn, placeIn}
-use Rattle.over.proofs.Largest.{largest-none, largest-more, largest-cong}
-use Rattle.over.proofs.Sums.{sum-none, sum-more, sum-cong}
-use Rattle.over.proofs.Tests.{any-none, any-more, any-cong}
-use Rattle.over.proofs.Inside.{in-none, in-cong, place-cong, newer, Placed, placed}
-use Rattle.over.proofs.Inside.Placed.{nowhere, stays, moves}
+use Rattle.ranges.specs.Ranges.{sumOver, anyOver, largestIn, placeIn}
+use Rattle.ranges.proofs.Largest.{largest-none, largest-more, largest-cong}
+use Rattle.ranges.proofs.Sums.{sum-none, sum-more, sum-cong}
+use Rattle.ranges.proofs.Tests.{any-none, any-more, any-cong}
+use Rattle.ranges.proofs.Inside.{in-none, in-cong, place-cong, newer, Placed, placed}
+use Rattle.ranges.proofs.Inside.Placed.{nowhere, stays, moves}
 use Rattle.readings.specs.declared.Run.{Run}
 use Rattle.readings.specs.Runs.{dayLen, quarterOf, reading}
 use Rattle.readings.specs.Legal.{dayPeak, peakOf}

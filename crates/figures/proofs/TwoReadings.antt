@@ -8,11 +8,11 @@ use Prim.Native.Nat.{ℕ, zero, suc, _+_, _-_, _≤_, _<_, max}
 use native.Mathlib.Nat.{le-antisymm}
 use native.Mathlib.Decide.{ℕ-discrete}
 use native.Mathlib.Omega.{arith}
-use Rattle.over.specs.Over.{sumOver}
-use Rattle.over.proofs.Bools.{clash}
-use Rattle.over.proofs.Largest.{largest-le}
-use Rattle.over.proofs.Sums.{sum-none, sum-suc, sum-more, sum-add}
-use Rattle.over.proofs.Tests.{any-at}
+use Rattle.ranges.specs.Ranges.{sumOver}
+use Rattle.ranges.proofs.Bools.{clash}
+use Rattle.ranges.proofs.Largest.{largest-le}
+use Rattle.ranges.proofs.Sums.{sum-none, sum-suc, sum-more, sum-add}
+use Rattle.ranges.proofs.Tests.{any-at}
 use Rattle.tariff.specs.declared.Figures.{Figures}
 use Rattle.readings.specs.declared.Run.{Run}
 use Rattle.readings.specs.Runs.{dayLen, quarterOf, reading}

@@ -6,7 +6,7 @@ use mathlib.Core.Bool.{Bool, true, false, cond, not, _&&_, _||_}
 use mathlib.Core.List.{List}
 use Prim.Native.Nat.{ℕ, _+_, _≤_, _<_, max}
 use lib.Dec.{ltb}
-use Rattle.over.specs.Over.{largestOver, sumOver, anyOver, largestIn, placeIn}
+use Rattle.ranges.specs.Ranges.{largestOver, sumOver, anyOver, largestIn, placeIn}
 use Rattle.readings.specs.declared.Run.{Run}
 use Rattle.readings.specs.Runs.{dayLen, quarterOf, reading}
 use Rattle.readings.specs.Legal.{peakOf}

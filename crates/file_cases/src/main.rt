@@ -9,9 +9,6 @@ use libc::STDOUT_FILENO;
 // Bytes that a field or a day has at most.
 const PART_MOST: usize = 400;
 
-// Enough for every text.
-const TEXT_MOST: usize = 5425;
-
 // Parts that any file has at most: 16 fields, 40 holidays, 366 days, and what is left over after them.
 const PARTS: u32 = 423;
 
@@ -41,7 +38,7 @@ fn run_grid(fd: i32) -> GridFile {
 }
 
 fn print_windows(fd: i32) {
-    let mut text = [0u8; TEXT_MOST];
+    let mut text = [0u8; lines::TEXT_MOST];
     let n = grid_text::text(run_grid(fd), &mut text);
     io::write_all(STDOUT_FILENO, &text[0..n]);
 }
@@ -71,7 +68,7 @@ fn run_customer(fd: i32) -> CustomerFile {
 }
 
 fn print_statement(fd: i32) {
-    let mut text = [0u8; TEXT_MOST];
+    let mut text = [0u8; lines::TEXT_MOST];
     let n = customer_text::text(run_customer(fd), &mut text);
     io::write_all(STDOUT_FILENO, &text[0..n]);
 }

@@ -9,7 +9,7 @@ ghost use Rattle.readings.specs.Legal.{highestOf};
 ghost use Rattle.readings.specs.Days.{nextAnswer};
 ghost use Rattle.sheet.specs.Answers.{saidOfSheet};
 ghost use Rattle.sheet.specs.Windows.{flatWindows};
-ghost use Rattle.grid.specs.Answers.{saidOfGrid, Gives, finishAnswer, finished, windowsAnswer, windowsBuffer, openAnswer, openGrid, shut, dayAnswer, dayGrid, dayCurves, closeAnswer, closeBuffer};
+ghost use Rattle.grid.specs.Answers.{saidOfGrid, Gives, finishAnswer, finished, windowsAnswer, windowsBuffer, gridOpenAnswer, openGrid, shutGrid, gridDayAnswer, dayGrid, dayCurves, gridCloseAnswer, gridCloseBuffer};
 use answers::Place;
 use readings::Run;
 use sheet::Sheet;
@@ -33,7 +33,7 @@ pub struct Grid {
     pub year: u16,
     pub level: u8,
     pub seen: u16,
-    pub curves: [u32; 384],
+    pub curves: [u32; sheet::WINDOW_PLACES],
 }
 
 // An answer, and the next state beside it.
@@ -42,7 +42,7 @@ pub struct Stepped {
     pub grid: Grid,
 }
 
-fn told(answer: SheetAnswer) -> GridAnswer
+fn as_grid_answer(answer: SheetAnswer) -> GridAnswer
     ensures { λ r. ⌜ saidOfGrid r ≡ saidOfSheet answer ⌝ }
 {
     match answer {
@@ -55,18 +55,26 @@ fn told(answer: SheetAnswer) -> GridAnswer
 }
 
 // The chosen quarters of four seasons, one season after the other, as a sheet holds them.
-pub fn flat_windows(chosen: [[bool; 96]; 4]) -> [bool; sheet::PLACES]
+pub fn flat_windows(
+    chosen: [[bool; answers::DAY_QUARTERS]; sheet::SEASONS],
+) -> [bool; sheet::WINDOW_PLACES]
     ensures { λ r. ⌜ r ≡ flatWindows chosen ⌝ }
 {
-    let mut out = [false; sheet::PLACES];
-    for p in 0..sheet::PLACES {
-        out[p] = chosen[p / 96][p % 96];
+    let mut out = [false; sheet::WINDOW_PLACES];
+    for p in 0..sheet::WINDOW_PLACES {
+        out[p] = chosen[p / answers::DAY_QUARTERS][p % answers::DAY_QUARTERS];
     }
     out
 }
 
 // All days are in: 7 for a peak of zero, else the windows are chosen and their sheet is written.
-fn finish(year: u16, level: u8, curves: &[u32; 384], peak: u32, out: &mut [u8]) -> GridAnswer
+fn finish(
+    year: u16,
+    level: u8,
+    curves: &[u32; sheet::WINDOW_PLACES],
+    peak: u32,
+    out: &mut [u8],
+) -> GridAnswer
     requires { ⌜ peak ≡ highestOf (now curves) ⌝ }
     ensures { λ r. ⌜ Gives r (finishAnswer year level (now (curves .entry)) (length (now (out .entry))))
         (now (out .exit)) (finished year level (now (curves .entry)) (now (out .entry))) ⌝ }
@@ -75,7 +83,7 @@ fn finish(year: u16, level: u8, curves: &[u32; 384], peak: u32, out: &mut [u8]) 
         return GridAnswer::NoPeak;
     }
     let windows = flat_windows(windows::chosen(peak, curves));
-    told(sheet_write::write(
+    as_grid_answer(sheet_write::write(
         Sheet {
             year,
             level,
@@ -105,9 +113,13 @@ pub fn windows(year: u16, level: u8, series: &[u32], out: &mut [u8]) -> GridAnsw
         return GridAnswer::WrongLength;
     }
     let curves = grid_curves::collect(year, series);
-    let peak = legal::highest(&curves);
+    let peak = legal_readings::highest(&curves);
     if answers::GRID_MOST < peak {
-        return GridAnswer::BadReading(legal::first_illegal(run, series, answers::GRID_MOST));
+        return GridAnswer::BadReading(legal_readings::first_illegal(
+            run,
+            series,
+            answers::GRID_MOST,
+        ));
     }
     finish(year, level, &curves, peak, out)
 }
@@ -122,7 +134,7 @@ fn day_answer(year: u16, seen: u16, day: &[u32]) -> GridAnswer
     if day.len() != readings::day_span(Run::Period(year), seen).len {
         return GridAnswer::WrongLength;
     }
-    let first = legal::first_above(day, answers::GRID_MOST);
+    let first = legal_readings::first_above(day, answers::GRID_MOST);
     if first < day.len() {
         return GridAnswer::BadReading(Place {
             day: seen + 1,
@@ -134,7 +146,12 @@ fn day_answer(year: u16, seen: u16, day: &[u32]) -> GridAnswer
 
 // One day more, laid over lent curves where so many days are taken: for a host that keeps the curves itself. Refuses
 // 13, 4, 5 in this order, and then changes no value.
-pub fn take_day(curves: &mut [u32; 384], year: u16, seen: u16, day: &[u32]) -> GridAnswer
+pub fn take_day(
+    curves: &mut [u32; sheet::WINDOW_PLACES],
+    year: u16,
+    seen: u16,
+    day: &[u32],
+) -> GridAnswer
     ensures { λ r. ⌜ Gives r (nextAnswer (Period year) gridMost seen (now (day .entry)))
         (now (curves .exit)) (dayCurves year (now (curves .entry)) seen (now (day .entry))) ⌝ }
 {
@@ -150,7 +167,7 @@ impl Grid {
     // Opens a series that comes day by day. Refuses 1, 2; a refusal hands back one fixed state, on which every day and
     // every closing is 13.
     pub fn open(year: u16, level: u8) -> Stepped
-        ensures { λ r. ⌜ Gives (r .answer) (openAnswer year level) (r .grid) (openGrid year level) ⌝ }
+        ensures { λ r. ⌜ Gives (r .answer) (gridOpenAnswer year level) (r .grid) (openGrid year level) ⌝ }
     {
         if answers::year_out(year) {
             return Stepped {
@@ -170,26 +187,26 @@ impl Grid {
                 year,
                 level,
                 seen: 0,
-                curves: [0; 384],
+                curves: [0; sheet::WINDOW_PLACES],
             },
         }
     }
 
     fn shut() -> Grid
-        ensures { λ r. ⌜ r ≡ shut ⌝ }
+        ensures { λ r. ⌜ r ≡ shutGrid ⌝ }
     {
         Grid {
             year: 0,
             level: 0,
-            seen: 65535,
-            curves: [0; 384],
+            seen: readings::SHUT_DAYS,
+            curves: [0; sheet::WINDOW_PLACES],
         }
     }
 
     // One day more, laid over the curves of the state that is handed back. Refuses 13, 4, 5 in this order, and then
     // hands back the state as it was.
     pub fn day(self, day: &[u32]) -> Stepped
-        ensures { λ r. ⌜ Gives (r .answer) (dayAnswer self (now (day .entry))) (r .grid) (dayGrid self (now (day .entry))) ⌝ }
+        ensures { λ r. ⌜ Gives (r .answer) (gridDayAnswer self (now (day .entry))) (r .grid) (dayGrid self (now (day .entry))) ⌝ }
     {
         let year = self.year;
         let seen = self.seen;
@@ -205,8 +222,8 @@ impl Grid {
     // The windows of the days taken, as a sheet in a lent buffer. Refuses 14, 13, 7 in this order, and then changes no
     // byte.
     pub fn close(self, out: &mut [u8]) -> GridAnswer
-        ensures { λ r. ⌜ Gives r (closeAnswer self (length (now (out .entry))))
-            (now (out .exit)) (closeBuffer self (now (out .entry))) ⌝ }
+        ensures { λ r. ⌜ Gives r (gridCloseAnswer self (length (now (out .entry))))
+            (now (out .exit)) (gridCloseBuffer self (now (out .entry))) ⌝ }
     {
         let curves = self.curves;
         if out.len() < sheet::SHEET_SIZE {
@@ -215,7 +232,7 @@ impl Grid {
         if self.seen != periods::period_days(self.year) {
             return GridAnswer::DayOut;
         }
-        let peak = legal::highest(&curves);
+        let peak = legal_readings::highest(&curves);
         finish(self.year, self.level, &curves, peak, out)
     }
 }

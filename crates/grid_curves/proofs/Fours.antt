@@ -12,27 +12,27 @@ use borrow.Author.Tests.{eq-eqb, ne-eqb, lt-ltb, le-ltb}
 use lib.Dec.{eqb, ltb}
 use lib.ListN.{length, getD, set, take, drop, length-set}
 use lib.Seq.{getD-set-same, getD-set-other, getD-take, getD-drop}
-use Rattle.over.specs.Over.{largestOver, counted, table}
-use Rattle.over.proofs.Largest.{largest-none, largest-more, largest-add, largest-above, largest-le, largest-cong, largest-rest}
-use Rattle.over.proofs.Tables.{is-table, getD-table, table-cong}
+use Rattle.ranges.specs.Ranges.{largestOver, numberIf, table}
+use Rattle.ranges.proofs.Largest.{largest-none, largest-more, largest-add, largest-above, largest-le, largest-cong, largest-rest}
+use Rattle.ranges.proofs.Tables.{is-table, getD-table, table-cong}
 use Rattle.answers.specs.Ruling.{dayQuarters}
 use Rattle.periods.specs.Period.{periodSeason}
 use Rattle.readings.specs.declared.Run.the-variants.{Period}
 use Rattle.readings.specs.Runs.{dayLen, dayStart, quarterOf, reading}
 use Rattle.readings.proofs.Runs.{len-is, quarter-is, start-formula}
-use Rattle.sheet.specs.Windows.{places}
+use Rattle.sheet.specs.Windows.{windowPlaces}
 use Rattle.grid_curves.specs.Curves.{inSeason, topOf, curveAt, flatCurves}
 use Rattle.grid_curves.specs.Four.{fourDays, fourTop, overlaid}
 use Rattle.grid_curves.proofs.Curves.{curves-long}
 
-counted-none : (b : Bool) → counted b 0 ≡ 0
+counted-none : (b : Bool) → numberIf b 0 ≡ 0
 counted-none true = refl
 counted-none false = refl
 
 module _ (s : ℕ) (flat four : List ℕ) where
   -- what the first q quarters bring to place i of the curves
   abbrev brought : ℕ → ℕ → ℕ
-  brought q i = counted (eqb s (i / dayQuarters + 1)) (counted (ltb (i % dayQuarters) q) (fourTop four (i % dayQuarters)))
+  brought q i = numberIf (eqb s (i / dayQuarters + 1)) (numberIf (ltb (i % dayQuarters) q) (fourTop four (i % dayQuarters)))
 
   -- what the loop keeps
   pub record Over (q : ℕ) (out : List ℕ) : Type 0 where
@@ -92,29 +92,29 @@ module _ (s : ℕ) (flat four : List ℕ) where
           omega (arith, stored, same, was, gets .0, gets .1, ev)
 
 -- a day that has 96 readings in the quarters' order brings its reading of the quarter
-pub top-plain : (y d : ℕ) (f : ℕ → ℕ) (s q : ℕ) → q < dayQuarters → topOf y d f s q ≡ counted (inSeason y d s) (f q)
+pub top-plain : (y d : ℕ) (f : ℕ → ℕ) (s q : ℕ) → q < dayQuarters → topOf y d f s q ≡ numberIf (inSeason y d s) (f q)
 unfolding topOf
 top-plain y d f s q l =
-    ap (counted (inSeason y d s))
+    ap (numberIf (inSeason y d s))
     (le-antisymm (largest-le g n (f q) (λ p m. up p (ℕ-discrete (quarterOf (Period y) d p) q))) (omega (arith, down, one)))
   where
     n : ℕ
     n = dayLen (Period y) d
 
     g : ℕ → ℕ
-    g p = counted (eqb (quarterOf (Period y) d p) q) (f p)
+    g p = numberIf (eqb (quarterOf (Period y) d p) q) (f p)
 
-    up : (p : ℕ) → Dec (quarterOf (Period y) d p ≡ q) → counted (eqb (quarterOf (Period y) d p) q) (f p) ≤ f q
+    up : (p : ℕ) → Dec (quarterOf (Period y) d p ≡ q) → numberIf (eqb (quarterOf (Period y) d p) q) (f p) ≤ f q
     up p (yes e) =
         let same : p ≡ q = quarter-is (Period y) d p ∙ e in
         simp (eq-eqb _ _ e) (omega (arith, ap f same))
     up p (no e) = simp (ne-eqb _ _ e) (omega arith)
 
-    one : counted (eqb (quarterOf (Period y) d q) q) (f q) ≡ f q
+    one : numberIf (eqb (quarterOf (Period y) d q) q) (f q) ≡ f q
     one = simp (eq-eqb (quarterOf (Period y) d q) q (sym (quarter-is (Period y) d q)))
 
-    down : counted (eqb (quarterOf (Period y) d q) q) (f q) ≤ largestOver (λ p. counted (eqb (quarterOf (Period y) d p) q) (f p)) (dayLen (Period y) d)
-    down = largest-above (λ p. counted (eqb (quarterOf (Period y) d p) q) (f p)) (dayLen (Period y) d) q (omega (arith, len-is (Period y) d))
+    down : numberIf (eqb (quarterOf (Period y) d q) q) (f q) ≤ largestOver (λ p. numberIf (eqb (quarterOf (Period y) d p) q) (f p)) (dayLen (Period y) d)
+    down = largest-above (λ p. numberIf (eqb (quarterOf (Period y) d p) q) (f p)) (dayLen (Period y) d) q (omega (arith, len-is (Period y) d))
 
 max-pairs : (u v w x : ℕ) → max (max u v) (max w x) ≡ max (max (max (max 0 u) v) w) x
 max-pairs u v w x =
@@ -145,7 +145,7 @@ four-top four q =
     (λ i. max (max (sym a i) (sym b i)) (max (sym c i) (sym d i))) ∙ max-pairs (g 0) (g 1) (g 2) (g 3) ∙ sym (largest-four g)
 
 -- a test of all is a test of each
-counted-largest : (b : Bool) (g : ℕ → ℕ) (n : ℕ) → counted b (largestOver g n) ≡ largestOver (λ k. counted b (g k)) n
+counted-largest : (b : Bool) (g : ℕ → ℕ) (n : ℕ) → numberIf b (largestOver g n) ≡ largestOver (λ k. numberIf b (g k)) n
 counted-largest true g n = refl
 counted-largest false g n = sym (largest-none _) ∙ largest-rest (λ k. 0) 0 n (omega arith) (λ k a l. refl)
 
@@ -160,18 +160,18 @@ module _
     four = take size (drop at xs)
 
     -- a day of the four brings its reading
-    brings : (k q t : ℕ) → k < 4 → q < dayQuarters → topOf y (d + k) (reading (Period y) xs (d + k)) t q ≡ counted (eqb s t) (getD four (dayQuarters * k + q) 0)
+    brings : (k q t : ℕ) → k < 4 → q < dayQuarters → topOf y (d + k) (reading (Period y) xs (d + k)) t q ≡ numberIf (eqb s t) (getD four (dayQuarters * k + q) 0)
     brings k q t l m =
         let stands : dayStart (Period y) (d + k) + q ≡ at + (dayQuarters * k + q) =
         omega (arith, start-formula (Period y) d, start-formula (Period y) (d + k)) in
         let inside : dayQuarters * k + q < size = omega arith in
         top-plain y (d + k) (reading (Period y) xs (d + k)) t q m
-        ∙ ap (λ (z : ℕ). counted (eqb z t) (reading (Period y) xs (d + k) q)) (alike k l)
-        ∙ ap (counted (eqb s t))
+        ∙ ap (λ (z : ℕ). numberIf (eqb z t) (reading (Period y) xs (d + k) q)) (alike k l)
+        ∙ ap (numberIf (eqb s t))
         (ap (λ (z : ℕ). getD xs z 0) stands
         ∙ sym (getD-take size (drop at xs) (dayQuarters * k + q) 0 inside ∙ getD-drop at xs (dayQuarters * k + q) 0))
 
-    four-value : (t q : ℕ) → q < dayQuarters → max (curveAt y xs d t q) (counted (eqb s t) (fourTop four q)) ≡ curveAt y xs (d + 4) t q
+    four-value : (t q : ℕ) → q < dayQuarters → max (curveAt y xs d t q) (numberIf (eqb s t) (fourTop four q)) ≡ curveAt y xs (d + 4) t q
     unfolding curveAt fourTop
     four-value t q m =
         ap (max (largestOver (λ k. topOf y k (reading (Period y) xs k) t q) d))
@@ -182,4 +182,4 @@ module _
     unfolding overlaid flatCurves
     four-more e =
         ap (table _) (ap length e ∙ curves-long y xs d)
-        ∙ table-cong _ _ places (λ i l. rw (e, getD-table) (four-value (i / dayQuarters + 1) (i % dayQuarters) (omega arith)))
+        ∙ table-cong _ _ windowPlaces (λ i l. rw (e, getD-table) (four-value (i / dayQuarters + 1) (i % dayQuarters) (omega arith)))

@@ -9,8 +9,8 @@ use native.Mathlib.Decide.{ℕ-discrete}
 use native.Mathlib.Omega.{arith}
 use borrow.Author.Tests.{eqb-true}
 use lib.Dec.{eqb}
-use Rattle.over.specs.Over.{counted}
-use Rattle.over.proofs.Largest.{largest-le}
+use Rattle.ranges.specs.Ranges.{numberIf}
+use Rattle.ranges.proofs.Largest.{largest-le}
 use Rattle.periods.specs.Period.{periodSeason}
 use Rattle.readings.specs.declared.Run.{Run}
 use Rattle.readings.specs.declared.Run.the-variants.{Period}
@@ -52,7 +52,7 @@ module _ {run : Run} {xs : List ℕ} {n c v on at : ℕ} (o : OneOther run xs n 
       le-antisymm (largest-le _ n v (λ d l. largest-le _ (dayLen run d) v (λ p m. other-high d p l m)))
       (omega (arith, o .there, reading-le run xs n on at (o .on-in) (o .at-in)))
 
-counted-low : (b : Bool) {v w : ℕ} → (b ≡ true → v ≤ w) → counted b v ≤ w
+counted-low : (b : Bool) {v w : ℕ} → (b ≡ true → v ≤ w) → numberIf b v ≤ w
 counted-low true h = h refl
 counted-low false h = omega arith
 

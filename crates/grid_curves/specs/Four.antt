@@ -3,7 +3,7 @@ use mathlib.Core.List.{List}
 use Prim.Native.Nat.{ℕ, _+_, _*_, _/_, _%_, max}
 use lib.Dec.{eqb}
 use lib.ListN.{length, getD}
-use Rattle.over.specs.Over.{largestOver, counted, table}
+use Rattle.ranges.specs.Ranges.{largestOver, numberIf, table}
 use Rattle.answers.specs.Ruling.{dayQuarters}
 
 -- the readings of four days
@@ -17,4 +17,4 @@ fourTop four q = largestOver (λ k. getD four (dayQuarters * k + q) 0) 4
 -- curves with four days of season s laid over them
 unfoldable pub overlaid : ℕ → List ℕ → List ℕ → List ℕ
 overlaid s flat four =
-    table (λ i. max (getD flat i 0) (counted (eqb s (i / dayQuarters + 1)) (fourTop four (i % dayQuarters)))) (length flat)
+    table (λ i. max (getD flat i 0) (numberIf (eqb s (i / dayQuarters + 1)) (fourTop four (i % dayQuarters)))) (length flat)

@@ -37,19 +37,19 @@ fn season_of(year: u16, d: u16) -> u8
 }
 
 // Lays the readings of day d, from 0, over the curve of its season: every day counts, weekends too.
-fn lay(curves: &mut [u32; 384], year: u16, d: u16, season: u8, day: &[u32])
+fn lay(curves: &mut [u32; sheet::WINDOW_PLACES], year: u16, d: u16, season: u8, day: &[u32])
     requires { ⌜ (length (now day) ≤ dayLen (Period year) d) × (season ≡ periodSeason year (d + 1)) ⌝ }
     ensures { λ r. ⌜ now (curves .exit) ≡ merged year (now (curves .entry)) d (now (day .entry)) ⌝ }
 {
     let base = answers::DAY_QUARTERS * (season as usize - 1);
     for p in 0..day.len() {
         let at = base + readings::quarter_of(Run::Period(year), d, p);
-        curves[at] = legal::larger(curves[at], day[p]);
+        curves[at] = legal_readings::larger(curves[at], day[p]);
     }
 }
 
 // Lays any readings over the curves as day d, from 0, of a period: those behind the day's last are not read.
-pub fn lay_day(curves: &mut [u32; 384], year: u16, d: u16, day: &[u32])
+pub fn lay_day(curves: &mut [u32; sheet::WINDOW_PLACES], year: u16, d: u16, day: &[u32])
     ensures { λ r. ⌜ now (curves .exit) ≡ merged year (now (curves .entry)) d (now (day .entry)) ⌝ }
 {
     let n = smaller(day.len(), readings::day_span(Run::Period(year), d).len);
@@ -58,25 +58,32 @@ pub fn lay_day(curves: &mut [u32; 384], year: u16, d: u16, day: &[u32])
 
 // Lays four days of one season, which stand one after the other, over the curves: a curve's value is read and written
 // once for all four.
-fn lay_four(curves: &mut [u32; 384], season: u8, four: &[u32])
+fn lay_four(curves: &mut [u32; sheet::WINDOW_PLACES], season: u8, four: &[u32])
     requires { ⌜ (length (now four) ≡ fourDays) × (1 ≤ season) × (season ≤ 4) ⌝ }
     ensures { λ r. ⌜ now (curves .exit) ≡ overlaid season (now (curves .entry)) (now (four .entry)) ⌝ }
 {
     let base = answers::DAY_QUARTERS * (season as usize - 1);
     for q in 0..answers::DAY_QUARTERS {
-        let early = legal::larger(four[q], four[answers::DAY_QUARTERS + q]);
-        let late = legal::larger(
+        let early = legal_readings::larger(four[q], four[answers::DAY_QUARTERS + q]);
+        let late = legal_readings::larger(
             four[2 * answers::DAY_QUARTERS + q],
             four[3 * answers::DAY_QUARTERS + q],
         );
         let at = base + q;
-        curves[at] = legal::larger(curves[at], legal::larger(early, late));
+        curves[at] = legal_readings::larger(curves[at], legal_readings::larger(early, late));
     }
 }
 
 // Lays the next four of a season's days up to `end` over the curves, or the next one where there are no four, or no
 // readings for them: the number of days that are laid then.
-fn lay_next(curves: &mut [u32; 384], year: u16, season: u8, end: u16, d: u16, series: &[u32]) -> u16
+fn lay_next(
+    curves: &mut [u32; sheet::WINDOW_PLACES],
+    year: u16,
+    season: u8,
+    end: u16,
+    d: u16,
+    series: &[u32],
+) -> u16
     requires { ⌜ (d < end) × (end ≤ periodDays year)
         × ((k : ℕ) → d ≤ k → k < end → periodSeason year (k + 1) ≡ season)
         × (now curves ≡ flatCurves year (now series) d) ⌝ }
@@ -97,7 +104,7 @@ fn lay_next(curves: &mut [u32; 384], year: u16, season: u8, end: u16, d: u16, se
 
 // Lays the days from day d on to the end of their month over the curves: they lie in one season. The number of days
 // that are laid then.
-fn lay_month(curves: &mut [u32; 384], year: u16, from: u16, series: &[u32]) -> u16
+fn lay_month(curves: &mut [u32; sheet::WINDOW_PLACES], year: u16, from: u16, series: &[u32]) -> u16
     requires { ⌜ (from < periodDays year) × (now curves ≡ flatCurves year (now series) from) ⌝ }
     ensures { λ r. ⌜ LaidTo year (now (series .entry)) from (periodDays year) r (now (curves .exit)) ⌝ }
 {
@@ -112,11 +119,11 @@ fn lay_month(curves: &mut [u32; 384], year: u16, from: u16, series: &[u32]) -> u
 
 // The curves of the period's days in any series, month by month: one pass, over one array. Behind the last reading
 // there is 0.
-pub fn collect(year: u16, series: &[u32]) -> [u32; 384]
+pub fn collect(year: u16, series: &[u32]) -> [u32; sheet::WINDOW_PLACES]
     ensures { λ r. ⌜ r ≡ flatCurves year (now (series .entry)) (periodDays year) ⌝ }
 {
     let days = periods::period_days(year);
-    let mut curves = [0; 384];
+    let mut curves = [0; sheet::WINDOW_PLACES];
     let mut d = 0;
     while d < days {
         d = lay_month(&mut curves, year, d, series);

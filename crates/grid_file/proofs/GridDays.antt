@@ -11,7 +11,7 @@ use Rattle.answers.specs.declared.Place.{Place}
 use Rattle.grid.specs.declared.Grid.{Grid}
 use Rattle.grid.specs.declared.GridAnswer.{GridAnswer}
 use Rattle.grid.specs.declared.GridAnswer.the-variants.{Done, Short, YearOut, LevelOut, WrongLength, BadReading, NoPeak, Malformed, DayOut}
-use Rattle.grid.specs.Answers.{saidOfGrid, dayAnswer, dayGrid}
+use Rattle.grid.specs.Answers.{saidOfGrid, gridDayAnswer, dayGrid}
 use Rattle.fields.specs.declared.Stage.{Stage}
 use Rattle.fields.specs.declared.Stage.the-variants.{Refused}
 use Rattle.fields.specs.Stages.{stageOf, dayStage}
@@ -22,7 +22,7 @@ use Rattle.grid_file.specs.GridMachine.{gridReader}
 
 module _ (s : GridFile) (day : List ℕ) where
   abbrev said : Said
-  said = dayAnswer (s .grid) day
+  said = gridDayAnswer (s .grid) day
 
   abbrev with : Grid → Stage → GridFile
   with g stage = record { field = s .field; head = s .head; grid = g; stage = stage }

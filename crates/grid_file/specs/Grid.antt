@@ -18,7 +18,7 @@ abbrev pub blankSheet : List ℕ
 blankSheet = replicate sheetSize 0
 
 abbrev pub withSheet : Said → List ℕ → Said
-withSheet answer bytes = after answer (record { number = 0; carries = bytes }) answer
+withSheet answer bytes = after answer (record { number = 0; figures = bytes }) answer
 
 -- what a series is answered whole
 abbrev pub wholeGrid : ℕ → ℕ → List ℕ → Said

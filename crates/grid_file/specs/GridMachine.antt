@@ -8,12 +8,12 @@ use Rattle.periods.specs.Period.{periodDays}
 use Rattle.readings.specs.declared.Run.the-variants.{Period}
 use Rattle.sheet.specs.Bytes.{sheetSize}
 use Rattle.grid.specs.declared.Grid.{Grid}
-use Rattle.grid.specs.Answers.{dayAnswer, dayGrid, closeAnswer, closeBuffer}
+use Rattle.grid.specs.Answers.{gridDayAnswer, dayGrid, gridCloseAnswer, gridCloseBuffer}
 use Rattle.fields.specs.declared.Stage.{Stage}
 use Rattle.fields.specs.declared.Stage.the-variants.{Going}
 use Rattle.fields.specs.Machine.{Reader, wants, fed}
 use Rattle.grid_file.specs.declared.GridFile.{GridFile}
-use Rattle.grid_head.specs.Header.{gridLayout, openedGrid}
+use Rattle.grid_head.specs.Header.{gridLayout, gridHeadMost, openedGrid}
 use Rattle.grid_file.specs.Grid.{blankSheet, withSheet}
 
 -- the header that holds these bytes, after k fields
@@ -21,7 +21,7 @@ abbrev pub gridHead : ℕ → List ℕ → GridFile
 gridHead k head = record { field = k; head = head; grid = openedGrid head; stage = Going }
 
 abbrev pub gridStart : GridFile
-gridStart = gridHead 0 (replicate 8 0)
+gridStart = gridHead 0 (replicate gridHeadMost 0)
 
 abbrev pub gridEnded : GridFile → Stage → GridFile
 gridEnded s stage = record { field = s .field; head = s .head; grid = s .grid; stage = stage }
@@ -39,7 +39,7 @@ gridReader =
       days = λ s. periodDays (s .grid .year);
       ended = gridEnded;
       headed = λ s head. gridHead (s .field + 1) head;
-      said = λ s day. dayAnswer (s .grid) day;
+      said = λ s day. gridDayAnswer (s .grid) day;
       added = λ s day. record { field = s .field; head = s .head; grid = dayGrid (s .grid) day; stage = Going };
     }
 
@@ -51,4 +51,4 @@ gridFed s b = fed gridReader s b
 
 -- closing: 0 carries the sheet
 abbrev pub closedGrid : Grid → Said
-closedGrid g = withSheet (closeAnswer g sheetSize) (closeBuffer g blankSheet)
+closedGrid g = withSheet (gridCloseAnswer g sheetSize) (gridCloseBuffer g blankSheet)

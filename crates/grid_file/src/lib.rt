@@ -20,7 +20,7 @@ use readings::Run;
 // A grid file that is read: the fields taken so far, the header's bytes, the days taken so far, and where it stands.
 pub struct GridFile {
     pub field: usize,
-    pub head: [u8; grid_head::HEAD_SIZE],
+    pub head: [u8; grid_head::HEAD_MOST],
     pub grid: Grid,
     pub stage: Stage,
 }
@@ -30,7 +30,7 @@ fn stage_of(answer: GridAnswer) -> Stage
     ensures { λ r. ⌜ r ≡ dayStage (saidOfGrid answer) ⌝ }
 {
     let GridAnswer::BadReading(place) = answer else {
-        let number = grid_flat::of_answer(answer).number as u8;
+        let number = grid_numbers::of_answer(answer).number as u8;
         if number == 0 {
             return Stage::Going;
         }
@@ -44,7 +44,7 @@ impl GridFile {
     pub fn start() -> GridFile
         ensures { λ r. ⌜ r ≡ gridStart ⌝ }
     {
-        let head = [0; grid_head::HEAD_SIZE];
+        let head = [0; grid_head::HEAD_MOST];
         GridFile {
             field: 0,
             head,
@@ -97,7 +97,7 @@ impl GridFile {
         }
         let k = self.field;
         let mut head = self.head;
-        packed::lay(&mut head, span.start, &b[..span.width]);
+        encoding::lay(&mut head, span.start, &b[..span.width]);
         let number = grid_head::refusal(&head, k);
         if number != 0 {
             return self.ended(Stage::Refused(number));

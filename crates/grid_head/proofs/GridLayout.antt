@@ -9,8 +9,8 @@ use native.Mathlib.Omega.{arith}
 use borrow.Author.Tests.{eqb-true, leb-true}
 use lib.Dec.{leb, eqb}
 use lib.ListN.{getD, List·getD-eq-default}
-use Rattle.over.specs.Over.{joined, sumOver, allOver}
-use Rattle.over.proofs.Tests.{all-at}
+use Rattle.ranges.specs.Ranges.{joined, sumOver, allOver}
+use Rattle.ranges.proofs.Tests.{all-at}
 use Rattle.fields.specs.Layout.{Field, noField, fieldAt, widthAt, layoutOf, startOf}
 use Rattle.fields.specs.Common.{markField, versionField, yearField, levelField}
 use Rattle.fields.proofs.Header.{field-past, Fits, fits-by}
@@ -53,7 +53,7 @@ module _ (b : List ℕ) where
   grid-size = refl
 
   -- what refuses a field
-  pub grid-refusal : (k : ℕ) → k < 4 → fieldAt (gridFields b) k .refusal (getD gridStarts k 0) ≡ gridLayout b .refusal k
+  pub grid-refusal : (k : ℕ) → k < 4 → fieldAt (gridFields b) k .refusedAt (getD gridStarts k 0) ≡ gridLayout b .refusal k
   unfolding gridLayout layoutOf markField versionField yearField levelField sumOver joined
   grid-refusal zero l = refl
   grid-refusal (suc zero) l = refl
@@ -70,7 +70,7 @@ module _ (b : List ℕ) where
     pub refusal-none : 0 ≡ gridLayout b .refusal k
     unfolding gridLayout layoutOf
     refusal-none =
-        sym (ap (λ (f : Field). f .refusal (sumOver (widthAt (gridFields b)) k)) (List·getD-eq-default (gridFields b) noField {n = k} m))
+        sym (ap (λ (f : Field). f .refusedAt (sumOver (widthAt (gridFields b)) k)) (List·getD-eq-default (gridFields b) noField {n = k} m))
 
   pub start-none : (k : ℕ) → 4 ≤ k → 8 ≡ startOf (gridLayout b) k
   start-none k m = sym grid-size ∙ field-past (gridLayout b) 4 width-none k m
@@ -87,5 +87,5 @@ module _ (b : List ℕ) where
           (λ z. absurd (omega arith)) (λ z. omega arith)
 
 -- the number of field k, which is field i
-pub refusal-at : (b : List ℕ) (i : ℕ) {k : ℕ} → k ≡ i → i < 4 → fieldAt (gridFields b) i .refusal (getD gridStarts i 0) ≡ gridLayout b .refusal k
+pub refusal-at : (b : List ℕ) (i : ℕ) {k : ℕ} → k ≡ i → i < 4 → fieldAt (gridFields b) i .refusedAt (getD gridStarts i 0) ≡ gridLayout b .refusal k
 refusal-at b i e l = grid-refusal b i l ∙ ap (gridLayout b .refusal) (sym e)

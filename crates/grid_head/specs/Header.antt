@@ -3,7 +3,7 @@
 use mathlib.Core.List.{List, [], _∷_}
 use Prim.Native.Nat.{ℕ, _+_}
 use lib.ListN.{getD}
-use Rattle.packed.specs.Bytes.{twoAt, markSize}
+use Rattle.encoding.specs.Bytes.{twoAt, markSize, versionSize, yearSize}
 use Rattle.grid.specs.declared.Grid.{Grid}
 use Rattle.grid.specs.Answers.{openGrid}
 use Rattle.fields.specs.Layout.{Field, Layout, layoutOf}
@@ -22,10 +22,14 @@ gridLayout b = layoutOf (gridFields b)
 
 -- year and level, behind mark and version
 abbrev pub gridYear : List ℕ → ℕ
-gridYear b = twoAt b (markSize + 2)
+gridYear b = twoAt b (markSize + versionSize)
 
 abbrev pub gridLevel : List ℕ → ℕ
-gridLevel b = getD b (markSize + 2 + 2) 0
+gridLevel b = getD b (markSize + versionSize + yearSize) 0
+
+-- the header's bytes
+abbrev pub gridHeadMost : ℕ
+gridHeadMost = 8
 
 -- the series that the header opens
 abbrev pub openedGrid : List ℕ → Grid

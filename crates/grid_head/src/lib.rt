@@ -14,7 +14,7 @@ const STARTS: [usize; FIELDS] = [0, 3, 5, 7];
 
 const WIDTHS: [usize; FIELDS] = [3, 2, 2, 1];
 
-pub const HEAD_SIZE: usize = 8;
+pub const HEAD_MOST: usize = 8;
 
 // Where version, year and level stand.
 const VERSION_AT: usize = 3;
@@ -34,7 +34,7 @@ pub fn span_of(head: &[u8], k: usize) -> Span
         };
     }
     Span {
-        start: HEAD_SIZE,
+        start: HEAD_MOST,
         width: 0,
     }
 }
@@ -44,16 +44,16 @@ pub fn refusal(head: &[u8], k: usize) -> u8
     ensures { λ r. ⌜ r ≡ gridLayout (now (head .entry)) .refusal k ⌝ }
 {
     if k < 1 {
-        return fields::number_if(packed::unlike(head, 0, b"GRD"), 12);
+        return fields::number_if(encoding::other_mark(head, 0, b"GRD"), 12);
     }
     if k < 2 {
-        return fields::number_if(packed::two_at(head, VERSION_AT) != packed::VERSION, 12);
+        return fields::number_if(encoding::two_at(head, VERSION_AT) != encoding::VERSION, 12);
     }
     if k < 3 {
-        return fields::number_if(answers::year_out(packed::two_at(head, YEAR_AT)), 1);
+        return fields::number_if(answers::year_out(encoding::two_at(head, YEAR_AT)), 1);
     }
     if k < 4 {
-        return fields::number_if(answers::level_out(packed::byte_at(head, LEVEL_AT, 0)), 2);
+        return fields::number_if(answers::level_out(encoding::byte_at(head, LEVEL_AT, 0)), 2);
     }
     0
 }
@@ -63,8 +63,8 @@ pub fn opened(head: &[u8]) -> Grid
     ensures { λ r. ⌜ r ≡ openedGrid (now (head .entry)) ⌝ }
 {
     let step = Grid::open(
-        packed::two_at(head, YEAR_AT),
-        packed::byte_at(head, LEVEL_AT, 0),
+        encoding::two_at(head, YEAR_AT),
+        encoding::byte_at(head, LEVEL_AT, 0),
     );
     step.grid
 }

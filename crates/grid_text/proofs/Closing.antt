@@ -14,7 +14,7 @@ use Rattle.sheet.specs.Windows.{tooFull}
 use Rattle.sheet.specs.Bytes.{sheetSize}
 use Rattle.sheet.specs.Answers.{readSheet, writeAnswer}
 use Rattle.grid.specs.declared.Grid.{Grid}
-use Rattle.grid.specs.Answers.{sheetOf, finishAnswer, closeAnswer, closeBuffer}
+use Rattle.grid.specs.Answers.{sheetOf, finishAnswer, gridCloseAnswer, gridCloseBuffer}
 use Rattle.lines.specs.Figures.{refusedLine}
 use Rattle.grid_file.specs.Grid.{blankSheet}
 use Rattle.grid_file.specs.GridMachine.{closedGrid}
@@ -28,8 +28,8 @@ bare-of : (b : Bool) (x y : Said) → Bare x → Bare y → Bare (cond b x y)
 bare-of true x y h k = h
 bare-of false x y h k = k
 
-close-bare : (g : Grid) (room : ℕ) → Bare (closeAnswer g room)
-unfolding closeAnswer finishAnswer writeAnswer
+close-bare : (g : Grid) (room : ℕ) → Bare (gridCloseAnswer g room)
+unfolding gridCloseAnswer finishAnswer writeAnswer
 close-bare g room =
     let s = sheetOf (g .year) (g .level) (g .curves) in
     bare-of (ltb room sheetSize) (only 14) _ refl
@@ -42,7 +42,7 @@ close-bare g room =
 
 module _ (g : Grid) where
   abbrev said : Said
-  said = closeAnswer g sheetSize
+  said = gridCloseAnswer g sheetSize
 
   pub closed-refused : {n : ℕ} → n ≡ said .number → (n ≡ 0 → ⊥) → refusedLine (n ∷ []) ≡ windowLines (closedGrid g)
   unfolding windowLines
@@ -50,6 +50,6 @@ module _ (g : Grid) where
       let bare : only n ≡ said = ap only e ∙ close-bare g sheetSize in
       simp (← bare, ne-eqb n 0 z)
 
-  pub closed-done : said .number ≡ 0 → sheetText (readSheet (closeBuffer g blankSheet)) ≡ windowLines (closedGrid g)
+  pub closed-done : said .number ≡ 0 → sheetText (readSheet (gridCloseBuffer g blankSheet)) ≡ windowLines (closedGrid g)
   unfolding windowLines
   closed-done z = simp (eq-eqb (said .number) 0 z)

@@ -10,7 +10,7 @@ use Rattle.sheet.specs.Answers.{readSheet}
 use Rattle.grid.specs.declared.Grid.{Grid}
 use Rattle.fields.specs.declared.Stage.{Stage}
 use Rattle.fields.specs.declared.Stage.the-variants.{Going, Refused, BadReading, Complete}
-use Rattle.lines.specs.Figures.{figuresIn, refusedLine}
+use Rattle.lines.specs.Figures.{lineFigures, refusedLine}
 use Rattle.window_lines.specs.Runs.{windowsText}
 use Rattle.grid_file.specs.declared.GridFile.{GridFile}
 use Rattle.grid_file.specs.Grid.{gridAnswer}
@@ -21,7 +21,7 @@ abbrev pub sheetText : Sheet → List ℕ
 sheetText s = windowsText (s .year) (s .level) (s .windows)
 
 unfoldable pub windowLines : Said → List ℕ
-windowLines said = cond (eqb (said .number) 0) (sheetText (readSheet (said .carries))) (refusedLine (figuresIn said))
+windowLines said = cond (eqb (said .number) 0) (sheetText (readSheet (said .figures))) (refusedLine (lineFigures said))
 
 -- all that the window program prints of a file with these bytes
 abbrev pub windowsPrinted : List ℕ → List ℕ
@@ -31,7 +31,7 @@ windowsPrinted b = windowLines (gridAnswer b)
 abbrev pub stageText : Stage → Grid → List ℕ
 stageText Going g = refusedLine (13 ∷ [])
 stageText (Refused n) g = refusedLine (n ∷ [])
-stageText (BadReading place) g = refusedLine (figuresIn (badPlace place))
+stageText (BadReading place) g = refusedLine (lineFigures (badPlace place))
 stageText Complete g = windowLines (closedGrid g)
 
 abbrev pub gridText : GridFile → List ℕ

@@ -3,7 +3,7 @@
 ghost use mathlib.Core.List.{[], _∷_};
 ghost use Rattle.answers.specs.Said.{badPlace};
 ghost use Rattle.lines.specs.Text.{Put};
-ghost use Rattle.lines.specs.Figures.{figuresIn, refusedLine};
+ghost use Rattle.lines.specs.Figures.{lineFigures, refusedLine};
 ghost use Rattle.grid_file.specs.GridMachine.{closedGrid};
 ghost use Rattle.grid_text.specs.Text.{windowLines, gridText};
 use answers::Place;
@@ -20,7 +20,7 @@ fn refused(number: u64, out: &mut [u8]) -> usize
 }
 
 fn refused_at(place: Place, out: &mut [u8]) -> usize
-    ensures { λ r. ⌜ Put 0 (refusedLine (figuresIn (badPlace place))) (now (out .entry)) (now (out .exit)) r ⌝ }
+    ensures { λ r. ⌜ Put 0 (refusedLine (lineFigures (badPlace place))) (now (out .entry)) (now (out .exit)) r ⌝ }
 {
     let figures = [5, place.day as u64, place.position as u64];
     lines::refused_text(&figures, out)
@@ -31,7 +31,7 @@ fn closed(grid: Grid, out: &mut [u8]) -> usize
     ensures { λ r. ⌜ Put 0 (windowLines (closedGrid grid)) (now (out .entry)) (now (out .exit)) r ⌝ }
 {
     let mut bytes = [0u8; sheet::SHEET_SIZE];
-    let number = grid_flat::of_answer(grid.close(&mut bytes)).number;
+    let number = grid_numbers::of_answer(grid.close(&mut bytes)).number;
     if number != 0 {
         return refused(number, out);
     }

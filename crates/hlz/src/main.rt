@@ -8,9 +8,6 @@ use libc::STDOUT_FILENO;
 // Bytes that a field or a day has at most.
 const PART_MOST: usize = 400;
 
-// Enough for every text.
-const TEXT_MOST: usize = 5425;
-
 // Parts that a file has at most: 4 fields, 366 days, and what is left over after them.
 const PARTS: u32 = 371;
 
@@ -42,7 +39,7 @@ fn run() -> GridFile {
 }
 
 fn main() {
-    let mut text = [0u8; TEXT_MOST];
+    let mut text = [0u8; lines::TEXT_MOST];
     let n = grid_text::text(run(), &mut text);
     io::write_all(STDOUT_FILENO, &text[0..n]);
 }

@@ -10,12 +10,12 @@ use native.Mathlib.Omega.{arith}
 use borrow.Author.Tests.{lt-ltb, le-ltb, lt-leb, ltb-false, leb-false}
 use lib.Dec.{leb, ltb}
 use lib.ListN.{length, getD}
-use Rattle.over.specs.Over.{anyOver}
-use Rattle.over.proofs.Bools.{neither}
-use Rattle.over.proofs.Tests.{Passed, any-at, any-fails, all-passed}
+use Rattle.ranges.specs.Ranges.{anyOver}
+use Rattle.ranges.proofs.Bools.{neither}
+use Rattle.ranges.proofs.Tests.{Passed, any-at, any-fails, all-passed}
 use Rattle.answers.specs.Ruling.{holidaysMost}
 use Rattle.dates.specs.Dates.{yearDays}
-use Rattle.holidays.specs.Holidays.{before, unfit, badEntry, badHolidays, LegalHolidays}
+use Rattle.holidays.specs.Holidays.{before, badHoliday, badEntry, badHolidays, LegalHolidays}
 
 -- the entry before the next one is this one
 pub before-next : (hs : List ℕ) (k : ℕ) → getD hs k 0 ≡ before hs (k + 1)
@@ -23,7 +23,7 @@ before-next hs k = rw add-one
 
 module _ (y : ℕ) (hs : List ℕ) where
   -- an entry is tested beside the one before
-  pub entry : {b : Bool} (k : ℕ) {last : ℕ} → last ≡ before hs k → unfit y last (getD hs k 0) ≡ b → badEntry y hs k ≡ b
+  pub entry : {b : Bool} (k : ℕ) {last : ℕ} → last ≡ before hs k → badHoliday y last (getD hs k 0) ≡ b → badEntry y hs k ≡ b
   entry k e t = rw e at t
 
   pub bad-long : holidaysMost < length hs → true ≡ badHolidays y hs

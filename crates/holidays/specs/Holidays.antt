@@ -5,7 +5,7 @@ use mathlib.Core.List.{List}
 use Prim.Native.Nat.{ℕ, zero, suc, _+_, _≤_, _<_}
 use lib.Dec.{leb, ltb, eqb}
 use lib.ListN.{length, getD}
-use Rattle.over.specs.Over.{anyOver}
+use Rattle.ranges.specs.Ranges.{anyOver}
 use Rattle.answers.specs.Ruling.{holidaysMost}
 use Rattle.dates.specs.Dates.{yearDays}
 
@@ -19,12 +19,12 @@ before hs zero = 0
 before hs (suc k) = getD hs k 0
 
 -- "strictly rising, inside the year": a day that does not rise above the one before, or lies past the year's end
-abbrev pub unfit : ℕ → ℕ → ℕ → Bool
-unfit y last day = leb day last || ltb (yearDays y) day
+abbrev pub badHoliday : ℕ → ℕ → ℕ → Bool
+badHoliday y last day = leb day last || ltb (yearDays y) day
 
 -- an entry breaks its rule
 abbrev pub badEntry : ℕ → List ℕ → ℕ → Bool
-badEntry y hs k = unfit y (before hs k) (getD hs k 0)
+badEntry y hs k = badHoliday y (before hs k) (getD hs k 0)
 
 -- answer 3: the list breaks its row
 unfoldable pub badHolidays : ℕ → List ℕ → Bool

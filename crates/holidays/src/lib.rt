@@ -1,12 +1,12 @@
 // Holiday lists: document 01, Numbers. Which days carry windows by a list is said in the room above.
 // Main theorem: a list is taken exactly when it keeps its row (`legal-holidays`, proofs/Lists).
 ghost use mathlib.Core.Path.{_≡_};
-ghost use Rattle.holidays.specs.Holidays.{unfit, badHolidays};
+ghost use Rattle.holidays.specs.Holidays.{badHoliday, badHolidays};
 
 // Does a listed day break its rule: it does not rise above the one before (0 before the first), or lies past the year's
 // end? Any day has an answer.
-pub fn unfit(year: u16, last: u16, day: u16) -> bool
-    ensures { λ r. ⌜ r ≡ unfit year last day ⌝ }
+pub fn bad_holiday(year: u16, last: u16, day: u16) -> bool
+    ensures { λ r. ⌜ r ≡ badHoliday year last day ⌝ }
 {
     (day <= last) | (dates::year_days(year) < day)
 }
@@ -21,7 +21,7 @@ pub fn bad_holidays(year: u16, holidays: &[u16]) -> bool
     let mut last = 0;
     for k in 0..holidays.len() {
         let day = holidays[k];
-        if unfit(year, last, day) {
+        if bad_holiday(year, last, day) {
             return true;
         }
         last = day;

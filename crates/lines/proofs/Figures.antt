@@ -12,7 +12,7 @@ use borrow.Author.Tests.{lt-ltb, le-ltb, le-leb, lt-leb, eq-eqb, ne-eqb}
 use lib.Dec.{ltb, leb, lit<}
 use lib.ListN.{length, length-append}
 use Rattle.io.specs.Digits.{digits, glyph, Fewest}
-use Rattle.over.proofs.First.{first-at, first-le}
+use Rattle.ranges.proofs.First.{first-at, first-le}
 use Rattle.lines.specs.Text.{textOver}
 use Rattle.lines.specs.Figures.{digitsIn, decimalOf, fieldOf, fieldIn, figuresLine, refusedMark, refusedLine}
 use Rattle.lines.proofs.Text.{text-more, text-room}

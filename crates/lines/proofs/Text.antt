@@ -12,9 +12,9 @@ use borrow.Author.Tests.{le-leb, lt-leb}
 use lib.Dec.{leb}
 use lib.ListN.{length, take, drop, length-append, length-drop, take-append-drop}
 use lib.Seq.{paste, length-paste, length-take-le, take-all, take-at, drop-append-add, drop-drop}
-use Rattle.over.proofs.Joined.{joined-none, joined-suc, joined-more}
-use Rattle.packed.specs.Bytes.{laid}
-use Rattle.packed.proofs.Bytes.{laid-whole}
+use Rattle.ranges.proofs.Joined.{joined-none, joined-suc, joined-more}
+use Rattle.encoding.specs.Bytes.{laid}
+use Rattle.encoding.proofs.Bytes.{laid-whole}
 use Rattle.lines.specs.Text.{textOver, endIn, putIn, Put, Wrote}
 
 -- the same text by another name

@@ -6,7 +6,7 @@ use Prim.Native.Nat.{ℕ, suc, _+_, _^_}
 use lib.Dec.{ltb, eqb}
 use lib.ListN.{length, getD}
 use Rattle.io.specs.Digits.{digits}
-use Rattle.over.specs.Over.{firstOver}
+use Rattle.ranges.specs.Ranges.{firstOver}
 use Rattle.answers.specs.Said.{Said}
 use Rattle.lines.specs.Text.{textOver}
 
@@ -30,11 +30,11 @@ unfoldable pub figuresLine : List ℕ → List ℕ
 figuresLine figures = textOver (fieldIn figures) (length figures) ++ (10 ∷ [])
 
 -- "It prints the number and its carried figures in the table's order, a place as day then quarter."
-abbrev pub figuresIn : Said → List ℕ
-figuresIn said = said .number ∷ said .carries
+abbrev pub lineFigures : Said → List ℕ
+lineFigures said = said .number ∷ said .figures
 
 abbrev pub statementLine : Said → List ℕ
-statementLine said = figuresLine (figuresIn said)
+statementLine said = figuresLine (lineFigures said)
 
 -- "A refusal prints `REFUSED` and the number, for 5 also day of the period and quarter."
 abbrev pub refusedMark : List ℕ

@@ -6,11 +6,16 @@ use mathlib.Core.List.{List, [], _++_}
 use Prim.Native.Nat.{ℕ, _+_, _≤_}
 use lib.Dec.{leb}
 use lib.ListN.{length, take, drop}
-use Rattle.over.specs.Over.{joined}
+use Rattle.ranges.specs.Ranges.{joined}
 
 -- the texts f 0, .. , f (n - 1), one after the other
 unfoldable pub textOver : (ℕ → List ℕ) → ℕ → List ℕ
 textOver f n = joined _++_ [] f n
+
+-- enough for every text that a program prints: the longest is that of windows, a head of at most 49 bytes, and 14 for
+-- each quarter of the four seasons
+abbrev pub textMost : ℕ
+textMost = 5425
 
 -- a text put into a buffer from a place on, all or nothing. What is answered: the place behind the text where the
 -- buffer holds it, else the place itself

@@ -9,7 +9,11 @@ ghost use Rattle.lines.specs.Text.{Put, Wrote};
 ghost use Rattle.lines.specs.Figures.{decimalOf, fieldOf, figuresLine, refusedLine};
 
 // Bytes of the word `REFUSED` and the space after it.
-const MARK_SIZE: usize = 8;
+const REFUSED_SIZE: usize = 8;
+
+// Bytes that are enough for every text that a program prints. The longest is that of windows: a head of at most 49
+// bytes, and 14 for each quarter of the four seasons.
+pub const TEXT_MOST: usize = 5425;
 
 // Each `add` writes behind what the buffer holds up to `at`, and answers the place after what it wrote. Bytes that do
 // not fit are not written, and the place itself is answered.
@@ -22,7 +26,7 @@ pub fn add_bytes(buf: &mut [u8], at: usize, bytes: &[u8]) -> usize
     if buf.len() - bytes.len() < at {
         return at;
     }
-    packed::lay(buf, at, bytes);
+    encoding::lay(buf, at, bytes);
     at + bytes.len()
 }
 
@@ -107,10 +111,10 @@ pub fn refused_text(figures: &[u64], buf: &mut [u8]) -> usize
     ensures { λ r. ⌜ Put 0 (refusedLine (now (figures .entry))) (now (buf .entry)) (now (buf .exit)) r ⌝ }
 {
     let room = buf.len();
-    if room < MARK_SIZE {
+    if room < REFUSED_SIZE {
         return 0;
     }
-    if figures_fit(figures, room - MARK_SIZE) {
+    if figures_fit(figures, room - REFUSED_SIZE) {
         let n = add_bytes(buf, 0, b"REFUSED ");
         return add_figures(buf, n, figures);
     }

@@ -5,7 +5,7 @@ use Prim.Native.Nat.{ℕ, _+_, _-_, _≤_, _<_}
 use native.Mathlib.Decide.{decLt}
 use native.Mathlib.Omega.{arith}
 use borrow.Author.Tests.{le-leb, lt-leb}
-use Rattle.over.specs.Limits.{Within}
+use Rattle.ranges.specs.Limits.{Within}
 use Rattle.dates.specs.Dates.{leapDay, yearDays, mostDays, daysTo, dayOf, monthOf, monthLeft, winter, seasonOf}
 use Rattle.dates.proofs.Leaps.{leap-small}
 use Rattle.dates.proofs.Months.{days-table, grows, month-below}

@@ -11,7 +11,7 @@ use native.Mathlib.Omega.{arith}
 use borrow.Author.Tests.{lt-ltb, le-ltb, le-leb, lt-leb, eq-eqb, ne-eqb}
 use lib.ListN.{length, getD, length-append, List·getD-append}
 use lib.Seq.{getD-append-add}
-use Rattle.over.proofs.Largest.{largest-none, largest-above, largest-le}
+use Rattle.ranges.proofs.Largest.{largest-none, largest-above, largest-le}
 use Rattle.answers.specs.Said.{Said, only, badPlace}
 use Rattle.answers.specs.declared.Place.{Place}
 use Rattle.readings.specs.declared.Run.{Run}

@@ -8,7 +8,7 @@ use Prim.Native.Nat.{ℕ, _+_, _≤_}
 use lib.Dec.{eqb}
 use lib.ListN.{length, take}
 use lib.Seq.{take-add}
-use Rattle.over.proofs.Tables.{table-none, table-more}
+use Rattle.ranges.proofs.Tables.{table-none, table-more}
 use Rattle.answers.specs.Said.{Said, after}
 use Rattle.readings.specs.Days.{offered, takenDays, oneAfterOther, takenReadings, daysOf}
 use Rattle.readings.specs.declared.Run.{Run}

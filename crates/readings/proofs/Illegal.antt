@@ -9,8 +9,8 @@ use native.Mathlib.Nat.{le-trans}
 use native.Mathlib.Omega.{arith}
 use borrow.Author.Tests.{ltb-true, ltb-false}
 use lib.ListN.{length, getD}
-use Rattle.over.proofs.Largest.{largest-above, largest-le}
-use Rattle.over.proofs.First.{first-below, first-holds, any-first}
+use Rattle.ranges.proofs.Largest.{largest-above, largest-le}
+use Rattle.ranges.proofs.First.{first-below, first-holds, any-first}
 use Rattle.readings.specs.declared.Run.{Run}
 use Rattle.readings.specs.Runs.{runDays, dayLen, reading}
 use Rattle.readings.specs.Legal.{illegal, highestOf, firstAbove, dayPeak, peakOf, badIn, badAt, badDay}

@@ -11,10 +11,10 @@ use native.Mathlib.Omega.{arith}
 use borrow.Author.Tests.{lt-ltb, le-ltb, ltb-true, ltb-false}
 use lib.Dec.{ltb}
 use lib.ListN.{length, getD}
-use Rattle.over.specs.Over.{anyOver}
-use Rattle.over.proofs.Largest.{largest-above}
-use Rattle.over.proofs.Tests.{Passed, any-at, any-fails, any-cong, all-passed, passed-more}
-use Rattle.over.proofs.First.{first-fails, first-at, any-first, any-above}
+use Rattle.ranges.specs.Ranges.{anyOver}
+use Rattle.ranges.proofs.Largest.{largest-above}
+use Rattle.ranges.proofs.Tests.{Passed, any-at, any-fails, any-cong, all-passed, passed-more}
+use Rattle.ranges.proofs.First.{first-fails, first-at, any-first, any-above}
 use Rattle.dates.specs.Dates.{mostDays}
 use Rattle.readings.specs.declared.Run.{Run}
 use Rattle.readings.specs.Runs.{runDays, dayLen, dayStart, reading}

@@ -13,8 +13,8 @@ use borrow.Author.Tests.{lt-ltb}
 use lib.Dec.{eqb}
 use lib.ListN.{length, getD, take, length-append}
 use lib.Seq.{take-all}
-use Rattle.over.proofs.Largest.{largest-le, largest-cong}
-use Rattle.over.proofs.First.{first-cong}
+use Rattle.ranges.proofs.Largest.{largest-le, largest-cong}
+use Rattle.ranges.proofs.First.{first-cong}
 use Rattle.answers.specs.Said.{Said, only, badPlace, after}
 use Rattle.readings.specs.declared.Run.{Run}
 use Rattle.readings.specs.Runs.{runDays, dayLen, dayStart, runReadings, reading}
@@ -282,7 +282,7 @@ module _
         number f = ap (λ (a : Said). a .number) (f ∙ e)
 
         here : (l : length xs ≡ runReadings run) → limit < peakOf run xs (runDays run) → badDay run limit xs ≡ d
-        here l v = omega (arith, ap (λ (a : Said). getD (a .carries) 0 0) (series-bad run limit xs l v ∙ e), illegal-at run limit xs v)
+        here l v = omega (arith, ap (λ (a : Said). getD (a .figures) 0 0) (series-bad run limit xs l v ∙ e), illegal-at run limit xs v)
 
         go : Dec (length xs ≡ runReadings run) → Dec (limit < peakOf run xs (runDays run)) → BadThere run answer step (holding [] 0) xs d q
         go (no l) v = absurd (omega (arith, number (series-length run limit xs l)))

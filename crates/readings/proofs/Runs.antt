@@ -5,7 +5,7 @@ use Prim.Native.Nat.{ℕ, zero, suc, _+_, _*_, _≤_, _<_}
 use native.Mathlib.Nat.{not-suc-le-zero}
 use native.Mathlib.Decide.{decLt}
 use native.Mathlib.Omega.{arith}
-use Rattle.over.proofs.Sums.{sum-none, sum-suc, sum-more}
+use Rattle.ranges.proofs.Sums.{sum-none, sum-suc, sum-more}
 use Rattle.answers.specs.Ruling.{dayQuarters}
 use Rattle.dates.specs.Dates.{yearDays, mostDays}
 use Rattle.periods.specs.Period.{periodDays}

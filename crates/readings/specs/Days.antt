@@ -7,7 +7,7 @@ use mathlib.Core.List.{List, [], _∷_, _++_}
 use Prim.Native.Nat.{ℕ, _+_, _<_}
 use lib.Dec.{leb, ltb, eqb}
 use lib.ListN.{length}
-use Rattle.over.specs.Over.{table}
+use Rattle.ranges.specs.Ranges.{table}
 use Rattle.answers.specs.Said.{Said, only, badPlace, after}
 use Rattle.readings.specs.declared.Run.{Run}
 use Rattle.readings.specs.Runs.{runDays, dayLen, runReadings}
@@ -29,6 +29,10 @@ nextAnswer run limit n day =
     (cond (not (eqb (length day) (dayLen run n))) (only 4)
     (cond (ltb (firstAbove limit day) (length day)) (badPlace (record { day = n + 1; position = firstAbove limit day }))
     (only 0)))
+
+-- the days that the state of a refused opening has taken: more than any run has
+abbrev pub shutDays : ℕ
+shutDays = 65535
 
 -- the state after days that are offered one by one, refused ones among them
 unfoldable pub offered : {S : Type 0} → (S → List ℕ → S) → S → List (List ℕ) → S

@@ -6,7 +6,7 @@ use mathlib.Core.List.{List}
 use Prim.Native.Nat.{ℕ, _+_}
 use lib.Dec.{ltb}
 use lib.ListN.{length, getD}
-use Rattle.over.specs.Over.{largestOver, anyOver, firstOver}
+use Rattle.ranges.specs.Ranges.{largestOver, anyOver, firstOver}
 use Rattle.answers.specs.declared.Place.{Place}
 use Rattle.readings.specs.declared.Run.{Run}
 use Rattle.readings.specs.Runs.{runDays, dayLen, reading}

@@ -4,7 +4,7 @@
 use mathlib.Core.List.{List}
 use Prim.Native.Nat.{ℕ, _+_}
 use lib.ListN.{getD}
-use Rattle.over.specs.Over.{sumOver}
+use Rattle.ranges.specs.Ranges.{sumOver}
 use Rattle.answers.specs.Ruling.{dayQuarters}
 use Rattle.dates.specs.Dates.{yearDays}
 use Rattle.periods.specs.Period.{periodDays}
@@ -20,6 +20,10 @@ runDays (Period y) = periodDays y
 -- how many readings a day has
 unfoldable pub dayLen : Run → ℕ → ℕ
 dayLen run d = dayQuarters
+
+-- no day has more: a day of 25 hours, the longest that there is, has 100 quarters
+abbrev pub mostReadings : ℕ
+mostReadings = 100
 
 -- the quarter that a position of a day stands for
 unfoldable pub quarterOf : Run → ℕ → ℕ → ℕ

@@ -17,6 +17,13 @@ pub struct DaySpan {
     pub len: usize,
 }
 
+// The most readings that a day has: no day is longer than 25 hours.
+pub const MOST_READINGS: usize = 100;
+
+// The days that the state of a refused opening has taken: more than any run has, so that it takes no day and never
+// closes.
+pub const SHUT_DAYS: u16 = 65535;
+
 // Days up to this number, 2^57, start within 64 bits; and no series in memory is so long that it holds one behind it.
 const FAR_DAY: usize = 144_115_188_075_855_872;
 

@@ -10,14 +10,14 @@ use native.Mathlib.Omega.{arith}
 use borrow.Author.Tests.{lt-ltb, le-ltb, eq-eqb, ne-eqb}
 use lib.Dec.{eqb}
 use lib.ListN.{length, drop, getD}
-use Rattle.over.proofs.Bools.{decided, clash}
+use Rattle.ranges.proofs.Bools.{decided, clash}
 use Rattle.answers.specs.Ruling.{yearOut, levelOut}
 use Rattle.answers.specs.Said.{only, after}
 use Rattle.answers.proofs.Laws.{after-again, refusal-keeps}
 use Rattle.sheet.specs.declared.Sheet.{Sheet}
 use Rattle.sheet.specs.Windows.{tooFull}
-use Rattle.packed.specs.Bytes.{formatVersion, twoAt}
-use Rattle.packed.proofs.Bytes.{alike}
+use Rattle.encoding.specs.Bytes.{formatVersion, twoAt}
+use Rattle.encoding.proofs.Bytes.{alike}
 use Rattle.sheet.specs.Bytes.{mark, versionAt, yearAt, levelAt, sheetSize, windowsIn, sheetIn, sheetBytes, unmarked}
 use Rattle.sheet.specs.Rows.{Marked, Formed}
 use Rattle.sheet.specs.Answers.{readAnswer, readSheet, readOf, blank, writeAnswer, written}

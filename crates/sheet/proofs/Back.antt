@@ -10,23 +10,23 @@ use native.Mathlib.Omega.{arith}
 use borrow.Author.Tests.{lt-ltb, le-ltb}
 use lib.ListN.{List·getD-append, length, getD, take, drop, replicate, length-replicate, getD-replicate}
 use lib.Seq.{ext-getD, take-at}
-use Rattle.over.specs.Limits.{Within}
-use Rattle.over.specs.Over.{bit, table}
-use Rattle.over.proofs.Tests.{count-fails}
-use Rattle.over.proofs.Tables.{length-table, getD-table, is-table}
-use Rattle.over.proofs.Digits.{base-cong}
+use Rattle.ranges.specs.Limits.{Within}
+use Rattle.ranges.specs.Ranges.{bit, table}
+use Rattle.ranges.proofs.Tests.{count-fails}
+use Rattle.ranges.proofs.Tables.{length-table, getD-table, is-table}
+use Rattle.ranges.proofs.Digits.{base-cong}
 use Rattle.answers.specs.Ruling.{dayQuarters, ChargeYear, Level}
 use Rattle.answers.specs.Said.{only}
 use Rattle.answers.proofs.Laws.{charge-year, level-of}
 use Rattle.sheet.specs.declared.Sheet.{Sheet}
-use Rattle.sheet.specs.Windows.{seasons, places, placeOf, setIn, Legal}
-use Rattle.packed.specs.Bytes.{formatVersion, twoAt}
-use Rattle.packed.proofs.Bytes.{two-bytes}
+use Rattle.sheet.specs.Windows.{seasons, windowPlaces, quarterPlace, setIn, LegalSheet}
+use Rattle.encoding.specs.Bytes.{formatVersion, twoAt}
+use Rattle.encoding.proofs.Bytes.{two-bytes}
 use Rattle.sheet.specs.Bytes.{mark, versionAt, yearAt, levelAt, windowsAt, windowBytes, sheetSize, twoBytes, windowByte, bytesOf, byteAt, sheetBytes, bitOf, windowAt, windowsIn, sheetIn, AreBytes}
 use Rattle.sheet.specs.Rows.ReadRow.{zero}
 use Rattle.sheet.specs.Rows.WriteRow.{zero}
 use Rattle.sheet.specs.Rows.{Formed, ReadRow, WriteRow}
-use Rattle.sheet.specs.Answers.{readAnswer, readSheet, readOf, SheetRead, writeAnswer, written}
+use Rattle.sheet.specs.Answers.{readAnswer, readSheet, readOf, ReadSaid, writeAnswer, written}
 use Rattle.sheet.proofs.Windows.{roomy}
 use Rattle.sheet.proofs.Bytes.{byte-bit, bits-byte, length-bytes, headOf, byte-at}
 use Rattle.sheet.proofs.Exactly.{read-exactly, write-exactly}
@@ -40,14 +40,14 @@ module _ (y l : ℕ) (w : List Bool) where
       let e : windowsAt + k - windowsAt ≡ k = omega arith in
       sym (byte-at y l w (windowsAt + k) (omega arith)) ∙ simp (le-ltb (windowsAt + k) windowsAt (omega arith), e)
 
-  window-written : (p : ℕ) → p < places → windowAt (bytesOf y l w) p ≡ getD w p false
+  window-written : (p : ℕ) → p < windowPlaces → windowAt (bytesOf y l w) p ≡ getD w p false
   window-written p h =
       let e : 8 * (p / 8) + p % 8 ≡ p = omega arith in
       rw (byte-written (p / 8) (omega arith)) (rw e at (byte-bit w (p / 8) (p % 8) (omega arith)))
 
-  windows-written : length w ≡ places → windowsIn (bytesOf y l w) ≡ w
+  windows-written : length w ≡ windowPlaces → windowsIn (bytesOf y l w) ≡ w
   unfolding windowsIn
-  windows-written h = sym (is-table (windowAt (bytesOf y l w)) places false w h (λ p b. sym (window-written p b)))
+  windows-written h = sym (is-table (windowAt (bytesOf y l w)) windowPlaces false w h (λ p b. sym (window-written p b)))
 
   year-written : twoAt (bytesOf y l w) yearAt ≡ y
   unfolding bytesOf
@@ -68,11 +68,11 @@ module _ (y l : ℕ) (w : List Bool) where
       }
 
   -- the meaning of the bytes is what was written
-  meaning : length w ≡ places → sheetIn (bytesOf y l w) ≡ record { year = y; level = l; windows = w }
+  meaning : length w ≡ windowPlaces → sheetIn (bytesOf y l w) ≡ record { year = y; level = l; windows = w }
   meaning h = λ i. record { year = year-written i; level = level-written i; windows = windows-written h i }
 
 -- reading what was written gives the same meaning
-pub read-written : (s : Sheet) → Legal s → readOf (sheetBytes s) ≡ record { answer = only 0; sheet = s }
+pub read-written : (s : Sheet) → LegalSheet s → readOf (sheetBytes s) ≡ record { answer = only 0; sheet = s }
 read-written s h =
     let m = meaning (s .year) (s .level) (s .windows) (h .long) in
     sym (read-taken (sheetBytes s) (read-accepted (sheetBytes s) (formed (s .year) (s .level) (s .windows))
@@ -82,9 +82,9 @@ read-written s h =
     ∙ ap (λ (x : Sheet). record { answer = only 0; sheet = x }) m
 
 -- so two meanings never share bytes
-pub one-meaning : (s t : Sheet) → Legal s → Legal t → sheetBytes s ≡ sheetBytes t → s ≡ t
+pub one-meaning : (s t : Sheet) → LegalSheet s → LegalSheet t → sheetBytes s ≡ sheetBytes t → s ≡ t
 one-meaning s t h g e =
-    ap (λ (r : SheetRead). r .sheet) (sym (read-written s h) ∙ ap readOf e ∙ read-written t g)
+    ap (λ (r : ReadSaid). r .sheet) (sym (read-written s h) ∙ ap readOf e ∙ read-written t g)
 
 module _ (b : List ℕ) (small : AreBytes b) (f : Formed b) where
   -- the windows' bytes, back from their bits
@@ -93,7 +93,7 @@ module _ (b : List ℕ) (small : AreBytes b) (f : Formed b) where
   quarter-back k j h l =
       let q : (8 * k + j) / 8 ≡ k = omega arith in
       let r : (8 * k + j) % 8 ≡ j = omega arith in
-      getD-table (windowAt b) places (8 * k + j) false (omega arith) ∙ rw (q, r)
+      getD-table (windowAt b) windowPlaces (8 * k + j) false (omega arith) ∙ rw (q, r)
 
   byte-back : (k : ℕ) → k < windowBytes → windowByte (windowsIn b) k ≡ getD b (windowsAt + k) 0
   unfolding windowByte
@@ -130,19 +130,19 @@ module _ (b : List ℕ) (small : AreBytes b) (f : Formed b) where
 
 module _ (b : List ℕ) (e : readAnswer b .number ≡ 0) where
   -- accepted bytes have the form, and the sheet beside 0 is their meaning
-  accepted : Formed b × (readSheet b ≡ sheetIn b) × Legal (sheetIn b)
+  accepted : Formed b × (readSheet b ≡ sheetIn b) × LegalSheet (sheetIn b)
   unfolding windowsIn
   accepted = go (read-exactly b 0 .0 e)
     where
-      go : ReadRow b 0 → Formed b × (readSheet b ≡ sheetIn b) × Legal (sheetIn b)
+      go : ReadRow b 0 → Formed b × (readSheet b ≡ sheetIn b) × LegalSheet (sheetIn b)
       go (zero f y l w) = (
         f,
-        sym (ap (λ (r : SheetRead). r .sheet) (read-taken b (read-accepted b f (charge-year _ .1 y) (level-of _ .1 l) (roomy _ .1 w)))),
-        record { long = length-table (windowAt b) places; year = y; level = l; room = w },
+        sym (ap (λ (r : ReadSaid). r .sheet) (read-taken b (read-accepted b f (charge-year _ .1 y) (level-of _ .1 l) (roomy _ .1 w)))),
+        record { long = length-table (windowAt b) windowPlaces; year = y; level = l; room = w },
       )
 
   -- what is read is a legal sheet, and writing it gives the same bytes
-  pub read-legal : Legal (readSheet b)
+  pub read-legal : LegalSheet (readSheet b)
   read-legal = rw (accepted .1) (accepted .2)
 
   pub bytes-back : AreBytes b → sheetBytes (readSheet b) ≡ b
@@ -162,7 +162,7 @@ same-bytes b c small tiny p q e = sym (bytes-back b p small) ∙ ap sheetBytes e
 -- an accepted writing leaves a sheet in the buffer that reads back
 pub buffer-read :
     (s : Sheet) (buffer : List ℕ)
-    → length (s .windows) ≡ places
+    → length (s .windows) ≡ windowPlaces
     → writeAnswer s (length buffer) .number ≡ 0
     → readOf (take sheetSize (written s buffer)) ≡ record { answer = only 0; sheet = s }
 buffer-read s buffer long e = go (write-exactly s (length buffer) 0 .0 e)
@@ -175,12 +175,12 @@ buffer-read s buffer long e = go (write-exactly s (length buffer) 0 .0 e)
         ∙ read-written s (record { long = long; year = y; level = l; room = w })
 
 -- an empty sheet is legal
-empty-season : (s : ℕ) → Within 1 seasons s → setIn (replicate places false) s ≡ 0
+empty-season : (s : ℕ) → Within 1 seasons s → setIn (replicate windowPlaces false) s ≡ 0
 unfolding setIn
 empty-season s r =
-    count-fails (λ q. getD (replicate places false) (placeOf s q) false) dayQuarters
-    (λ q l. getD-replicate {A = Bool} places (placeOf s q) false false (omega arith))
+    count-fails (λ q. getD (replicate windowPlaces false) (quarterPlace s q) false) dayQuarters
+    (λ q l. getD-replicate {A = Bool} windowPlaces (quarterPlace s q) false false (omega arith))
 
-pub empty-legal : (y l : ℕ) → ChargeYear y → Level l → Legal (record { year = y; level = l; windows = replicate places false })
+pub empty-legal : (y l : ℕ) → ChargeYear y → Level l → LegalSheet (record { year = y; level = l; windows = replicate windowPlaces false })
 empty-legal y l h g =
-    record { long = length-replicate {A = Bool} places false; year = h; level = g; room = λ s r. omega (arith, empty-season s r) }
+    record { long = length-replicate {A = Bool} windowPlaces false; year = h; level = g; room = λ s r. omega (arith, empty-season s r) }

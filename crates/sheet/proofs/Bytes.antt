@@ -11,14 +11,14 @@ use lib.Dec.{eqb}
 use lib.ListN.{length, getD, List·getD-append}
 use lib.Seq.{getD-append-add}
 use lib.Pow.{pow-mono}
-use Rattle.over.specs.Over.{bit, inBase, digitOf, table}
-use Rattle.over.proofs.Bools.{bit-le}
-use Rattle.over.proofs.Tests.{count-cong}
-use Rattle.over.proofs.Tables.{length-table, getD-table}
-use Rattle.over.proofs.Digits.{base-cong, base-lt, base-digit, base-back}
+use Rattle.ranges.specs.Ranges.{bit, inBase, digitOf, table}
+use Rattle.ranges.proofs.Bools.{bit-le}
+use Rattle.ranges.proofs.Tests.{count-cong}
+use Rattle.ranges.proofs.Tables.{length-table, getD-table}
+use Rattle.ranges.proofs.Digits.{base-cong, base-lt, base-digit, base-back}
 use Rattle.answers.specs.Ruling.{dayQuarters}
-use Rattle.packed.specs.Bytes.{formatVersion}
-use Rattle.sheet.specs.Windows.{seasons, places, placeOf, setIn, tooFull}
+use Rattle.encoding.specs.Bytes.{formatVersion}
+use Rattle.sheet.specs.Windows.{seasons, windowPlaces, quarterPlace, setIn, tooFull}
 use Rattle.sheet.specs.Bytes.{mark, windowsAt, windowBytes, sheetSize, twoBytes, windowByte, bytesOf, byteAt, bitOf, bitAt, windowAt, windowsIn, seasonBytes, setFrom, seasonFull}
 use Rattle.sheet.proofs.Windows.{too-full}
 
@@ -27,12 +27,12 @@ pub season-set : (b : List ℕ) (j : ℕ) → j < seasons → setIn (windowsIn b
 unfolding setIn setFrom windowsIn
 season-set b j m = count-cong _ _ dayQuarters each
   where
-    each : (q : ℕ) → q < dayQuarters → getD (table (windowAt b) places) (placeOf (j + 1) q) false ≡ bitAt b (windowsAt + seasonBytes * j) q
+    each : (q : ℕ) → q < dayQuarters → getD (table (windowAt b) windowPlaces) (quarterPlace (j + 1) q) false ≡ bitAt b (windowsAt + seasonBytes * j) q
     each q l =
-        let p = placeOf (j + 1) q in
+        let p = quarterPlace (j + 1) q in
         let byte : windowsAt + p / 8 ≡ windowsAt + seasonBytes * j + q / 8 = omega arith in
         let bit : p % 8 ≡ q % 8 = omega arith in
-        getD-table (windowAt b) places p false (omega arith) ∙ rw (byte, bit)
+        getD-table (windowAt b) windowPlaces p false (omega arith) ∙ rw (byte, bit)
 
 -- they are as many where the twelve bytes are the same
 pub set-same : (a b : List ℕ) (i j : ℕ) → ((k : ℕ) → k < seasonBytes → getD a (i + k) 0 ≡ getD b (j + k) 0) → setFrom a i ≡ setFrom b j

@@ -10,21 +10,21 @@ use native.Mathlib.Decide.{decLt}
 use native.Mathlib.Omega.{arith}
 use lib.Dec.{eqb}
 use lib.ListN.{length, getD}
-use Rattle.over.proofs.Bools.{decided, refutes}
+use Rattle.ranges.proofs.Bools.{decided, refutes}
 use Rattle.answers.specs.Ruling.{yearOut, levelOut}
 use Rattle.answers.specs.Said.{Said, only}
 use Rattle.answers.proofs.Laws.{one-answer, charge-year, level-of}
 use Rattle.sheet.specs.declared.Sheet.{Sheet}
-use Rattle.sheet.specs.declared.Reading.{Reading}
+use Rattle.sheet.specs.declared.SheetRead.{SheetRead}
 use Rattle.sheet.specs.declared.SheetAnswer.{SheetAnswer}
 use Rattle.sheet.specs.declared.SheetAnswer.the-variants.{Accepted, Short, YearOut, LevelOut, Malformed}
 use Rattle.sheet.specs.Windows.{tooFull}
-use Rattle.packed.specs.Bytes.{twoAt}
+use Rattle.encoding.specs.Bytes.{twoAt}
 use Rattle.sheet.specs.Bytes.{yearAt, levelAt, sheetSize, windowsIn}
 use Rattle.sheet.specs.Rows.ReadRow.{malformed, one, two, full, zero}
 use Rattle.sheet.specs.Rows.WriteRow.{fourteen, one, two, twelve, zero}
 use Rattle.sheet.specs.Rows.{Formed, ReadRow, WriteRow}
-use Rattle.sheet.specs.Answers.{saidOfSheet, SheetRead, shownOf, readAnswer, readOf, writeAnswer, written}
+use Rattle.sheet.specs.Answers.{saidOfSheet, ReadSaid, shownOf, readAnswer, readOf, writeAnswer, written}
 use Rattle.sheet.proofs.Windows.{roomy}
 use Rattle.sheet.proofs.Answered.{form, read-form, read-year, read-level, read-full, read-accepted, write-short, write-year, write-level, write-full, write-accepted}
 
@@ -111,11 +111,11 @@ pub sheet-said : {a b : SheetAnswer} → saidOfSheet a ≡ saidOfSheet b → a �
 sheet-said {a} {b} e = sym (back a) ∙ ap answerBack e ∙ back b
 
 -- nothing else meets the promise of `read`, nor that of `write`
-pub read-only : (b : List ℕ) {r s : Reading} → shownOf r ≡ readOf b → shownOf s ≡ readOf b → r ≡ s
+pub read-only : (b : List ℕ) {r s : SheetRead} → shownOf r ≡ readOf b → shownOf s ≡ readOf b → r ≡ s
 read-only b {r} {s} p q =
     let e = one-answer p q in
-    let a : r .answer ≡ s .answer = sheet-said (ap (λ (x : SheetRead). x .answer) e) in
-    let w : r .sheet ≡ s .sheet = ap (λ (x : SheetRead). x .sheet) e in
+    let a : r .answer ≡ s .answer = sheet-said (ap (λ (x : ReadSaid). x .answer) e) in
+    let w : r .sheet ≡ s .sheet = ap (λ (x : ReadSaid). x .sheet) e in
     λ i. record { answer = a i; sheet = w i }
 
 pub write-only :

@@ -9,15 +9,15 @@ use native.Mathlib.Omega.{arith}
 use borrow.Author.Tests.{lt-ltb, le-ltb, le-leb, ltb-false}
 use lib.Dec.{ltb}
 use lib.ListN.{length, getD}
-use Rattle.over.specs.Limits.{Within}
-use Rattle.over.specs.Over.{joined, anyOver}
-use Rattle.over.proofs.Tests.{any-at, any-fails, all-passed}
-use Rattle.over.proofs.Tables.{length-table, getD-table}
+use Rattle.ranges.specs.Limits.{Within}
+use Rattle.ranges.specs.Ranges.{joined, anyOver}
+use Rattle.ranges.proofs.Tests.{any-at, any-fails, all-passed}
+use Rattle.ranges.proofs.Tables.{length-table, getD-table}
 use Rattle.answers.specs.Ruling.{dayQuarters, windowsMost}
-use Rattle.sheet.specs.Windows.{seasons, places, placeOf, isSet, setIn, tooMany, tooFull, Roomy, flatWindows}
+use Rattle.sheet.specs.Windows.{seasons, windowPlaces, quarterPlace, isSet, setIn, tooMany, tooFull, Roomy, flatWindows}
 
 -- is a quarter inside the seasons and the day set
-pub set-at : (w : List Bool) (s q : ℕ) → Within 1 seasons s → q < dayQuarters → getD w (placeOf s q) false ≡ isSet w s q
+pub set-at : (w : List Bool) (s q : ℕ) → Within 1 seasons s → q < dayQuarters → getD w (quarterPlace s q) false ≡ isSet w s q
 unfolding isSet
 set-at w s q h l = simp (le-leb 1 s (h .from), le-leb s seasons (h .to), lt-ltb q dayQuarters l)
 
@@ -50,17 +50,17 @@ unfolding tooFull
 full-season w k l t = any-at (λ j. tooMany (setIn w (j + 1))) seasons k l t
 
 -- the chosen quarters, laid flat
-pub length-flat : (chosen : List (List Bool)) → length (flatWindows chosen) ≡ places
+pub length-flat : (chosen : List (List Bool)) → length (flatWindows chosen) ≡ windowPlaces
 unfolding flatWindows
-length-flat chosen = length-table _ places
+length-flat chosen = length-table _ windowPlaces
 
 pub flat-at :
     (chosen : List (List Bool)) (s q : ℕ)
     → Within 1 seasons s
     → q < dayQuarters
-    → getD (flatWindows chosen) (placeOf s q) false ≡ getD (getD chosen (s - 1) []) q false
+    → getD (flatWindows chosen) (quarterPlace s q) false ≡ getD (getD chosen (s - 1) []) q false
 unfolding flatWindows
 flat-at chosen s q h l =
-    let d : placeOf s q / dayQuarters ≡ s - 1 = omega arith in
-    let m : placeOf s q % dayQuarters ≡ q = omega arith in
-    getD-table (λ p. getD (getD chosen (p / dayQuarters) []) (p % dayQuarters) false) places (placeOf s q) false (omega arith) ∙ rw (d, m)
+    let d : quarterPlace s q / dayQuarters ≡ s - 1 = omega arith in
+    let m : quarterPlace s q % dayQuarters ≡ q = omega arith in
+    getD-table (λ p. getD (getD chosen (p / dayQuarters) []) (p % dayQuarters) false) windowPlaces (quarterPlace s q) false (omega arith) ∙ rw (d, m)

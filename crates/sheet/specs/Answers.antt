@@ -11,9 +11,9 @@ use Rattle.answers.specs.Said.{Said, only, after}
 use Rattle.sheet.specs.declared.Sheet.{Sheet}
 use Rattle.sheet.specs.declared.SheetAnswer.{SheetAnswer}
 use Rattle.sheet.specs.declared.SheetAnswer.the-variants.{Accepted, Short, YearOut, LevelOut, Malformed}
-use Rattle.sheet.specs.declared.Reading.{Reading}
-use Rattle.sheet.specs.Windows.{places, tooFull}
-use Rattle.packed.specs.Bytes.{twoAt, versionOut}
+use Rattle.sheet.specs.declared.SheetRead.{SheetRead}
+use Rattle.sheet.specs.Windows.{windowPlaces, tooFull}
+use Rattle.encoding.specs.Bytes.{twoAt, versionOut}
 use Rattle.sheet.specs.Bytes.{versionAt, yearAt, levelAt, sheetSize, windowsIn, sheetIn, sheetBytes, unmarked}
 
 -- the number of each case of the code's answer
@@ -36,22 +36,22 @@ readAnswer b =
     (only 0))))))
 
 abbrev pub blank : Sheet
-blank = record { year = 0; level = 0; windows = replicate places false }
+blank = record { year = 0; level = 0; windows = replicate windowPlaces false }
 
-abbrev pub refusal : SheetAnswer → Reading
-refusal answer = record { answer = answer; sheet = blank }
+abbrev pub refusedSheet : SheetAnswer → SheetRead
+refusedSheet answer = record { answer = answer; sheet = blank }
 
 unfoldable pub readSheet : List ℕ → Sheet
 readSheet b = after (readAnswer b) (sheetIn b) blank
 
-pub record SheetRead : Type 0 where
+pub record ReadSaid : Type 0 where
   pub answer : Said
   pub sheet : Sheet
 
-abbrev pub shownOf : Reading → SheetRead
+abbrev pub shownOf : SheetRead → ReadSaid
 shownOf r = record { answer = saidOfSheet (r .answer); sheet = r .sheet }
 
-abbrev pub readOf : List ℕ → SheetRead
+abbrev pub readOf : List ℕ → ReadSaid
 readOf b = record { answer = readAnswer b; sheet = readSheet b }
 
 -- writing: the answer, and what the lent buffer then holds

@@ -5,11 +5,11 @@ use mathlib.Core.List.{List, [], _∷_, _++_}
 use Prim.Native.Nat.{ℕ, _+_, _-_, _*_, _/_, _%_, _<_}
 use lib.Dec.{ltb, eqb}
 use lib.ListN.{getD}
-use Rattle.over.specs.Over.{bit, countOver, table, inBase, digitOf}
+use Rattle.ranges.specs.Ranges.{bit, countOver, table, inBase, digitOf}
 use Rattle.answers.specs.Ruling.{dayQuarters}
-use Rattle.packed.specs.Bytes.{markSize, unlike, formatVersion, twoAt}
+use Rattle.encoding.specs.Bytes.{markSize, versionSize, yearSize, levelSize, otherMark, formatVersion, twoAt}
 use Rattle.sheet.specs.declared.Sheet.{Sheet}
-use Rattle.sheet.specs.Windows.{places, tooMany}
+use Rattle.sheet.specs.Windows.{windowPlaces, tooMany}
 
 -- the fields in order: each starts where the one before it ends
 abbrev pub mark : List ℕ
@@ -19,13 +19,13 @@ abbrev pub versionAt : ℕ
 versionAt = markSize
 
 abbrev pub yearAt : ℕ
-yearAt = versionAt + 2
+yearAt = versionAt + versionSize
 
 abbrev pub levelAt : ℕ
-levelAt = yearAt + 2
+levelAt = yearAt + yearSize
 
 abbrev pub windowsAt : ℕ
-windowsAt = levelAt + 1
+windowsAt = levelAt + levelSize
 
 abbrev pub windowBytes : ℕ
 windowBytes = 48
@@ -65,14 +65,14 @@ abbrev pub windowAt : List ℕ → ℕ → Bool
 windowAt b p = bitAt b windowsAt p
 
 unfoldable pub windowsIn : List ℕ → List Bool
-windowsIn b = table (windowAt b) places
+windowsIn b = table (windowAt b) windowPlaces
 
 abbrev pub sheetIn : List ℕ → Sheet
 sheetIn b = record { year = twoAt b yearAt; level = getD b levelAt 0; windows = windowsIn b }
 
 -- the mark is not "HLZ"
 abbrev pub unmarked : List ℕ → Bool
-unmarked b = unlike mark b 0
+unmarked b = otherMark mark b 0
 
 -- "12 bytes for each season": how many quarters are set in those from place i on, and whether they are more than 40
 abbrev pub seasonBytes : ℕ

@@ -7,7 +7,7 @@ use lib.ListN.{length, getD}
 use Rattle.answers.specs.Ruling.{ChargeYear, Level}
 use Rattle.sheet.specs.declared.Sheet.{Sheet}
 use Rattle.sheet.specs.Windows.{Roomy}
-use Rattle.packed.specs.Bytes.{formatVersion, twoAt}
+use Rattle.encoding.specs.Bytes.{formatVersion, twoAt}
 use Rattle.sheet.specs.Bytes.{mark, versionAt, yearAt, levelAt, sheetSize, windowsIn}
 
 -- "HLZ" stands at the start

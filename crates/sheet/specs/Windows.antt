@@ -7,8 +7,8 @@ use Prim.Native.Nat.{ℕ, _+_, _-_, _*_, _/_, _%_, _≤_}
 use lib.Dec.{ltb, leb}
 use lib.ListN.{length, getD}
 use mathlib.Core.Path.{_≡_}
-use Rattle.over.specs.Limits.{Within}
-use Rattle.over.specs.Over.{countOver, anyOver, table}
+use Rattle.ranges.specs.Limits.{Within}
+use Rattle.ranges.specs.Ranges.{countOver, anyOver, table}
 use Rattle.answers.specs.Ruling.{dayQuarters, windowsMost, ChargeYear, Level}
 use Rattle.sheet.specs.declared.Sheet.{Sheet}
 
@@ -16,20 +16,20 @@ use Rattle.sheet.specs.declared.Sheet.{Sheet}
 abbrev pub seasons : ℕ
 seasons = 4
 
-abbrev pub places : ℕ
-places = 384
+abbrev pub windowPlaces : ℕ
+windowPlaces = 384
 
 -- the place of quarter q of season s
-abbrev pub placeOf : ℕ → ℕ → ℕ
-placeOf s q = dayQuarters * (s - 1) + q
+abbrev pub quarterPlace : ℕ → ℕ → ℕ
+quarterPlace s q = dayQuarters * (s - 1) + q
 
 -- is quarter q of season s set? None is outside seasons 1 to 4 and quarters 0 to 95.
 unfoldable pub isSet : List Bool → ℕ → ℕ → Bool
-isSet windows s q = leb 1 s && (leb s seasons && (ltb q dayQuarters && getD windows (placeOf s q) false))
+isSet windows s q = leb 1 s && (leb s seasons && (ltb q dayQuarters && getD windows (quarterPlace s q) false))
 
 -- how many quarters of season s are set
 unfoldable pub setIn : List Bool → ℕ → ℕ
-setIn windows s = countOver (λ q. getD windows (placeOf s q) false) dayQuarters
+setIn windows s = countOver (λ q. getD windows (quarterPlace s q) false) dayQuarters
 
 -- "at most 40 set in a season": n set quarters are more; and some season has more
 abbrev pub tooMany : ℕ → Bool
@@ -42,12 +42,12 @@ abbrev pub Roomy : List Bool → Type 0
 Roomy windows = (s : ℕ) → Within 1 seasons s → setIn windows s ≤ windowsMost
 
 -- a meaning that is a legal sheet
-pub record Legal (s : Sheet) : Type 0 where
-  pub long : length (s .windows) ≡ places
+pub record LegalSheet (s : Sheet) : Type 0 where
+  pub long : length (s .windows) ≡ windowPlaces
   pub year : ChargeYear (s .year)
   pub level : Level (s .level)
   pub room : Roomy (s .windows)
 
 -- the chosen quarters of four seasons, laid one after the other
 unfoldable pub flatWindows : List (List Bool) → List Bool
-flatWindows chosen = table (λ p. getD (getD chosen (p / dayQuarters) []) (p % dayQuarters) false) places
+flatWindows chosen = table (λ p. getD (getD chosen (p / dayQuarters) []) (p % dayQuarters) false) windowPlaces

@@ -6,14 +6,16 @@ pub const SHEET_SIZE: usize = 56;
 
 pub const WINDOWS_AT: usize = 8;
 
-// Quarters of the four seasons.
-pub const PLACES: usize = 384;
+// Seasons, and the quarters of all four.
+pub const SEASONS: usize = 4;
+
+pub const WINDOW_PLACES: usize = 384;
 
 // A sheet's meaning. The seasons' quarters stand one after the other.
 pub struct Sheet {
     pub year: u16,
     pub level: u8,
-    pub windows: [bool; PLACES],
+    pub windows: [bool; WINDOW_PLACES],
 }
 
 // What reading and writing answer: 0, 14, 1, 2, 12.
@@ -26,7 +28,7 @@ pub enum SheetAnswer {
 }
 
 // An answer, and the sheet beside it: one fixed sheet where the answer is a refusal.
-pub struct Reading {
+pub struct SheetRead {
     pub answer: SheetAnswer,
     pub sheet: Sheet,
 }

@@ -4,10 +4,10 @@ ghost use Prim.Native.Nat.{_<_};
 ghost use lib.ListN.{length};
 ghost use Rattle.sheet.specs.Windows.{tooFull};
 ghost use Rattle.sheet.specs.Bytes.{sheetSize, bitOf, windowsIn, seasonFull};
-ghost use Rattle.sheet.specs.Answers.{shownOf, readOf, refusal};
-use sheet::Reading;
+ghost use Rattle.sheet.specs.Answers.{shownOf, readOf, refusedSheet};
 use sheet::Sheet;
 use sheet::SheetAnswer;
+use sheet::SheetRead;
 
 // Where a sheet's version, year, level and the windows of its seasons begin.
 const VERSION_AT: usize = 3;
@@ -26,12 +26,12 @@ fn bit_at(byte: u8, j: usize) -> bool
     (byte >> (7 - j)) % 2 == 1
 }
 
-fn unpack(b: &[u8]) -> [bool; sheet::PLACES]
+fn unpack(b: &[u8]) -> [bool; sheet::WINDOW_PLACES]
     requires { ⌜ length (now b) ≡ sheetSize ⌝ }
     ensures { λ r. ⌜ r ≡ windowsIn (now (b .entry)) ⌝ }
 {
-    let mut windows = [false; sheet::PLACES];
-    for p in 0..sheet::PLACES {
+    let mut windows = [false; sheet::WINDOW_PLACES];
+    for p in 0..sheet::WINDOW_PLACES {
         windows[p] = bit_at(b[sheet::WINDOWS_AT + p / 8], p % 8);
     }
     windows
@@ -44,7 +44,7 @@ pub fn season_full(b: &[u8], i: usize) -> bool
 {
     let mut n: usize = 0;
     for q in 0..answers::DAY_QUARTERS {
-        n += answers::one_if(bit_at(packed::byte_at(b, i, q / 8), q % 8));
+        n += answers::one_if(bit_at(encoding::byte_at(b, i, q / 8), q % 8));
     }
     answers::WINDOWS_MOST < n
 }
@@ -59,11 +59,11 @@ fn bytes_full(b: &[u8]) -> bool
         | season_full(b, SEASONS_AT[3])
 }
 
-fn refused(answer: SheetAnswer) -> Reading
-    ensures { λ r. ⌜ r ≡ refusal answer ⌝ }
+fn refused(answer: SheetAnswer) -> SheetRead
+    ensures { λ r. ⌜ r ≡ refusedSheet answer ⌝ }
 {
-    let windows = [false; sheet::PLACES];
-    Reading {
+    let windows = [false; sheet::WINDOW_PLACES];
+    SheetRead {
         answer,
         sheet: Sheet {
             year: 0,
@@ -74,19 +74,19 @@ fn refused(answer: SheetAnswer) -> Reading
 }
 
 // Reads a sheet. Refuses length, mark, version (12), year (1), level (2), set bits (12) in this order.
-pub fn read(b: &[u8]) -> Reading
+pub fn read(b: &[u8]) -> SheetRead
     ensures { λ r. ⌜ shownOf r ≡ readOf (now (b .entry)) ⌝ }
 {
     if b.len() != sheet::SHEET_SIZE {
         return refused(SheetAnswer::Malformed);
     }
-    if packed::unlike(b, 0, b"HLZ") {
+    if encoding::other_mark(b, 0, b"HLZ") {
         return refused(SheetAnswer::Malformed);
     }
-    if packed::two_at(b, VERSION_AT) != packed::VERSION {
+    if encoding::two_at(b, VERSION_AT) != encoding::VERSION {
         return refused(SheetAnswer::Malformed);
     }
-    let year = packed::two_at(b, YEAR_AT);
+    let year = encoding::two_at(b, YEAR_AT);
     if answers::year_out(year) {
         return refused(SheetAnswer::YearOut);
     }
@@ -98,7 +98,7 @@ pub fn read(b: &[u8]) -> Reading
         return refused(SheetAnswer::Malformed);
     }
     let windows = unpack(b);
-    Reading {
+    SheetRead {
         answer: SheetAnswer::Accepted,
         sheet: Sheet {
             year,

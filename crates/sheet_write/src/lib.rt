@@ -4,7 +4,7 @@ ghost use mathlib.Core.Path.{_≡_};
 ghost use Prim.Native.Nat.{_≤_, _<_};
 ghost use mathlib.Core.List.{_++_};
 ghost use lib.ListN.{length, drop};
-ghost use Rattle.over.specs.Limits.{Within};
+ghost use Rattle.ranges.specs.Limits.{Within};
 ghost use Rattle.sheet.specs.Windows.{seasons, setIn, tooFull};
 ghost use Rattle.sheet.specs.Bytes.{windowBytes, sheetSize, windowByte, byteAt, bytesOf};
 ghost use Rattle.sheet.specs.Answers.{saidOfSheet, writeAnswer, written};
@@ -12,7 +12,7 @@ use sheet::Sheet;
 use sheet::SheetAnswer;
 
 // How many quarters of a season, from 1, are set.
-fn set_in(windows: &[bool; sheet::PLACES], season: usize) -> usize
+fn set_in(windows: &[bool; sheet::WINDOW_PLACES], season: usize) -> usize
     requires { ⌜ Within 1 seasons season ⌝ }
     ensures { λ r. ⌜ r ≡ setIn (now (windows .entry)) season ⌝ }
 {
@@ -24,7 +24,7 @@ fn set_in(windows: &[bool; sheet::PLACES], season: usize) -> usize
 }
 
 // Does some season have more than 40?
-fn too_full(windows: &[bool; sheet::PLACES]) -> bool
+fn too_full(windows: &[bool; sheet::WINDOW_PLACES]) -> bool
     ensures { λ r. ⌜ r ≡ tooFull (now (windows .entry)) ⌝ }
 {
     (answers::WINDOWS_MOST < set_in(windows, 1))
@@ -34,7 +34,7 @@ fn too_full(windows: &[bool; sheet::PLACES]) -> bool
 }
 
 // Byte k of the windows: eight quarters, the earliest at the top.
-fn pack(windows: &[bool; sheet::PLACES], k: usize) -> u8
+fn pack(windows: &[bool; sheet::WINDOW_PLACES], k: usize) -> u8
     requires { ⌜ k < windowBytes ⌝ }
     ensures { λ r. ⌜ r ≡ windowByte (now (windows .entry)) k ⌝ }
 {
@@ -46,7 +46,7 @@ fn pack(windows: &[bool; sheet::PLACES], k: usize) -> u8
 }
 
 // Byte i of a sheet with this head.
-fn byte_at(head: &[u8; 8], windows: &[bool; sheet::PLACES], i: usize) -> u8
+fn byte_at(head: &[u8; 8], windows: &[bool; sheet::WINDOW_PLACES], i: usize) -> u8
     requires { ⌜ i < sheetSize ⌝ }
     ensures { λ r. ⌜ r ≡ byteAt (now (head .entry)) (now (windows .entry)) i ⌝ }
 {
@@ -57,7 +57,7 @@ fn byte_at(head: &[u8; 8], windows: &[bool; sheet::PLACES], i: usize) -> u8
 }
 
 // Fills the first 56 bytes of a buffer that has them; all further bytes stay.
-fn fill(year: u16, level: u8, windows: &[bool; sheet::PLACES], out: &mut [u8])
+fn fill(year: u16, level: u8, windows: &[bool; sheet::WINDOW_PLACES], out: &mut [u8])
     requires { ⌜ sheetSize ≤ length (now out) ⌝ }
     ensures { λ r. ⌜ now (out .exit) ≡ bytesOf year level (now (windows .entry)) ++ drop sheetSize (now (out .entry)) ⌝ }
 {
@@ -65,8 +65,8 @@ fn fill(year: u16, level: u8, windows: &[bool; sheet::PLACES], out: &mut [u8])
         b'H',
         b'L',
         b'Z',
-        0,
-        1,
+        encoding::VERSION_HIGH,
+        encoding::VERSION_LOW,
         (year / 256) as u8,
         (year % 256) as u8,
         level,

@@ -8,7 +8,7 @@ use Prim.Native.Nat.{ℕ, _+_, _*_, _≤_, _<_}
 use native.Mathlib.Omega.{arith}
 use lib.ListN.{getD}
 use borrow.Author.Tests.{lt-ltb, le-ltb, eq-eqb, ne-eqb}
-use Rattle.over.proofs.Bools.{decided}
+use Rattle.ranges.proofs.Bools.{decided}
 use Rattle.answers.specs.Ruling.{shareOf, leastMove, leastReduction, levelOut}
 use Rattle.answers.specs.Said.{Said, only, yesNo, orElse}
 use Rattle.tariff.specs.declared.Rates.{Rates}
@@ -17,7 +17,7 @@ use Rattle.tariff.specs.declared.TwoCharges.{TwoCharges}
 use Rattle.tariff.specs.Prices.{pricesOut, LegalPrices}
 use Rattle.tariff.specs.Charges.{general, chargesOf}
 use Rattle.tariff.specs.Answers.{withGeneral, withCharges, withPlain, withPeaks, withCharge, plainOf, peaksOf, chargedOf, payable}
-use Rattle.tariff.specs.Decision.{moved, wholeShare, generalAnswer, flooredAnswer, eligibleRules, chargeRules, judgeRules, eligibleAnswer, chargeAnswer, judgeAnswer}
+use Rattle.tariff.specs.Decision.{moved, wholeShare, generalAnswer, chargesAnswer, eligibleRules, chargeRules, judgeRules, eligibleAnswer, chargeAnswer, judgeAnswer}
 use Rattle.tariff.specs.Rows.{LegalRates}
 use Rattle.tariff.proofs.Limits.{prices-legal, legal-in}
 
@@ -35,7 +35,7 @@ told-else false z e = (refl, e)
 
 -- the charges that an answer carries
 abbrev chargesFrom : Said → TwoCharges
-chargesFrom a = record { charge = getD (a .carries) 0 0; general = getD (a .carries) 1 0 }
+chargesFrom a = record { charge = getD (a .figures) 0 0; general = getD (a .figures) 1 0 }
 
 -- the charges alone
 module _ (f : Figures) (r : Rates) where
@@ -47,13 +47,13 @@ module _ (f : Figures) (r : Rates) where
   unfolding generalAnswer
   general-in q e = simp (q, e)
 
-  pub floored-out : pricesOut (r .prices) ≡ true → only 6 ≡ flooredAnswer f r
-  unfolding flooredAnswer
-  floored-out q = simp q
+  pub charges-out : pricesOut (r .prices) ≡ true → only 6 ≡ chargesAnswer f r
+  unfolding chargesAnswer
+  charges-out q = simp q
 
-  pub floored-in : {a : TwoCharges} → pricesOut (r .prices) ≡ false → a ≡ chargesOf f r → withCharges a ≡ flooredAnswer f r
-  unfolding flooredAnswer
-  floored-in q e = simp (q, e)
+  pub charges-in : {a : TwoCharges} → pricesOut (r .prices) ≡ false → a ≡ chargesOf f r → withCharges a ≡ chargesAnswer f r
+  unfolding chargesAnswer
+  charges-in q e = simp (q, e)
 
   -- and read off what they say: 6 is given for a price alone, and cents are the charges of legal prices
   pub general-six : only 6 ≡ generalAnswer f r → pricesOut (r .prices) ≡ true
@@ -64,13 +64,13 @@ module _ (f : Figures) (r : Rates) where
   unfolding generalAnswer
   general-cents e = let k = told-else (pricesOut (r .prices)) refl e in (k .0, ap payable (k .1))
 
-  pub floored-six : only 6 ≡ flooredAnswer f r → pricesOut (r .prices) ≡ true
-  unfolding flooredAnswer
-  floored-six e = told-six (pricesOut (r .prices)) (withCharges (chargesOf f r)) refl e
+  pub charges-six : only 6 ≡ chargesAnswer f r → pricesOut (r .prices) ≡ true
+  unfolding chargesAnswer
+  charges-six e = told-six (pricesOut (r .prices)) (withCharges (chargesOf f r)) refl e
 
-  pub floored-cents : {a : TwoCharges} → withCharges a ≡ flooredAnswer f r → (pricesOut (r .prices) ≡ false) × (a ≡ chargesOf f r)
-  unfolding flooredAnswer
-  floored-cents e = let k = told-else (pricesOut (r .prices)) refl e in (k .0, ap chargesFrom (k .1))
+  pub charges-cents : {a : TwoCharges} → withCharges a ≡ chargesAnswer f r → (pricesOut (r .prices) ≡ false) × (a ≡ chargesOf f r)
+  unfolding chargesAnswer
+  charges-cents e = let k = told-else (pricesOut (r .prices)) refl e in (k .0, ap chargesFrom (k .1))
 
 -- the rules of the first half
 module _ (f : Figures) (r : Rates) {g : ℕ} (e : g ≡ general f r) where

@@ -9,7 +9,7 @@ use native.Mathlib.Omega.{arith}
 use borrow.Author.Tests.{ne-eqb}
 use lib.Dec.{eqb}
 use lib.ListN.{getD}
-use Rattle.over.proofs.Bools.{refutes}
+use Rattle.ranges.proofs.Bools.{refutes}
 use Rattle.answers.specs.Ruling.{shareOf, leastReduction}
 use Rattle.answers.specs.Said.{Said}
 use Rattle.answers.proofs.Laws.{level-of}
@@ -54,7 +54,7 @@ charge-fair f r a e = go (charge-exactly f r 0 .0 (number-is e)) refl
     go (zero h n cut) z =
         let all = charge-accepted f r refl n cut ∙ charge-legal f r h ∙ e in
         let c : charge f r ≡ a .charge = ap payable all in
-        let g : general f r ≡ a .peaks .plain .general = ap (λ (s : Said). getD (s .carries) 1 0) all in
+        let g : general f r ≡ a .peaks .plain .general = ap (λ (s : Said). getD (s .figures) 1 0) all in
         record { floor = omega (arith, floor-least (general f r) .0); reduction = omega arith }
 
 module _ (r : Rates) where

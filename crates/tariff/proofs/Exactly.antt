@@ -6,7 +6,7 @@ use mathlib.Core.Logic.{_↔_, ⊎-elim}
 use Prim.Native.Nat.{ℕ, _+_, _*_, _≤_, _<_}
 use native.Mathlib.Decide.{decLt, ℕ-discrete}
 use native.Mathlib.Omega.{arith}
-use Rattle.over.proofs.Bools.{decided, refutes, clash}
+use Rattle.ranges.proofs.Bools.{decided, refutes, clash}
 use Rattle.answers.specs.Ruling.{shareOf, leastMove, leastReduction, levelOut}
 use Rattle.answers.specs.Said.{yesNo}
 use Rattle.answers.proofs.Laws.{level-of}

@@ -5,7 +5,7 @@ use mathlib.Core.Path.{_≡_}
 use mathlib.Core.Bool.{false}
 use mathlib.Core.Logic.{_↔_}
 use borrow.Author.Tests.{le-ltb, ltb-false}
-use Rattle.over.proofs.Bools.{neither}
+use Rattle.ranges.proofs.Bools.{neither}
 use Rattle.answers.specs.Ruling.{levelOut, capacityOut, energyOut}
 use Rattle.answers.proofs.Laws.{level-of}
 use Rattle.tariff.specs.declared.Row.{Row}

@@ -11,11 +11,11 @@ use Rattle.tariff.specs.declared.Plain.{Plain}
 use Rattle.tariff.specs.declared.Peaks.{Peaks}
 use Rattle.tariff.specs.declared.General.{General}
 use Rattle.tariff.specs.declared.General.the-variants.{Cents, PriceOut}
-use Rattle.tariff.specs.declared.Floored.{Floored}
-use Rattle.tariff.specs.declared.Floored.the-variants.{Cents, PriceOut}
+use Rattle.tariff.specs.declared.BothCharges.{BothCharges}
+use Rattle.tariff.specs.declared.BothCharges.the-variants.{Cents, PriceOut}
 use Rattle.tariff.specs.declared.Decision.{Decision}
 use Rattle.tariff.specs.declared.Decision.the-variants.{Accepted, Eligible, Taken, YearOut, LevelOut, BadHolidays, WrongLength, BadReading, PriceOut, NoWindow, ShareShort, MoveShort, ReductionShort, Malformed, DayOut}
-use Rattle.tariff.specs.Answers.{saidOf, saidOfGeneral, saidOfFloored}
+use Rattle.tariff.specs.Answers.{saidOf, saidOfGeneral, saidOfCharges}
 
 -- an answer that is told back from what it says is fixed by it
 told-back :
@@ -29,7 +29,7 @@ told-back said back same {x} {r} {s} p q = sym (same r) ∙ ap back (one-answer 
 
 -- figure i of an answer, and the figures from figure i on
 abbrev figure : Said → ℕ → ℕ
-figure a i = getD (a .carries) i 0
+figure a i = getD (a .figures) i 0
 
 abbrev plainFrom : Said → ℕ → Plain
 plainFrom a i = record { general = figure a i; peak = figure a (1 + i); sum = figure a (2 + i) }
@@ -42,8 +42,8 @@ peaksFrom a i = record { plain = plainFrom a i; high = figure a (3 + i); day = f
 abbrev decisionBack : Said → Decision
 decisionBack a =
     cond (eqb (a .number) 0)
-    (cond (eqb (length (a .carries)) 0) Taken
-    (cond (eqb (length (a .carries)) 1) Eligible
+    (cond (eqb (length (a .figures)) 0) Taken
+    (cond (eqb (length (a .figures)) 1) Eligible
     (Accepted (record { charge = figure a 0; peaks = peaksFrom a 1 }))))
     (cond (eqb (a .number) 1) YearOut
     (cond (eqb (a .number) 2) LevelOut
@@ -89,12 +89,12 @@ general-back PriceOut = refl
 pub general-only : {x : Said} {r s : General} → saidOfGeneral r ≡ x → saidOfGeneral s ≡ x → r ≡ s
 general-only = told-back saidOfGeneral generalBack general-back
 
-abbrev flooredBack : Said → Floored
-flooredBack a = cond (eqb (a .number) 0) (Cents (record { charge = figure a 0; general = figure a 1 })) PriceOut
+abbrev chargesBack : Said → BothCharges
+chargesBack a = cond (eqb (a .number) 0) (Cents (record { charge = figure a 0; general = figure a 1 })) PriceOut
 
-floored-back : (d : Floored) → flooredBack (saidOfFloored d) ≡ d
-floored-back (Cents a) = refl
-floored-back PriceOut = refl
+charges-back : (d : BothCharges) → chargesBack (saidOfCharges d) ≡ d
+charges-back (Cents a) = refl
+charges-back PriceOut = refl
 
-pub floored-only : {x : Said} {r s : Floored} → saidOfFloored r ≡ x → saidOfFloored s ≡ x → r ≡ s
-floored-only = told-back saidOfFloored flooredBack floored-back
+pub charges-only : {x : Said} {r s : BothCharges} → saidOfCharges r ≡ x → saidOfCharges s ≡ x → r ≡ s
+charges-only = told-back saidOfCharges chargesBack charges-back

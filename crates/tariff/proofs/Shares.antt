@@ -8,8 +8,8 @@ use native.Mathlib.Omega.{arith}
 use borrow.Author.Tests.{eqb-true}
 use lib.Dec.{eqb}
 use lib.ListN.{getD}
-use Rattle.over.specs.Over.{joined, allOver}
-use Rattle.over.proofs.Tests.{all-at}
+use Rattle.ranges.specs.Ranges.{joined, allOver}
+use Rattle.ranges.proofs.Tests.{all-at}
 use Rattle.answers.specs.Ruling.{lastLevel, shareOf, Level}
 
 -- the table of the code that decides

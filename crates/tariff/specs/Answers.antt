@@ -12,8 +12,8 @@ use Rattle.tariff.specs.declared.Charged.{Charged}
 use Rattle.tariff.specs.declared.TwoCharges.{TwoCharges}
 use Rattle.tariff.specs.declared.General.{General}
 use Rattle.tariff.specs.declared.General.the-variants.{Cents, PriceOut}
-use Rattle.tariff.specs.declared.Floored.{Floored}
-use Rattle.tariff.specs.declared.Floored.the-variants.{Cents, PriceOut}
+use Rattle.tariff.specs.declared.BothCharges.{BothCharges}
+use Rattle.tariff.specs.declared.BothCharges.the-variants.{Cents, PriceOut}
 use Rattle.tariff.specs.declared.Decision.{Decision}
 use Rattle.tariff.specs.declared.Decision.the-variants.{Accepted, Eligible, Taken, YearOut, LevelOut, BadHolidays, WrongLength, BadReading, PriceOut, NoWindow, ShareShort, MoveShort, ReductionShort, Malformed, DayOut}
 
@@ -31,13 +31,13 @@ chargedFigures a = a .charge ∷ peaksFigures (a .peaks)
 
 -- 8 with its figures; 9, 10 or 11 with theirs; 0 with the charge
 abbrev pub withPlain : Plain → Said
-withPlain a = record { number = 8; carries = plainFigures a }
+withPlain a = record { number = 8; figures = plainFigures a }
 
 abbrev pub withPeaks : ℕ → Peaks → Said
-withPeaks n a = record { number = n; carries = peaksFigures a }
+withPeaks n a = record { number = n; figures = peaksFigures a }
 
 abbrev pub withCharge : Charged → Said
-withCharge a = record { number = 0; carries = chargedFigures a }
+withCharge a = record { number = 0; figures = chargedFigures a }
 
 -- the number and the figures of each case of the code's answer
 abbrev pub saidOf : Decision → Said
@@ -59,18 +59,18 @@ saidOf DayOut = only 13
 
 -- and of the calls for the charges alone: 0 with g; 0 with c and g
 abbrev pub withGeneral : ℕ → Said
-withGeneral g = record { number = 0; carries = g ∷ [] }
+withGeneral g = record { number = 0; figures = g ∷ [] }
 
 abbrev pub withCharges : TwoCharges → Said
-withCharges a = record { number = 0; carries = a .charge ∷ a .general ∷ [] }
+withCharges a = record { number = 0; figures = a .charge ∷ a .general ∷ [] }
 
 abbrev pub saidOfGeneral : General → Said
 saidOfGeneral (Cents g) = withGeneral g
 saidOfGeneral PriceOut = only 6
 
-abbrev pub saidOfFloored : Floored → Said
-saidOfFloored (Cents a) = withCharges a
-saidOfFloored PriceOut = only 6
+abbrev pub saidOfCharges : BothCharges → Said
+saidOfCharges (Cents a) = withCharges a
+saidOfCharges PriceOut = only 6
 
 -- what is carried of a year's figures f, its general charge g and its charge c
 abbrev pub plainOf : Figures → ℕ → Plain
@@ -84,4 +84,4 @@ chargedOf f g c = record { charge = c; peaks = peaksOf f g }
 
 -- what the customer pays by an answer: the charge c by 0, the general charge g by 8 to 11. Each carries it first.
 abbrev pub payable : Said → ℕ
-payable a = getD (a .carries) 0 0
+payable a = getD (a .figures) 0 0

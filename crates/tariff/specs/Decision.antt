@@ -15,8 +15,8 @@ use Rattle.tariff.specs.Answers.{withGeneral, withCharges, withPlain, wi
 unfoldable pub generalAnswer : Figures → Rates → Said
 generalAnswer f r = cond (pricesOut (r .prices)) (only 6) (withGeneral (general f r))
 
-unfoldable pub flooredAnswer : Figures → Rates → Said
-flooredAnswer f r = cond (pricesOut (r .prices)) (only 6) (withCharges (chargesOf f r))
+unfoldable pub chargesAnswer : Figures → Rates → Said
+chargesAnswer f r = cond (pricesOut (r .prices)) (only 6) (withCharges (chargesOf f r))
 
 -- 8, "no in-window quarter in the year"
 abbrev pub noWindow : Figures → Bool

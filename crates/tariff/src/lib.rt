@@ -81,7 +81,7 @@ pub enum General {
 }
 
 // What the call for both charges answers: 0 with the cents, or 6.
-pub enum Floored {
+pub enum BothCharges {
     Cents(TwoCharges),
     PriceOut,
 }

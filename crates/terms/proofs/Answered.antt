@@ -11,53 +11,53 @@ use Rattle.answers.proofs.Laws.{refusal-keeps, done-hands, refusal-stands}
 use Rattle.holidays.specs.Holidays.{badHolidays}
 use Rattle.sheet.specs.declared.SheetAnswer.{SheetAnswer}
 use Rattle.sheet.specs.declared.SheetAnswer.the-variants.{Accepted, Short, YearOut, LevelOut, Malformed}
-use Rattle.sheet.specs.Answers.{saidOfSheet, readAnswer, SheetRead, readOf}
+use Rattle.sheet.specs.Answers.{saidOfSheet, readAnswer, ReadSaid, readOf}
 use Rattle.sheet.proofs.Answered.{read-taken}
 use Rattle.sheet.proofs.Exactly.{read-zero}
 use Rattle.tariff.specs.Prices.{pricesOut}
 use Rattle.terms.specs.Basis.{Basis, basisYear}
-use Rattle.terms.specs.Opening.{listsAnswer, openAnswer, termsOf, noTerms, openTerms}
+use Rattle.terms.specs.Opening.{listsAnswer, customerOpenAnswer, termsOf, noTerms, openTerms}
 
 module _ (k : Basis) where
-  pub open-read : (a : Said) → eqb (a .number) 0 ≡ false → a ≡ readAnswer (k .sheet) → a ≡ openAnswer k
-  unfolding openAnswer
+  pub open-read : (a : Said) → eqb (a .number) 0 ≡ false → a ≡ readAnswer (k .sheet) → a ≡ customerOpenAnswer k
+  unfolding customerOpenAnswer
   open-read a z e = refusal-stands a _ e z
 
   module _ (r : only 0 ≡ readAnswer (k .sheet)) where
-    pub open-holidays : badHolidays (basisYear k) (k .holidays) ≡ true → only 3 ≡ openAnswer k
-    unfolding openAnswer
+    pub open-holidays : badHolidays (basisYear k) (k .holidays) ≡ true → only 3 ≡ customerOpenAnswer k
+    unfolding customerOpenAnswer
     open-holidays h = rw (← r, h)
 
     module _ (h : badHolidays (basisYear k) (k .holidays) ≡ false) where
-      pub open-prices : pricesOut (k .prices) ≡ true → only 6 ≡ openAnswer k
-      unfolding openAnswer
+      pub open-prices : pricesOut (k .prices) ≡ true → only 6 ≡ customerOpenAnswer k
+      unfolding customerOpenAnswer
       open-prices e = rw (← r, h, e)
 
-      pub open-done : pricesOut (k .prices) ≡ false → only 0 ≡ openAnswer k
-      unfolding openAnswer
+      pub open-done : pricesOut (k .prices) ≡ false → only 0 ≡ customerOpenAnswer k
+      unfolding customerOpenAnswer
       open-done e = rw (← r, h, e)
 
   -- with the sheet that reading hands over, which is another beside a refusal
-  abbrev saidWith : SheetRead → Said
+  abbrev saidWith : ReadSaid → Said
   saidWith s = orElse (s .answer) (listsAnswer (s .sheet .year) (k .holidays) (k .prices))
 
-  pub open-said : {s : SheetRead} → s ≡ readOf (k .sheet) → saidWith s ≡ openAnswer k
-  unfolding openAnswer
+  pub open-said : {s : ReadSaid} → s ≡ readOf (k .sheet) → saidWith s ≡ customerOpenAnswer k
+  unfolding customerOpenAnswer
   open-said {s} e = ap saidWith e ∙ go (ℕ-discrete (readAnswer (k .sheet) .number) 0)
     where
-      go : Dec (readAnswer (k .sheet) .number ≡ 0) → saidWith (readOf (k .sheet)) ≡ openAnswer k
+      go : Dec (readAnswer (k .sheet) .number ≡ 0) → saidWith (readOf (k .sheet)) ≡ customerOpenAnswer k
       go (yes z) =
-          ap (λ (x : SheetRead). orElse (readAnswer (k .sheet)) (listsAnswer (x .sheet .year) (k .holidays) (k .prices)))
+          ap (λ (x : ReadSaid). orElse (readAnswer (k .sheet)) (listsAnswer (x .sheet .year) (k .holidays) (k .prices)))
           (sym (read-taken (k .sheet) (read-zero (k .sheet) z)))
       go (no z) =
           sym (refusal-stands (readAnswer (k .sheet)) _ refl (ne-eqb _ _ z)) ∙ open-read (readAnswer (k .sheet)) (ne-eqb _ _ z) refl
 
   -- beside a refusal stand the fixed terms, beside 0 those of the basis
-  pub open-refused : (a : Said) → eqb (a .number) 0 ≡ false → a ≡ openAnswer k → noTerms ≡ openTerms k
+  pub open-refused : (a : Said) → eqb (a .number) 0 ≡ false → a ≡ customerOpenAnswer k → noTerms ≡ openTerms k
   unfolding openTerms
   open-refused a z e = refusal-keeps a (termsOf k) noTerms e z .1
 
-  pub open-taken : only 0 ≡ openAnswer k → termsOf k ≡ openTerms k
+  pub open-taken : only 0 ≡ customerOpenAnswer k → termsOf k ≡ openTerms k
   unfolding openTerms
   open-taken e = done-hands (only 0) (termsOf k) noTerms e refl .1
 

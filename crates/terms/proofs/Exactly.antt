@@ -6,18 +6,18 @@ use Prim.Native.Nat.{ℕ}
 use native.Mathlib.Decide.{ℕ-discrete}
 use native.Mathlib.Omega.{arith}
 use borrow.Author.Tests.{ne-eqb}
-use Rattle.over.proofs.Bools.{decided, refutes}
+use Rattle.ranges.proofs.Bools.{decided, refutes}
 use Rattle.answers.specs.Said.{Said, only}
 use Rattle.holidays.specs.Holidays.{badHolidays}
 use Rattle.holidays.proofs.Lists.{legal-holidays}
-use Rattle.sheet.specs.Answers.{readAnswer, SheetRead, readOf}
+use Rattle.sheet.specs.Answers.{readAnswer, ReadSaid, readOf}
 use Rattle.sheet.specs.Rows.{ReadRow}
 use Rattle.sheet.proofs.Answered.{read-taken}
 use Rattle.sheet.proofs.Exactly.{read-exactly, read-zero}
 use Rattle.tariff.specs.Prices.{pricesOut}
 use Rattle.tariff.proofs.Limits.{prices-legal}
 use Rattle.terms.specs.Basis.{Basis, basisSheet, basisYear}
-use Rattle.terms.specs.Opening.{openAnswer}
+use Rattle.terms.specs.Opening.{customerOpenAnswer}
 use Rattle.terms.specs.Rows.{LegalBasis, CustomerOpenRow}
 use Rattle.terms.specs.Rows.CustomerOpenRow.{sheet, three, six, zero}
 use Rattle.terms.proofs.Answered.{open-read, open-holidays, open-prices, open-done}
@@ -30,7 +30,7 @@ module _ (k : Basis) where
     read-row : ReadRow (k .sheet) 0
     read-row = read-exactly (k .sheet) 0 .0 (number r)
 
-    read-holds : CustomerOpenRow k (openAnswer k .number)
+    read-holds : CustomerOpenRow k (customerOpenAnswer k .number)
     read-holds =
         ⊎-elim (λ h. rw (← open-holidays k r h) (three read-row (refutes _ (legal-holidays _ (k .holidays)) .0 h))) (λ h.
         let legal = legal-holidays _ (k .holidays) .0 h in
@@ -38,10 +38,10 @@ module _ (k : Basis) where
         (λ q. rw (← open-done k r h q) (zero (record { read = read-row; holidays = legal; prices = prices-legal (k .prices) .0 q })))
         (decided (pricesOut (k .prices)))) (decided (badHolidays (basisYear k) (k .holidays)))
 
-  open-holds : CustomerOpenRow k (openAnswer k .number)
+  open-holds : CustomerOpenRow k (customerOpenAnswer k .number)
   open-holds = go (ℕ-discrete (readAnswer (k .sheet) .number) 0)
     where
-      go : Dec (readAnswer (k .sheet) .number ≡ 0) → CustomerOpenRow k (openAnswer k .number)
+      go : Dec (readAnswer (k .sheet) .number ≡ 0) → CustomerOpenRow k (customerOpenAnswer k .number)
       go (yes z) = read-holds (read-zero (k .sheet) z)
       go (no z) =
           let e = open-read k (readAnswer (k .sheet)) (ne-eqb _ _ z) refl in
@@ -51,11 +51,11 @@ module _ (k : Basis) where
   accepted : ReadRow (k .sheet) 0 → only 0 ≡ readAnswer (k .sheet)
   accepted r = read-zero (k .sheet) (read-exactly (k .sheet) 0 .1 r)
 
-  legal-done : LegalBasis k → only 0 ≡ openAnswer k
+  legal-done : LegalBasis k → only 0 ≡ customerOpenAnswer k
   legal-done l =
       open-done k (accepted (l .read)) (legal-holidays _ (k .holidays) .1 (l .holidays)) (prices-legal (k .prices) .1 (l .prices))
 
-  open-given : {n : ℕ} → CustomerOpenRow k n → openAnswer k .number ≡ n
+  open-given : {n : ℕ} → CustomerOpenRow k n → customerOpenAnswer k .number ≡ n
   open-given (sheet r z) =
       let e = read-exactly (k .sheet) _ .1 r in
       number (open-read k (readAnswer (k .sheet)) (ne-eqb _ _ (λ q. z (sym e ∙ q))) refl) ∙ e
@@ -64,11 +64,11 @@ module _ (k : Basis) where
       number (open-prices k (accepted r) (legal-holidays _ (k .holidays) .1 h) (refutes _ (prices-legal (k .prices)) .1 q))
   open-given (zero l) = number (legal-done l)
 
-  pub customer-open-exactly : (n : ℕ) → (openAnswer k .number ≡ n) ↔ CustomerOpenRow k n
+  pub customer-open-exactly : (n : ℕ) → (customerOpenAnswer k .number ≡ n) ↔ CustomerOpenRow k n
   customer-open-exactly n = (λ e. rw e at open-holds, open-given)
 
   -- 0 is given for a legal basis alone
-  pub open-legal : openAnswer k .number ≡ 0 → LegalBasis k
+  pub open-legal : customerOpenAnswer k .number ≡ 0 → LegalBasis k
   open-legal e = go (customer-open-exactly 0 .0 e) refl
     where
       go : {n : ℕ} → CustomerOpenRow k n → n ≡ 0 → LegalBasis k
@@ -78,10 +78,10 @@ module _ (k : Basis) where
       go (zero l) q = l
 
   -- it carries nothing
-  pub open-zero : openAnswer k .number ≡ 0 → only 0 ≡ openAnswer k
+  pub open-zero : customerOpenAnswer k .number ≡ 0 → only 0 ≡ customerOpenAnswer k
   open-zero e = legal-done (open-legal e)
 
   -- and beside it reading hands over what the sheet says
-  pub open-meaning : {s : SheetRead} → s ≡ readOf (k .sheet) → only 0 ≡ openAnswer k → s .sheet ≡ basisSheet k
+  pub open-meaning : {s : ReadSaid} → s ≡ readOf (k .sheet) → only 0 ≡ customerOpenAnswer k → s .sheet ≡ basisSheet k
   open-meaning shown e =
-      ap (λ (x : SheetRead). x .sheet) (shown ∙ sym (read-taken (k .sheet) (accepted (open-legal (number e) .read))))
+      ap (λ (x : ReadSaid). x .sheet) (shown ∙ sym (read-taken (k .sheet) (accepted (open-legal (number e) .read))))

@@ -10,7 +10,7 @@ use Rattle.answers.specs.Said.{Said, only, after, orElse}
 use Rattle.dates.specs.Dates.{mostDays}
 use Rattle.holidays.specs.Holidays.{badHolidays}
 use Rattle.calendar.specs.Free.{windowDays}
-use Rattle.sheet.specs.Windows.{places}
+use Rattle.sheet.specs.Windows.{windowPlaces}
 use Rattle.sheet.specs.Answers.{readAnswer}
 use Rattle.tariff.specs.declared.Row.{Row}
 use Rattle.tariff.specs.declared.Prices.{Prices}
@@ -29,8 +29,8 @@ listsAnswer y hs p =
     (only 0))
 
 -- what needs no readings: what reading the sheet refuses, then what the lists are refused for
-unfoldable pub openAnswer : Basis → Said
-openAnswer k = orElse (readAnswer (k .sheet)) (listsAnswer (basisYear k) (k .holidays) (k .prices))
+unfoldable pub customerOpenAnswer : Basis → Said
+customerOpenAnswer k = orElse (readAnswer (k .sheet)) (listsAnswer (basisYear k) (k .holidays) (k .prices))
 
 -- what a year is judged under: its rates, the sheet's windows, and the days that carry windows
 abbrev pub termsOf : Basis → Terms
@@ -52,14 +52,14 @@ abbrev pub noTerms : Terms
 noTerms =
     record {
       rates = noRates;
-      windows = replicate places false;
+      windows = replicate windowPlaces false;
       carrying = replicate mostDays false;
     }
 
 unfoldable pub openTerms : Basis → Terms
-openTerms k = after (openAnswer k) (termsOf k) noTerms
+openTerms k = after (customerOpenAnswer k) (termsOf k) noTerms
 
 -- what is promised of opening: its answer, and the terms beside it
 pub record Opens (k : Basis) (r : Opening) : Type 0 where
-  pub said : saidOf (r .answer) ≡ openAnswer k
+  pub said : saidOf (r .answer) ≡ customerOpenAnswer k
   pub terms : r .terms ≡ openTerms k

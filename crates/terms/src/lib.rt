@@ -16,7 +16,7 @@ use tariff::Row;
 // What a year is judged under: its rates, the sheet's windows, and the days that carry windows, day 1 first.
 pub struct Terms {
     pub rates: Rates,
-    pub windows: [bool; sheet::PLACES],
+    pub windows: [bool; sheet::WINDOW_PLACES],
     pub carrying: [bool; dates::MOST_DAYS],
 }
 
@@ -27,7 +27,7 @@ pub struct Opening {
 }
 
 // What reading the sheet answers, as the decision's: reading never answers 14.
-fn told(answer: SheetAnswer) -> Decision
+fn as_decision(answer: SheetAnswer) -> Decision
     requires { ⌜ (saidOfSheet answer .number ≡ 14 → ⊥) ⌝ }
     ensures { λ r. ⌜ saidOf r ≡ saidOfSheet answer ⌝ }
 {
@@ -45,7 +45,7 @@ fn open_answer(read: SheetAnswer, year: u16, holidays: &[u16], prices: Prices) -
     requires { ⌜ (saidOfSheet read .number ≡ 14 → ⊥) ⌝ }
     ensures { λ r. ⌜ saidOf r ≡ orElse (saidOfSheet read) (listsAnswer year (now (holidays .entry)) prices) ⌝ }
 {
-    let answer = told(read);
+    let answer = as_decision(read);
     let Decision::Taken = answer else {
         return answer;
     };
@@ -78,7 +78,7 @@ fn no_terms() -> Terms
                 },
             },
         },
-        windows: [false; sheet::PLACES],
+        windows: [false; sheet::WINDOW_PLACES],
         carrying: [false; dates::MOST_DAYS],
     }
 }

@@ -7,11 +7,11 @@ use mathlib.Core.List.{List, [], _∷_, _++_}
 use Prim.Native.Nat.{ℕ}
 use lib.Dec.{eqb}
 use lib.ListN.{replicate}
-use Rattle.over.specs.Over.{joined, anyOver, firstOver}
+use Rattle.ranges.specs.Ranges.{joined, anyOver, firstOver}
 use Rattle.answers.specs.Said.{only, badPlace}
 use Rattle.sheet.specs.Windows.{isSet}
 use Rattle.lines.specs.Text.{textOver}
-use Rattle.lines.specs.Figures.{decimalOf, fieldOf, figuresLine, figuresIn, statementLine, refusedLine}
+use Rattle.lines.specs.Figures.{decimalOf, fieldOf, figuresLine, lineFigures, statementLine, refusedLine}
 use Rattle.window_lines.specs.Runs.{headLine, timeOf, runLine, runText, seasonText, windowsText}
 
 -- a text of the definitions, and the bytes that are printed
@@ -45,15 +45,15 @@ cases =
           ∷ 53 ∷ 10 ∷ 50 ∷ 32 ∷ 110 ∷ 111 ∷ 110 ∷ 101 ∷ 10 ∷ 51 ∷ 32 ∷ 110 ∷ 111 ∷ 110 ∷ 101 ∷ 10 ∷ 52 ∷ 32 ∷ 110 ∷ 111 ∷ 110 ∷ 101 ∷ 10 ∷ [];
     }
     -- `REFUSED 7`
-    ∷ record { text = refusedLine (figuresIn (only 7)); printed = 82 ∷ 69 ∷ 70 ∷ 85 ∷ 83 ∷ 69 ∷ 68 ∷ 32 ∷ 55 ∷ 10 ∷ [] }
+    ∷ record { text = refusedLine (lineFigures (only 7)); printed = 82 ∷ 69 ∷ 70 ∷ 85 ∷ 83 ∷ 69 ∷ 68 ∷ 32 ∷ 55 ∷ 10 ∷ [] }
     -- `REFUSED 5 366 95`
     ∷ record {
-      text = refusedLine (figuresIn (badPlace (record { day = 366; position = 95 })));
+      text = refusedLine (lineFigures (badPlace (record { day = 366; position = 95 })));
       printed = 82 ∷ 69 ∷ 70 ∷ 85 ∷ 83 ∷ 69 ∷ 68 ∷ 32 ∷ 53 ∷ 32 ∷ 51 ∷ 54 ∷ 54 ∷ 32 ∷ 57 ∷ 53 ∷ 10 ∷ [];
     }
     -- the printed statement: `0 1001500 2001500 1000000 1500000 500000 2 72`
     ∷ record {
-      text = statementLine (record { number = 0; carries = 1001500 ∷ 2001500 ∷ 1000000 ∷ 1500000 ∷ 500000 ∷ 2 ∷ 72 ∷ [] });
+      text = statementLine (record { number = 0; figures = 1001500 ∷ 2001500 ∷ 1000000 ∷ 1500000 ∷ 500000 ∷ 2 ∷ 72 ∷ [] });
       printed = 48 ∷ 32 ∷ 49 ∷ 48 ∷ 48 ∷ 49 ∷ 53 ∷ 48 ∷ 48 ∷ 32 ∷ 50 ∷ 48 ∷ 48 ∷ 49 ∷ 53 ∷ 48 ∷ 48 ∷ 32 ∷ 49 ∷ 48 ∷ 48 ∷ 48
           ∷ 48 ∷ 48 ∷ 48 ∷ 32 ∷ 49 ∷ 53 ∷ 48 ∷ 48 ∷ 48 ∷ 48 ∷ 48 ∷ 32 ∷ 53 ∷ 48 ∷ 48 ∷ 48 ∷ 48 ∷ 48 ∷ 32 ∷ 50 ∷ 32 ∷ 55 ∷ 50 ∷ 10 ∷ [];
     }

@@ -8,12 +8,12 @@ use Prim.Native.Nat.{ℕ, _+_, _-_, _≤_, _<_}
 use native.Mathlib.Omega.{arith}
 use borrow.Author.Tests.{eq-eqb, ne-eqb}
 use lib.ListN.{length, getD, length-append}
-use Rattle.over.specs.Over.{anyOver}
-use Rattle.over.proofs.Tests.{Passed}
-use Rattle.over.proofs.First.{first-at, first-fails}
+use Rattle.ranges.specs.Ranges.{anyOver}
+use Rattle.ranges.proofs.Tests.{Passed}
+use Rattle.ranges.proofs.First.{first-at, first-fails}
 use Rattle.answers.specs.Ruling.{dayQuarters}
 use Rattle.sheet.specs.Windows.{seasons, isSet}
-use Rattle.lines.specs.Text.{textOver}
+use Rattle.lines.specs.Text.{textMost, textOver}
 use Rattle.lines.specs.Figures.{fieldIn, figuresLine}
 use Rattle.window_lines.specs.Runs.{headMark, headLine, timeOf, runLine, noneLine, begins, runEnd, runText, seasonText, seasonIn, windowsText}
 use Rattle.lines.proofs.Text.{text-short}
@@ -99,7 +99,7 @@ module _ (year level : ℕ) (windows : List Bool) where
   unfolding windowsText
   windows-long = length-append (headLine year level) (textOver (seasonIn windows) seasons)
 
-  pub windows-short : length (windowsText year level windows) ≤ 5425
+  pub windows-short : length (windowsText year level windows) ≤ textMost
   windows-short =
       omega (arith, windows-long, head-short year level, text-short (seasonIn windows) seasons 1344 (λ k l. season-short (k + 1) (isSet windows (k + 1))))
 

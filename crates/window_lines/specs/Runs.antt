@@ -5,7 +5,7 @@ use mathlib.Core.Bool.{Bool, cond, not, _&&_, _||_}
 use mathlib.Core.List.{List, [], _∷_, _++_}
 use Prim.Native.Nat.{ℕ, _+_, _-_, _*_, _/_, _%_}
 use lib.Dec.{eqb}
-use Rattle.over.specs.Over.{anyOver, firstOver}
+use Rattle.ranges.specs.Ranges.{anyOver, firstOver}
 use Rattle.answers.specs.Ruling.{dayQuarters}
 use Rattle.sheet.specs.Windows.{seasons, isSet}
 use Rattle.lines.specs.Text.{textOver}

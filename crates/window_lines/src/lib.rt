@@ -5,15 +5,12 @@ ghost use mathlib.Core.Path.{_≡_};
 ghost use mathlib.Core.Bool.{not};
 ghost use Prim.Native.Nat.{_+_, _≤_, _<_};
 ghost use lib.ListN.{length};
-ghost use Rattle.over.specs.Over.{anyOver};
+ghost use Rattle.ranges.specs.Ranges.{anyOver};
 ghost use Rattle.answers.specs.Ruling.{dayQuarters};
 ghost use Rattle.sheet.specs.Windows.{seasons, isSet};
 ghost use Rattle.lines.specs.Text.{textOver, Put, Wrote};
 ghost use Rattle.window_lines.specs.Runs.{headLine, timeOf, runLine, runEnd, runText, seasonText, seasonIn, windowsText};
 ghost use Rattle.window_lines.specs.Runs.{begins as beginsAt};
-
-// Bytes that are enough for every text of windows: the head, and 14 for each quarter.
-const TEXT_MOST: usize = 5425;
 
 // Bytes that are enough for the line of any two figures.
 const PAIR_MOST: usize = 45;
@@ -48,7 +45,7 @@ fn add_line(buf: &mut [u8], at: usize, season: u8, from: usize, to: usize) -> us
 }
 
 // Is quarter `quarter` (from 0) of season `season` (from 1) set? False outside both.
-fn is_set(windows: &[bool; sheet::PLACES], season: u8, quarter: usize) -> bool
+fn is_set(windows: &[bool; sheet::WINDOW_PLACES], season: u8, quarter: usize) -> bool
     ensures { λ r. ⌜ r ≡ isSet (now (windows .entry)) season quarter ⌝ }
 {
     if season < 1 {
@@ -63,14 +60,14 @@ fn is_set(windows: &[bool; sheet::PLACES], season: u8, quarter: usize) -> bool
     windows[answers::DAY_QUARTERS * (season as usize - 1) + quarter]
 }
 
-fn is_clear(windows: &[bool; sheet::PLACES], season: u8, q: usize) -> bool
+fn is_clear(windows: &[bool; sheet::WINDOW_PLACES], season: u8, q: usize) -> bool
     ensures { λ r. ⌜ r ≡ not (isSet (now (windows .entry)) season q) ⌝ }
 {
     !is_set(windows, season, q)
 }
 
 // Does a run begin at quarter q?
-fn begins(windows: &[bool; sheet::PLACES], season: u8, q: usize) -> bool
+fn begins(windows: &[bool; sheet::WINDOW_PLACES], season: u8, q: usize) -> bool
     ensures { λ r. ⌜ r ≡ beginsAt (isSet (now (windows .entry)) season) q ⌝ }
 {
     let here = is_set(windows, season, q);
@@ -81,7 +78,7 @@ fn begins(windows: &[bool; sheet::PLACES], season: u8, q: usize) -> bool
 }
 
 // The first quarter from q on that is not set; 96 where all are.
-fn run_end(windows: &[bool; sheet::PLACES], season: u8, q: usize) -> usize
+fn run_end(windows: &[bool; sheet::WINDOW_PLACES], season: u8, q: usize) -> usize
     requires { ⌜ q < dayQuarters ⌝ }
     ensures { λ r. ⌜ (r ≡ runEnd (isSet (now (windows .entry)) season) q) × (r ≤ dayQuarters) ⌝ }
 {
@@ -98,7 +95,7 @@ fn run_end(windows: &[bool; sheet::PLACES], season: u8, q: usize) -> usize
 fn add_run(
     buf: &mut [u8],
     at: usize,
-    windows: &[bool; sheet::PLACES],
+    windows: &[bool; sheet::WINDOW_PLACES],
     season: u8,
     q: usize,
 ) -> usize
@@ -112,7 +109,7 @@ fn add_run(
     at
 }
 
-fn add_runs(buf: &mut [u8], at: usize, windows: &[bool; sheet::PLACES], season: u8) -> usize
+fn add_runs(buf: &mut [u8], at: usize, windows: &[bool; sheet::WINDOW_PLACES], season: u8) -> usize
     requires { ⌜ (season ≤ seasons) × (at + length (textOver (runText season (isSet (now windows) season)) dayQuarters) ≤ length (now buf)) ⌝ }
     ensures { λ r. ⌜ Wrote (now (buf .entry)) at (textOver (runText season (isSet (now (windows .entry)) season)) dayQuarters) (now (buf .exit)) r ⌝ }
 {
@@ -124,7 +121,7 @@ fn add_runs(buf: &mut [u8], at: usize, windows: &[bool; sheet::PLACES], season: 
 }
 
 // Is any quarter of a season set?
-fn any_set(windows: &[bool; sheet::PLACES], season: u8) -> bool
+fn any_set(windows: &[bool; sheet::WINDOW_PLACES], season: u8) -> bool
     ensures { λ r. ⌜ r ≡ anyOver (isSet (now (windows .entry)) season) dayQuarters ⌝ }
 {
     let mut any = false;
@@ -135,7 +132,12 @@ fn any_set(windows: &[bool; sheet::PLACES], season: u8) -> bool
 }
 
 // A season's lines.
-fn add_season(buf: &mut [u8], at: usize, windows: &[bool; sheet::PLACES], season: u8) -> usize
+fn add_season(
+    buf: &mut [u8],
+    at: usize,
+    windows: &[bool; sheet::WINDOW_PLACES],
+    season: u8,
+) -> usize
     requires { ⌜ (season ≤ seasons) × (at + length (seasonText season (isSet (now windows) season)) ≤ length (now buf)) ⌝ }
     ensures { λ r. ⌜ Wrote (now (buf .entry)) at (seasonText season (isSet (now (windows .entry)) season)) (now (buf .exit)) r ⌝ }
 {
@@ -146,7 +148,7 @@ fn add_season(buf: &mut [u8], at: usize, windows: &[bool; sheet::PLACES], season
     lines::add_bytes(buf, at, &line)
 }
 
-fn add_seasons(buf: &mut [u8], at: usize, windows: &[bool; sheet::PLACES]) -> usize
+fn add_seasons(buf: &mut [u8], at: usize, windows: &[bool; sheet::WINDOW_PLACES]) -> usize
     requires { ⌜ at + length (textOver (seasonIn (now windows)) seasons) ≤ length (now buf) ⌝ }
     ensures { λ r. ⌜ Wrote (now (buf .entry)) at (textOver (seasonIn (now (windows .entry))) seasons) (now (buf .exit)) r ⌝ }
 {
@@ -169,7 +171,12 @@ fn add_head(buf: &mut [u8], year: u16, level: u8) -> usize
     lines::add_bytes(buf, a, &line[..n])
 }
 
-fn add_windows(buf: &mut [u8], year: u16, level: u8, windows: &[bool; sheet::PLACES]) -> usize
+fn add_windows(
+    buf: &mut [u8],
+    year: u16,
+    level: u8,
+    windows: &[bool; sheet::WINDOW_PLACES],
+) -> usize
     requires { ⌜ length (windowsText year level (now windows)) ≤ length (now buf) ⌝ }
     ensures { λ r. ⌜ Wrote (now (buf .entry)) 0 (windowsText year level (now (windows .entry))) (now (buf .exit)) r ⌝ }
 {
@@ -178,10 +185,15 @@ fn add_windows(buf: &mut [u8], year: u16, level: u8, windows: &[bool; sheet::PLA
 }
 
 // All that the window program prints for an accepted file, of any year, level and windows.
-pub fn windows_text(year: u16, level: u8, windows: &[bool; sheet::PLACES], buf: &mut [u8]) -> usize
+pub fn windows_text(
+    year: u16,
+    level: u8,
+    windows: &[bool; sheet::WINDOW_PLACES],
+    buf: &mut [u8],
+) -> usize
     ensures { λ r. ⌜ Put 0 (windowsText year level (now (windows .entry))) (now (buf .entry)) (now (buf .exit)) r ⌝ }
 {
-    let mut text = [0u8; TEXT_MOST];
+    let mut text = [0u8; lines::TEXT_MOST];
     let n = add_windows(&mut text, year, level, windows);
     if buf.len() < n {
         return 0;

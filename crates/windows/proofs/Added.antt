@@ -10,9 +10,9 @@ use borrow.Author.Count.{below-none, below-more}
 use lib.Dec.{ltb, eqb}
 use lib.ListN.{length, getD, set, length-set}
 use lib.Seq.{getD-set-same, getD-set-other}
-use Rattle.over.specs.Over.{bit, table}
-use Rattle.over.proofs.Tests.{count-none, counted}
-use Rattle.over.proofs.Tables.{length-table, getD-table, is-table}
+use Rattle.ranges.specs.Ranges.{bit, table}
+use Rattle.ranges.proofs.Tests.{count-none, counted}
+use Rattle.ranges.proofs.Tables.{length-table, getD-table, is-table}
 use Rattle.answers.specs.Ruling.{dayQuarters}
 use Rattle.windows.specs.Cuts.{equalsBefore, keptBy}
 

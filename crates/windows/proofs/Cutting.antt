@@ -11,11 +11,11 @@ use native.Mathlib.Omega.{arith}
 use borrow.Author.Tests.{lt-ltb, le-ltb, ltb-true, le-leb, lt-leb, eq-eqb, ne-eqb}
 use lib.Dec.{leb, ltb, eqb}
 use lib.ListN.{length, getD, List·getD-eq-default}
-use Rattle.over.specs.Over.{bit, countOver, table}
-use Rattle.over.proofs.Bools.{decided, both, pair, same-order}
-use Rattle.over.proofs.Tests.{count-add, count-fails, count-cong, count-mono, count-parts, count-less}
-use Rattle.over.proofs.Largest.{largest-above}
-use Rattle.over.proofs.Tables.{table-cong}
+use Rattle.ranges.specs.Ranges.{bit, countOver, table}
+use Rattle.ranges.proofs.Bools.{decided, both, pair, same-order}
+use Rattle.ranges.proofs.Tests.{count-add, count-fails, count-cong, count-mono, count-parts, count-less}
+use Rattle.ranges.proofs.Largest.{largest-above}
+use Rattle.ranges.proofs.Tables.{table-cong}
 use Rattle.answers.specs.Ruling.{lineParts, peakParts, windowsMost, dayQuarters}
 use Rattle.readings.specs.Legal.{highestOf}
 use Rattle.windows.specs.Chosen.{aboveLine, aboveIn, comesBefore, rank, kept, keptOf}

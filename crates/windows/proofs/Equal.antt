@@ -8,9 +8,9 @@ use native.Mathlib.Omega.{arith}
 use borrow.Author.Tests.{lt-ltb, eq-eqb}
 use lib.Dec.{ltb}
 use lib.ListN.{getD, replicate, getD-replicate}
-use Rattle.over.specs.Over.{joined, table}
-use Rattle.over.proofs.Tables.{table-cong}
-use Rattle.over.proofs.Tests.{count-cong, count-below}
+use Rattle.ranges.specs.Ranges.{joined, table}
+use Rattle.ranges.proofs.Tables.{table-cong}
+use Rattle.ranges.proofs.Tests.{count-cong, count-below}
 use Rattle.answers.specs.Ruling.{dayQuarters, lineParts, peakParts, windowsMost}
 use Rattle.windows.specs.Chosen.{aboveLine, comesBefore, rank, kept, keptOf}
 

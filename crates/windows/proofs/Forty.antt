@@ -11,14 +11,14 @@ use native.Mathlib.Decide.{decLt, ℕ-discrete}
 use native.Mathlib.Omega.{arith}
 use borrow.Author.Tests.{lt-ltb, ltb-true, eq-eqb, ne-eqb}
 use lib.ListN.{getD}
-use Rattle.over.specs.Limits.{Within}
-use Rattle.over.specs.Over.{countOver}
-use Rattle.over.proofs.Bools.{decided, both, pair, clash}
-use Rattle.over.proofs.Tests.{count-mono, count-less, count-cong}
-use Rattle.over.proofs.Tables.{getD-table}
-use Rattle.over.proofs.Rank.{exact}
+use Rattle.ranges.specs.Limits.{Within}
+use Rattle.ranges.specs.Ranges.{countOver}
+use Rattle.ranges.proofs.Bools.{decided, both, pair, clash}
+use Rattle.ranges.proofs.Tests.{count-mono, count-less, count-cong}
+use Rattle.ranges.proofs.Tables.{getD-table}
+use Rattle.ranges.proofs.Rank.{exact}
 use Rattle.answers.specs.Ruling.{windowsMost, dayQuarters}
-use Rattle.sheet.specs.Windows.{seasons, placeOf, setIn, Roomy, flatWindows}
+use Rattle.sheet.specs.Windows.{seasons, quarterPlace, setIn, Roomy, flatWindows}
 use Rattle.sheet.proofs.Windows.{flat-at}
 use Rattle.windows.specs.Chosen.{aboveLine, aboveIn, comesBefore, rank, kept, keptOf, chosenOf}
 
@@ -121,7 +121,7 @@ module _ (peak : ℕ) (curves : List (List ℕ)) where
       (s q : ℕ)
       → Within 1 seasons s
       → q < dayQuarters
-      → getD (flatWindows (chosenOf peak curves)) (placeOf s q) false ≡ kept peak (getD curves (s - 1) []) q
+      → getD (flatWindows (chosenOf peak curves)) (quarterPlace s q) false ≡ kept peak (getD curves (s - 1) []) q
   unfolding chosenOf keptOf
   chosen-at s q h l =
       flat-at (chosenOf peak curves) s q h l

@@ -4,7 +4,7 @@ use mathlib.Core.List.{List}
 use Prim.Native.Nat.{ℕ, _*_, _/_, _≤_}
 use lib.Dec.{ltb, eqb}
 use lib.ListN.{getD}
-use Rattle.over.specs.Over.{countOver}
+use Rattle.ranges.specs.Ranges.{countOver}
 use Rattle.answers.specs.Ruling.{lineParts, peakParts, dayQuarters, windowsMost}
 
 -- the line as a value

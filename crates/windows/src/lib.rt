@@ -5,7 +5,7 @@ ghost use mathlib.Core.Path.{_≡_};
 ghost use Prim.Native.Nat.{ℕ, _+_, _-_, _<_, _≤_};
 ghost use lib.Dec.{ltb};
 ghost use lib.ListN.{getD};
-ghost use Rattle.over.specs.Over.{bit, table};
+ghost use Rattle.ranges.specs.Ranges.{bit, table};
 ghost use Rattle.answers.specs.Ruling.{dayQuarters};
 ghost use Rattle.sheet.specs.Windows.{seasons};
 ghost use Rattle.windows.specs.Chosen.{keptOf, chosenOf, curveOf, curvesOf};
@@ -31,11 +31,11 @@ struct Cut {
 }
 
 // One season of the flat curves, from 0.
-fn curve(flat: &[u32; 384], season: usize) -> [u32; 96]
+fn curve(flat: &[u32; sheet::WINDOW_PLACES], season: usize) -> [u32; answers::DAY_QUARTERS]
     requires { ⌜ season < seasons ⌝ }
     ensures { λ r. ⌜ r ≡ curveOf (now (flat .entry)) season ⌝ }
 {
-    let mut out = [0; 96];
+    let mut out = [0; answers::DAY_QUARTERS];
     for q in 0..answers::DAY_QUARTERS {
         out[q] = flat[answers::DAY_QUARTERS * season + q];
     }
@@ -43,10 +43,10 @@ fn curve(flat: &[u32; 384], season: usize) -> [u32; 96]
 }
 
 // The flat curves, season by quarter.
-fn curves(flat: &[u32; 384]) -> [[u32; 96]; 4]
+fn curves(flat: &[u32; sheet::WINDOW_PLACES]) -> [[u32; answers::DAY_QUARTERS]; sheet::SEASONS]
     ensures { λ r. ⌜ r ≡ curvesOf (now (flat .entry)) ⌝ }
 {
-    let mut out = [[0; 96]; 4];
+    let mut out = [[0; answers::DAY_QUARTERS]; sheet::SEASONS];
     for s in 0..SEASONS {
         out[s] = curve(flat, s);
     }
@@ -67,7 +67,7 @@ fn if_higher(b: u32, a: u32) -> u32
 }
 
 // How many quarters are higher than a limit.
-fn count_above(curve: &[u32; 96], limit: u32) -> usize
+fn count_above(curve: &[u32; answers::DAY_QUARTERS], limit: u32) -> usize
     ensures { λ r. ⌜ r ≡ higherThan (now (curve .entry)) limit ⌝ }
 {
     let mut n: u32 = 0;
@@ -79,7 +79,7 @@ fn count_above(curve: &[u32; 96], limit: u32) -> usize
 
 // Two limits that are nearer, forty quarters or more above the low one and no more than forty above the high one: the
 // value in the middle is one of them. Where just forty are above it, the search is over.
-fn nearer(curve: &[u32; 96], low: u32, high: u32) -> Limits
+fn nearer(curve: &[u32; answers::DAY_QUARTERS], low: u32, high: u32) -> Limits
     requires { ⌜ (low + 1 < high) × FortyBetween (now curve) low high ⌝ }
     ensures { λ r. ⌜ (low ≤ r .low) × (r .low < r .high) × (r .high - r .low < high - low) × FortyBetween (now (curve .entry)) (r .low) (r .high) ⌝ }
 {
@@ -99,7 +99,7 @@ fn nearer(curve: &[u32; 96], low: u32, high: u32) -> Limits
 
 // A limit that no more than forty quarters are above, and forty or more above the value before it:
 // the way between two limits is halved.
-fn limit_between(curve: &[u32; 96], from: u32, to: u32) -> u32
+fn limit_between(curve: &[u32; answers::DAY_QUARTERS], from: u32, to: u32) -> u32
     requires { ⌜ (from < to) × FortyBetween (now curve) from to ⌝ }
     ensures { λ r. ⌜ (from < r) × FortyBetween (now (curve .entry)) (r - 1) r ⌝ }
 {
@@ -114,7 +114,7 @@ fn limit_between(curve: &[u32; 96], from: u32, to: u32) -> u32
 }
 
 // Where a season is cut: at the line, or higher where more than forty quarters are above it.
-fn cut_of(peak: u32, curve: &[u32; 96]) -> Cut
+fn cut_of(peak: u32, curve: &[u32; answers::DAY_QUARTERS]) -> Cut
     ensures { λ r. ⌜ table (keptBy (now (curve .entry)) (r .limit) (r .equals)) dayQuarters ≡ keptOf peak (now (curve .entry)) ⌝ }
 {
     let line = line_of(peak);
@@ -124,7 +124,7 @@ fn cut_of(peak: u32, curve: &[u32; 96]) -> Cut
             equals: 0,
         };
     }
-    let limit = limit_between(curve, line, legal::highest(curve));
+    let limit = limit_between(curve, line, legal_readings::highest(curve));
     Cut {
         limit,
         equals: answers::WINDOWS_MOST - count_above(curve, limit),
@@ -132,10 +132,10 @@ fn cut_of(peak: u32, curve: &[u32; 96]) -> Cut
 }
 
 // The quarters that are higher than a limit.
-fn all_above(curve: &[u32; 96], limit: u32) -> [bool; 96]
+fn all_above(curve: &[u32; answers::DAY_QUARTERS], limit: u32) -> [bool; answers::DAY_QUARTERS]
     ensures { λ r. ⌜ r ≡ table (λ (q : ℕ). ltb limit (getD (now (curve .entry)) q 0)) dayQuarters ⌝ }
 {
-    let mut out = [false; 96];
+    let mut out = [false; answers::DAY_QUARTERS];
     for q in 0..answers::DAY_QUARTERS {
         out[q] = limit < curve[q];
     }
@@ -143,7 +143,12 @@ fn all_above(curve: &[u32; 96], limit: u32) -> [bool; 96]
 }
 
 // Adds the first of the quarters that are equal to the limit, so many.
-fn add_equals(out: &mut [bool; 96], curve: &[u32; 96], limit: u32, equals: usize)
+fn add_equals(
+    out: &mut [bool; answers::DAY_QUARTERS],
+    curve: &[u32; answers::DAY_QUARTERS],
+    limit: u32,
+    equals: usize,
+)
     requires { ⌜ now out ≡ table (λ (q : ℕ). ltb limit (getD (now curve) q 0)) dayQuarters ⌝ }
     ensures { λ r. ⌜ now (out .exit) ≡ table (keptBy (now (curve .entry)) limit equals) dayQuarters ⌝ }
 {
@@ -156,7 +161,7 @@ fn add_equals(out: &mut [bool; 96], curve: &[u32; 96], limit: u32, equals: usize
 }
 
 // The kept quarters of a season.
-fn kept_of(peak: u32, curve: &[u32; 96]) -> [bool; 96]
+fn kept_of(peak: u32, curve: &[u32; answers::DAY_QUARTERS]) -> [bool; answers::DAY_QUARTERS]
     ensures { λ r. ⌜ r ≡ keptOf peak (now (curve .entry)) ⌝ }
 {
     let cut = cut_of(peak, curve);
@@ -168,7 +173,10 @@ fn kept_of(peak: u32, curve: &[u32; 96]) -> [bool; 96]
 }
 
 // The windows of four curves that lie flat, season by quarter, for any peak.
-pub fn chosen(peak: u32, flat: &[u32; 384]) -> [[bool; 96]; 4]
+pub fn chosen(
+    peak: u32,
+    flat: &[u32; sheet::WINDOW_PLACES],
+) -> [[bool; answers::DAY_QUARTERS]; sheet::SEASONS]
     ensures { λ r. ⌜ r ≡ chosenOf peak (curvesOf (now (flat .entry))) ⌝ }
 {
     let curves = curves(flat);

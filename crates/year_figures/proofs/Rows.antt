@@ -14,7 +14,7 @@ use Rattle.dates.proofs.Seasons.{season-range, season-stays}
 use Rattle.readings.specs.declared.Run.the-variants.{Year}
 use Rattle.readings.specs.Runs.{dayLen, quarterOf}
 use Rattle.readings.proofs.Runs.{quarter-in}
-use Rattle.sheet.specs.Windows.{placeOf}
+use Rattle.sheet.specs.Windows.{quarterPlace}
 use Rattle.sheet.proofs.Windows.{set-at}
 use Rattle.tariff.specs.declared.Figures.{Figures}
 use Rattle.figures.specs.Figures.{recordOf, takenIn}
@@ -27,7 +27,7 @@ use Rattle.year_figures.specs.Year.{figuresIn}
 -- the part of the windows that is a season's
 pub season-cut :
     (windows : List Bool) (s : ℕ) {start size : ℕ}
-    → start ≡ placeOf s 0
+    → start ≡ quarterPlace s 0
     → size ≡ dayQuarters
     → take size (drop start windows) ≡ seasonRow windows s
 season-cut windows s a b = λ i. take (b i) (drop (a i) windows)
@@ -49,9 +49,9 @@ module _ (y : ℕ) (windows : List Bool) (d p : ℕ) (l : p < dayLen (Year y) d)
       let s = seasonOf y (d + 1) in
       let q = quarterOf (Year y) d p in
       let h = quarter-in (Year y) d p l in
-      let at : placeOf s 0 + q ≡ placeOf s q = omega arith in
-      getD-take dayQuarters (drop (placeOf s 0) windows) q false h
-      ∙ getD-drop (placeOf s 0) windows q false
+      let at : quarterPlace s 0 + q ≡ quarterPlace s q = omega arith in
+      getD-take dayQuarters (drop (quarterPlace s 0) windows) q false h
+      ∙ getD-drop (quarterPlace s 0) windows q false
       ∙ ap (λ (k : ℕ). getD windows k false) at
       ∙ set-at windows s q (season-range y (d + 1)) h
 

@@ -7,7 +7,7 @@ use Prim.Native.Nat.{ℕ}
 use native.Mathlib.Decide.{ℕ-discrete}
 use borrow.Author.Tests.{eq-eqb, ne-eqb}
 use lib.ListN.{length}
-use Rattle.over.proofs.Bools.{clash}
+use Rattle.ranges.proofs.Bools.{clash}
 use Rattle.dates.specs.Dates.{yearDays}
 use Rattle.readings.specs.declared.Run.the-variants.{Year}
 use Rattle.readings.specs.Runs.{runReadings}

@@ -9,7 +9,7 @@ use Rattle.answers.specs.Ruling.{dayQuarters}
 use Rattle.dates.specs.Dates.{seasonOf}
 use Rattle.readings.specs.declared.Run.the-variants.{Year}
 use Rattle.readings.specs.Runs.{quarterOf}
-use Rattle.sheet.specs.Windows.{placeOf, isSet}
+use Rattle.sheet.specs.Windows.{quarterPlace, isSet}
 use Rattle.day_figures.specs.Day.{rowIf}
 
 -- the quarter at position p of day d is set in the windows of the day's season
@@ -22,7 +22,7 @@ countsOn y carries windows d p = carries && setOn y windows d p
 
 -- the windows of season s, as a row
 abbrev pub seasonRow : List Bool → ℕ → List Bool
-seasonRow windows s = take dayQuarters (drop (placeOf s 0) windows)
+seasonRow windows s = take dayQuarters (drop (quarterPlace s 0) windows)
 
 -- the row of day d: the windows of its season where it carries windows, else a row of none
 unfoldable pub dayRow : ℕ → List Bool → List Bool → ℕ → List Bool

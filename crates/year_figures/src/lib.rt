@@ -19,7 +19,7 @@ pub enum YearFigures {
 }
 
 // The windows of day d's season, from 0, as a row.
-fn season_row(year: u16, d: u16, windows: &[bool; sheet::PLACES]) -> &[bool]
+fn season_row(year: u16, d: u16, windows: &[bool; sheet::WINDOW_PLACES]) -> &[bool]
     requires { ⌜ d < mostDays ⌝ }
     ensures { λ r. ⌜ now r ≡ seasonRow (now (windows .entry)) (seasonOf year (d + 1)) ⌝ }
 {
@@ -35,7 +35,7 @@ pub fn day_row<'a>(
     year: u16,
     d: u16,
     carrying: &'a [bool; dates::MOST_DAYS],
-    windows: &'a [bool; sheet::PLACES],
+    windows: &'a [bool; sheet::WINDOW_PLACES],
 ) -> &'a [bool]
     ensures { λ r. ⌜ now r ≡ dayRow year (now (carrying .entry)) (now (windows .entry)) d ⌝ }
 {
@@ -55,7 +55,7 @@ pub fn day_row<'a>(
 pub fn year_figures<'a>(
     year: u16,
     carrying: &'a [bool; dates::MOST_DAYS],
-    windows: &'a [bool; sheet::PLACES],
+    windows: &'a [bool; sheet::WINDOW_PLACES],
     series: &[u32],
 ) -> YearFigures
     ensures { λ r. ⌜ r ≡ yearFigures year (now (carrying .entry)) (now (windows .entry)) (now (series .entry)) ⌝ }

@@ -12,7 +12,7 @@ use Rattle.readings.specs.Part.{dayPart}
 use Rattle.terms.specs.Basis.{basis}
 use Rattle.customer.specs.declared.Customer.{Customer}
 use Rattle.customer.specs.Answers.{dayCustomer}
-use Rattle.bench_customer.specs.Days.{customerAfter}
+use Rattle.bench_customer.specs.Days.{customerAfterDays}
 use Rattle.readings.proofs.Given.{days-none, days-more}
 use Rattle.bench_customer.proofs.all_customer_days.Statement.{statement}
 use Rattle.bench_customer.proofs.all_customer_days.Tie as tie
@@ -53,7 +53,7 @@ returns c =
     λ s. offered dayCustomer s (daysOf (Year (s .terms .rates .year)) (a .series .now) (at .d)) in
     at .inv .2
     ∙ ap after same
-    ∙ ap (customerAfter (basis (a .sheet .now) (a .holidays .now) (a .prices) (a .option)) (a .series .now))
+    ∙ ap (customerAfterDays (basis (a .sheet .now) (a .holidays .now) (a .prices) (a .option)) (a .series .now))
     (days ∙ ap (λ (s : Customer). yearDays (s .terms .rates .year)) same)
 
 pub all-customer-days-spec : {M : Type 1} → statement M

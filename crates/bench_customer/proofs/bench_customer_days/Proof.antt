@@ -4,8 +4,8 @@ use mathlib.Core.Path.{ap, _∙_}
 use borrow.Author.Needs.{needs}
 use Rattle.tariff.specs.declared.Prices.{Prices}
 use Rattle.terms.specs.Basis.{basis}
-use Rattle.customer.specs.Answers.{closeAnswer}
-use Rattle.flat.specs.Flat.{flatOf}
+use Rattle.customer.specs.Answers.{customerCloseAnswer}
+use Rattle.answer_numbers.specs.Numbers.{numbersOf}
 use Rattle.bench_customer.specs.Days.{customerDaysAnswer}
 use Rattle.bench_customer.proofs.bench_customer_days.Statement.{statement}
 use Rattle.bench_customer.proofs.bench_customer_days.Tie as tie
@@ -15,8 +15,8 @@ returns c =
     let prices = c .before .before .before in
     let a = prices .before .before .before .before .args in
     c .of-decision .ensures
-    ∙ ap flatOf (c .before .close .ensures
-    ∙ ap closeAnswer (c .before .before .all-customer-days .ensures)
+    ∙ ap numbersOf (c .before .close .ensures
+    ∙ ap customerCloseAnswer (c .before .before .all-customer-days .ensures)
     ∙ ap (λ (p : Prices). customerDaysAnswer (basis (a .sheet .now) (a .holidays .now) p (a .option)) (a .series .now))
     (prices .prices-of .ensures))
 

@@ -5,7 +5,7 @@ use borrow.Author.Needs.{needs}
 use Rattle.tariff.specs.declared.Prices.{Prices}
 use Rattle.terms.specs.Basis.{basis}
 use Rattle.customer.specs.Answers.{decideAnswer}
-use Rattle.flat.specs.Flat.{flatOf}
+use Rattle.answer_numbers.specs.Numbers.{numbersOf}
 use Rattle.bench_customer.proofs.bench_decide.Statement.{statement}
 use Rattle.bench_customer.proofs.bench_decide.Tie as tie
 
@@ -14,7 +14,7 @@ returns c =
     let prices = c .before .before in
     let a = prices .before .before .before .before .args in
     c .of-decision .ensures
-    ∙ ap flatOf (c .before .decide .ensures
+    ∙ ap numbersOf (c .before .decide .ensures
     ∙ ap (λ (p : Prices). decideAnswer (basis (a .sheet .now) (a .holidays .now) p (a .option)) (a .series .now)) (prices .prices-of .ensures))
 
 pub bench-decide-spec : {M : Type 1} → statement M

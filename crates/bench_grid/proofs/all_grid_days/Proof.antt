@@ -11,7 +11,7 @@ use Rattle.readings.specs.Days.{offered, daysOf}
 use Rattle.readings.specs.Part.{dayPart}
 use Rattle.grid.specs.declared.Grid.{Grid}
 use Rattle.grid.specs.Answers.{dayGrid}
-use Rattle.bench_grid.specs.Days.{gridAfter}
+use Rattle.bench_grid.specs.Days.{gridAfterDays}
 use Rattle.readings.proofs.Given.{days-none, days-more}
 use Rattle.bench_grid.proofs.all_grid_days.Statement.{statement}
 use Rattle.bench_grid.proofs.all_grid_days.Tie as tie
@@ -48,7 +48,7 @@ returns c =
     at .inv .2
     ∙ ap (λ (s : Grid). offered dayGrid s (daysOf (Period (a .year)) (a .series .now) (at .d)))
     (ended .before .before .before .«open» .ensures .1)
-    ∙ ap (gridAfter (a .year) (a .level) (a .series .now)) all
+    ∙ ap (gridAfterDays (a .year) (a .level) (a .series .now)) all
 
 pub all-grid-days-spec : {M : Type 1} → statement M
 all-grid-days-spec =

@@ -4,8 +4,8 @@ use mathlib.Core.Path.{ap, _∙_}
 use borrow.Author.Needs.{needs}
 use lib.ListN.{length}
 use Rattle.grid.specs.declared.Grid.{Grid}
-use Rattle.grid.specs.Answers.{closeAnswer, closeBuffer}
-use Rattle.flat.specs.Flat.{flatOf}
+use Rattle.grid.specs.Answers.{gridCloseAnswer, gridCloseBuffer}
+use Rattle.answer_numbers.specs.Numbers.{numbersOf}
 use Rattle.bench_grid.proofs.bench_grid_days.Statement.{statement}
 use Rattle.bench_grid.proofs.bench_grid_days.Tie as tie
 
@@ -15,8 +15,8 @@ returns c =
     let called = closed .close .ensures in
     let state = closed .before .before .all-grid-days .ensures in
     let out = closed .before .before .before .before .before .args .out .now in (
-      c .of-answer .ensures ∙ ap flatOf (called .0 ∙ ap (λ (g : Grid). closeAnswer g (length out)) state),
-      called .1 ∙ ap (λ (g : Grid). closeBuffer g out) state,
+      c .of-answer .ensures ∙ ap numbersOf (called .0 ∙ ap (λ (g : Grid). gridCloseAnswer g (length out)) state),
+      called .1 ∙ ap (λ (g : Grid). gridCloseBuffer g out) state,
     )
 
 pub bench-grid-days-spec : {M : Type 1} → statement M

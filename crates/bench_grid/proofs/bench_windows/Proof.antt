@@ -2,14 +2,14 @@
 -- Assumes nothing.
 use mathlib.Core.Path.{ap, _∙_}
 use borrow.Author.Needs.{needs}
-use Rattle.flat.specs.Flat.{flatOf}
+use Rattle.answer_numbers.specs.Numbers.{numbersOf}
 use Rattle.bench_grid.proofs.bench_windows.Statement.{statement}
 use Rattle.bench_grid.proofs.bench_windows.Tie as tie
 
 returns : tie.Need-returns
 returns c =
     let called = c .before .before .before .windows .ensures in
-    (c .of-answer .ensures ∙ ap flatOf (called .0), called .1)
+    (c .of-answer .ensures ∙ ap numbersOf (called .0), called .1)
 
 pub bench-windows-spec : {M : Type 1} → statement M
 bench-windows-spec =

@@ -6,7 +6,7 @@ use Prim.Native.Nat.{_-_}
 use native.Mathlib.Omega.{arith}
 use borrow.Author.Needs.{needs}
 use lib.ListN.{length, getD-replicate}
-use Rattle.calendar.specs.Within.{places}
+use Rattle.calendar.specs.Marks.{markPlaces}
 use Rattle.calendar.proofs.Marked.{Marking, marking-none, marking-more, marking-all}
 use Rattle.calendar.proofs.marks.Statement.{statement}
 use Rattle.calendar.proofs.marks.Tie as tie
@@ -26,7 +26,7 @@ marks-spec =
     (tie.spec
     Inv-loop
     μ-loop
-    (λ c. marking-none _ refl (λ d b. getD-replicate {A = Bool} places d false false (omega arith)))  -- loop-holds
+    (λ c. marking-none _ refl (λ d b. getD-replicate {A = Bool} markPlaces d false false (omega arith)))  -- loop-holds
     (λ c. search needs)  -- mul-place-of
     (λ c. search needs)  -- shared-slice-read-place-of
     (λ c κs. search needs)  -- place-of-requires

@@ -7,7 +7,7 @@ use native.Mathlib.Omega.{arith}
 use borrow.Author.Needs.{needs}
 use Rattle.dates.specs.Dates.{mostDays}
 use Rattle.calendar.specs.Free.{isWindows, carries, windowDays}
-use Rattle.over.proofs.Tables.{Filled, filled-none, filled-more, filled-all}
+use Rattle.ranges.proofs.Tables.{Filled, filled-none, filled-more, filled-all}
 use Rattle.calendar.proofs.Marked.{by-marks}
 use Rattle.calendar.proofs.window_days.Statement.{statement}
 use Rattle.calendar.proofs.window_days.Tie as tie

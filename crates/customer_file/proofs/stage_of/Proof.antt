@@ -6,10 +6,10 @@ use borrow.Author.Tests.{eq-eqb, ne-eqb}
 use borrow.Author.Needs.{needs}
 use Rattle.tariff.specs.declared.Decision.{Decision}
 use Rattle.tariff.specs.Answers.{saidOf}
-use Rattle.flat.specs.declared.Flat.{Flat}
+use Rattle.answer_numbers.specs.declared.Numbers.{Numbers}
 use Rattle.fields.specs.declared.Stage.the-variants.{Refused}
 use Rattle.fields.specs.Stages.{stageOf, dayStage}
-use Rattle.figured.proofs.Line.{decision-small}
+use Rattle.decision_numbers.proofs.Line.{decision-small}
 use Rattle.customer_file.proofs.CustomerCases.{others, stage-number}
 use types.Run.{miss}
 use Rattle.customer_file.proofs.stage_of.Statement.{statement}
@@ -17,18 +17,18 @@ use Rattle.customer_file.proofs.stage_of.Tie as tie
 
 cast-number : tie.Need-cast-number
 cast-number c =
-    let e = ap (λ (f : Flat). f .number) (c .before .of-decision .ensures) in
+    let e = ap (λ (f : Numbers). f .number) (c .before .of-decision .ensures) in
     omega (arith, e, decision-small (c .before .before .before .args .decision) .1)
 
 returns : tie.Need-returns
-returns c = let e = ap (λ (f : Flat). f .number) (c .before .before .of-decision .ensures) in rw (eq-eqb _ 0 (sym e ∙ c .if1 .taken))
+returns c = let e = ap (λ (f : Numbers). f .number) (c .before .before .of-decision .ensures) in rw (eq-eqb _ 0 (sym e ∙ c .if1 .taken))
 
 returns-2 : tie.Need-returns-2
 returns-2 c =
     let d = c .before .before .before .before .args .decision in
     let e = c .before .before .of-decision .ensures in
-    rw (ne-eqb _ 0 (λ z. c .if1 .left (ap (λ (f : Flat). f .number) e ∙ z)))
-    (ap (λ (f : Flat). Refused (f .number)) e ∙ stage-number d (λ place e. miss others 7 tt (rw e at (c .before .before .before .match .keys2))))
+    rw (ne-eqb _ 0 (λ z. c .if1 .left (ap (λ (f : Numbers). f .number) e ∙ z)))
+    (ap (λ (f : Numbers). Refused (f .number)) e ∙ stage-number d (λ place e. miss others 7 tt (rw e at (c .before .before .before .match .keys2))))
 
 returns-3 : tie.Need-returns-3
 unfolding stageOf

@@ -12,13 +12,13 @@ use Rattle.customer_head.proofs.first_fails.Statement.{statement}
 use Rattle.customer_head.proofs.first_fails.Tie as tie
 
 returns : tie.Need-returns
-returns c = fails-at _ _ 0 (omega arith) (omega arith) (mark-no _ 0 customerMark (c .unlike .ensures))
+returns c = fails-at _ _ 0 (omega arith) (omega arith) (mark-no _ 0 customerMark (c .other-mark .ensures))
 
 returns-2 : tie.Need-returns-2
 returns-2 c = fails-at _ _ 1 (omega arith) (omega arith) (version-no _ 3 (c .two-at .ensures))
 
 returns-3 : tie.Need-returns-3
-returns-3 c = fails-at _ _ 2 (omega arith) (omega arith) (mark-no _ 5 mark (c .unlike2 .ensures))
+returns-3 c = fails-at _ _ 2 (omega arith) (omega arith) (mark-no _ 5 mark (c .other-mark2 .ensures))
 
 returns-4 : tie.Need-returns-4
 returns-4 c = fails-at _ _ 3 (omega arith) (omega arith) (version-no _ 8 (c .two-at2 .ensures))
@@ -43,11 +43,11 @@ pub first-fails-spec : {M : Type 1} → statement M
 first-fails-spec =
     tie.close
     (tie.spec
-    (λ c κs. search needs)  -- unlike-requires
+    (λ c κs. search needs)  -- other-mark-requires
     returns
     (λ c κs. search needs)  -- two-at-requires
     returns-2
-    (λ c κs. search needs)  -- unlike-requires-2
+    (λ c κs. search needs)  -- other-mark-requires-2
     returns-3
     (λ c κs. search needs)  -- two-at-requires-2
     returns-4

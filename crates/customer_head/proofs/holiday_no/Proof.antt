@@ -4,8 +4,8 @@ use mathlib.Core.Path.{ap, _∙_}
 use mathlib.Core.Bool.{Bool}
 use native.Mathlib.Omega.{arith}
 use borrow.Author.Needs.{needs}
-use Rattle.over.specs.Over.{counted}
-use Rattle.holidays.specs.Holidays.{unfit}
+use Rattle.ranges.specs.Ranges.{numberIf}
+use Rattle.holidays.specs.Holidays.{badHoliday}
 use Rattle.customer_head.proofs.CustomerLayout.{holiday-is}
 use Rattle.customer_head.proofs.holiday_no.Statement.{statement}
 use Rattle.customer_head.proofs.holiday_no.Tie as tie
@@ -16,7 +16,7 @@ returns c =
     let day = entry .two-at .ensures ∙ holiday-is _ _ (omega arith) in
     let last = c .before .before .before .holiday-before .ensures in
     let year = c .before .before .two-at2 .ensures in
-    c .number-if .ensures ∙ ap (λ (t : Bool). counted t 3) (c .before .unfit .ensures) ∙ (λ i. counted (unfit (year i) (last i) (day i)) 3)
+    c .number-if .ensures ∙ ap (λ (t : Bool). numberIf t 3) (c .before .bad-holiday .ensures) ∙ (λ i. numberIf (badHoliday (year i) (last i) (day i)) 3)
 
 pub holiday-no-spec : {M : Type 1} → statement M
 holiday-no-spec =
@@ -27,6 +27,6 @@ holiday-no-spec =
     (λ c κs. search needs)  -- two-at-requires
     (λ c κs. search needs)  -- holiday-before-requires
     (λ c κs. search needs)  -- two-at-requires-2
-    (λ c κs. search needs)  -- unfit-requires
+    (λ c κs. search needs)  -- bad-holiday-requires
     (λ c κs. search needs)  -- number-if-requires
     returns)

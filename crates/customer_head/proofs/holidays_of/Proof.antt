@@ -7,9 +7,9 @@ use borrow.Author.Needs.{needs}
 use lib.ListN.{take}
 use lib.Seq.{length-take-le, getD-take}
 use Rattle.answers.specs.Ruling.{holidaysMost}
-use Rattle.packed.specs.Bytes.{twoAt}
+use Rattle.encoding.specs.Bytes.{twoAt}
 use Rattle.customer_head.specs.Header.{holidaysPlace, holidayCount}
-use Rattle.over.proofs.Tables.{is-table, Filled, filled-none, filled-more}
+use Rattle.ranges.proofs.Tables.{is-table, Filled, filled-none, filled-more}
 use Rattle.customer_head.proofs.holidays_of.Statement.{statement}
 use Rattle.customer_head.proofs.holidays_of.Tie as tie
 

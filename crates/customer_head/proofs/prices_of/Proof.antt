@@ -4,7 +4,7 @@ use mathlib.Core.Path.{_≡_, ap, _∙_}
 use Prim.Native.Nat.{_+_, _*_}
 use native.Mathlib.Omega.{arith}
 use borrow.Author.Needs.{needs}
-use Rattle.packed.specs.Bytes.{fourAt}
+use Rattle.encoding.specs.Bytes.{fourAt}
 use Rattle.customer_head.specs.Header.{pricesPlace}
 use Rattle.customer_head.proofs.prices_of.Statement.{statement}
 use Rattle.customer_head.proofs.prices_of.Tie as tie

@@ -6,7 +6,7 @@ use Prim.Native.Nat.{_-_}
 use native.Mathlib.Omega.{arith}
 use borrow.Author.Needs.{needs}
 use lib.ListN.{getD}
-use Rattle.over.specs.Over.{counted}
+use Rattle.ranges.specs.Ranges.{numberIf}
 use Rattle.fields.specs.Layout.{fieldAt}
 use Rattle.customer_head.specs.Header.{priceFields}
 use Rattle.customer_head.proofs.CustomerLayout.{refusal-holiday, refusal-rest}
@@ -18,7 +18,7 @@ returns : tie.Need-returns
 returns c =
     let a = c .before .before .before .before .args in
     c .number-if .ensures
-    ∙ ap (λ (t : Bool). counted t (getD firstNumbers (a .k) 0)) (c .before .first-fails .ensures)
+    ∙ ap (λ (t : Bool). numberIf t (getD firstNumbers (a .k) 0)) (c .before .first-fails .ensures)
     ∙ first-number (a .head .now) (a .k) (omega arith)
 
 returns-2 : tie.Need-returns-2
@@ -26,11 +26,11 @@ returns-2 c = c .holiday-no .ensures ∙ refusal-holiday _ _ (omega arith) (omeg
 
 returns-3 : tie.Need-returns-3
 returns-3 c =
-    let counted = c .before .before .before in
-    let a = counted .before .before .before .args in
-    let n = counted .count-of .ensures .0 in
+    let numberIf = c .before .before .before in
+    let a = numberIf .before .before .before .args in
+    let n = numberIf .count-of .ensures .0 in
     c .price-no .ensures
-    ∙ (λ i. fieldAt (priceFields (a .head .now)) (a .k - 12 - n i) .refusal (c .before .span-of .ensures i .start))
+    ∙ (λ i. fieldAt (priceFields (a .head .now)) (a .k - 12 - n i) .refusedAt (c .before .span-of .ensures i .start))
     ∙ refusal-rest (a .head .now) (a .k) (omega arith)
 
 pub refusal-spec : {M : Type 1} → statement M

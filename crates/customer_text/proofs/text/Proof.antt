@@ -8,7 +8,7 @@ use lib.Seq.{length-take-le}
 use Rattle.lines.specs.Figures.{figuresLine}
 use Rattle.lines.proofs.Text.{put-as}
 use Rattle.customer_file.specs.CustomerMachine.{answerOf}
-use Rattle.flat.proofs.Line.{line-of}
+use Rattle.answer_numbers.proofs.Line.{line-of}
 use Rattle.customer_text.proofs.text.Statement.{statement}
 use Rattle.customer_text.proofs.text.Tie as tie
 

@@ -7,13 +7,13 @@ use native.Mathlib.Omega.{arith}
 use borrow.Author.Needs.{needs}
 use lib.Bits.{bitAnd}
 use lib.ListN.{length, getD}
-use Rattle.over.specs.Over.{largestOver}
-use Rattle.over.proofs.Largest.{largest-none, largest-more}
+use Rattle.ranges.specs.Ranges.{largestOver}
+use Rattle.ranges.proofs.Largest.{largest-none, largest-more}
 use Rattle.answers.specs.Ruling.{dayQuarters}
 use Rattle.readings.specs.Runs.{quarterOf}
 use Rattle.readings.proofs.Runs.{quarter-in}
 use Rattle.day_figures.specs.Day.{alone}
-use Rattle.day_figures.specs.Within.{maskedHigh}
+use Rattle.day_figures.specs.Passes.{maskedHigh}
 use Rattle.day_figures.proofs.masked_high.Statement.{statement}
 use Rattle.day_figures.proofs.masked_high.Tie as tie
 

@@ -2,7 +2,7 @@
 -- Assumes nothing.
 use mathlib.Core.Path.{ap, _∙_}
 use borrow.Author.Needs.{needs}
-use Rattle.day_figures.specs.Within.{plainly}
+use Rattle.day_figures.specs.Passes.{plainly}
 use Rattle.day_figures.proofs.plain_day.Statement.{statement}
 use Rattle.day_figures.proofs.plain_day.Tie as tie
 

@@ -8,10 +8,10 @@ use native.Mathlib.Omega.{arith}
 use borrow.Author.Needs.{needs}
 use lib.Dec.{ltb}
 use lib.ListN.{getD}
-use Rattle.over.specs.Over.{anyOver}
-use Rattle.over.proofs.Tests.{any-none, any-more}
+use Rattle.ranges.specs.Ranges.{anyOver}
+use Rattle.ranges.proofs.Tests.{any-none, any-more}
 use Rattle.answers.specs.Ruling.{dayQuarters}
-use Rattle.day_figures.specs.Within.{someLeft}
+use Rattle.day_figures.specs.Passes.{someLeft}
 use Rattle.day_figures.proofs.some_left.Statement.{statement}
 use Rattle.day_figures.proofs.some_left.Tie as tie
 

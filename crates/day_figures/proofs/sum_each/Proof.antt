@@ -5,8 +5,8 @@ use Prim.Native.Nat.{_*_, _-_, _≤_}
 use native.Mathlib.Omega.{arith}
 use borrow.Author.Needs.{needs}
 use lib.ListN.{length}
-use Rattle.over.specs.Over.{sumOver}
-use Rattle.over.proofs.Sums.{sum-none, sum-more}
+use Rattle.ranges.specs.Ranges.{sumOver}
+use Rattle.ranges.proofs.Sums.{sum-none, sum-more}
 use Rattle.day_figures.specs.Day.{alone}
 use Rattle.day_figures.proofs.sum_each.Statement.{statement}
 use Rattle.day_figures.proofs.sum_each.Tie as tie

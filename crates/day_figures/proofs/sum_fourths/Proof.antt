@@ -7,7 +7,7 @@ use native.Mathlib.Omega.{arith}
 use borrow.Author.Needs.{needs}
 use lib.ListN.{length, getD}
 use Rattle.day_figures.specs.Day.{alone}
-use Rattle.day_figures.specs.Within.{fourEnd}
+use Rattle.day_figures.specs.Passes.{fourEnd}
 use Rattle.day_figures.proofs.DaySums.{Fourths, fourths-none, fourths-more, fourths-all, below-peak}
 use Rattle.day_figures.proofs.sum_fourths.Statement.{statement}
 use Rattle.day_figures.proofs.sum_fourths.Tie as tie

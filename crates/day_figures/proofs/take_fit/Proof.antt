@@ -3,9 +3,9 @@
 use mathlib.Core.Path.{refl, sym, ap, _∙_}
 use mathlib.Core.Bool.{Bool, _&&_}
 use borrow.Author.Needs.{needs}
-use Rattle.over.proofs.Bools.{both}
+use Rattle.ranges.proofs.Bools.{both}
 use Rattle.day_figures.specs.Day.{alone, inRow, withDay, rowIf}
-use Rattle.day_figures.specs.Within.{someLeft}
+use Rattle.day_figures.specs.Passes.{someLeft}
 use Rattle.day_figures.proofs.OneDay.{counts-none, taken-none}
 use Rattle.day_figures.proofs.take_fit.Statement.{statement}
 use Rattle.day_figures.proofs.take_fit.Tie as tie

@@ -6,8 +6,8 @@ use native.Mathlib.Omega.{arith}
 use borrow.Author.Tests.{leb-true, ltb-true}
 use borrow.Author.Needs.{needs}
 use lib.ListN.{length}
-use Rattle.over.specs.Over.{largestIn}
-use Rattle.over.proofs.Bools.{both}
+use Rattle.ranges.specs.Ranges.{largestIn}
+use Rattle.ranges.proofs.Bools.{both}
 use Rattle.readings.proofs.Runs.{days-most, quarter-in}
 use Rattle.day_figures.specs.Day.{alone, inRow}
 use Rattle.day_figures.proofs.OneDay.{masked-in, taken-old, taken-nowhere, taken-higher}

@@ -5,9 +5,9 @@ use mathlib.Core.Bool.{false}
 use borrow.Author.Needs.{needs}
 use Rattle.tariff.specs.Prices.{pricesOut}
 use Rattle.tariff.specs.Charges.{chargesOf}
-use Rattle.tariff.specs.Answers.{saidOfFloored}
+use Rattle.tariff.specs.Answers.{saidOfCharges}
 use Rattle.tariff.proofs.Limits.{prices-legal}
-use Rattle.tariff.proofs.Answered.{floored-six, floored-cents, charge-prices, charge-legal}
+use Rattle.tariff.proofs.Answered.{charges-six, charges-cents, charge-prices, charge-legal}
 use Rattle.decision.proofs.charge.Statement.{statement}
 use Rattle.decision.proofs.charge.Tie as tie
 
@@ -16,10 +16,10 @@ cents-at :
     (e : tie.After-asked)
     → let a = e .before .before .before .args in
     (pricesOut (a .rates .prices) ≡ false) × (e .asked .given .0 .0 ≡ chargesOf (a .figures) (a .rates))
-cents-at e = floored-cents _ _ (ap saidOfFloored (sym (e .asked .given .1)) ∙ e .before .before .floored-charge .ensures)
+cents-at e = charges-cents _ _ (ap saidOfCharges (sym (e .asked .given .1)) ∙ e .before .before .both-charges .ensures)
 
 returns : tie.Need-returns
-returns c = charge-prices _ _ (floored-six _ _ (ap saidOfFloored (sym (c .enum-told .given .1)) ∙ c .before .before .floored-charge .ensures))
+returns c = charge-prices _ _ (charges-six _ _ (ap saidOfCharges (sym (c .enum-told .given .1)) ∙ c .before .before .both-charges .ensures))
 
 returns-2 : tie.Need-returns-2
 returns-2 c =
@@ -30,7 +30,7 @@ pub charge-spec : {M : Type 1} → statement M
 charge-spec =
     tie.close
     (tie.spec
-    (λ c κs. search needs)  -- floored-charge-requires
+    (λ c κs. search needs)  -- both-charges-requires
     (λ c. search needs)  -- enum-known-asked
     (λ c. search needs)  -- enum-told
     returns

@@ -13,11 +13,11 @@ use Rattle.tariff.specs.declared.TwoCharges.{TwoCharges}
 use Rattle.tariff.specs.declared.Decision.the-variants.{Eligible}
 use Rattle.tariff.specs.Prices.{pricesOut}
 use Rattle.tariff.specs.Charges.{chargesOf}
-use Rattle.tariff.specs.Answers.{saidOf, saidOfFloored}
+use Rattle.tariff.specs.Answers.{saidOf, saidOfCharges}
 use Rattle.tariff.specs.Decision.{eligibleAnswer}
 use Rattle.tariff.specs.Rows.{LegalRates}
 use Rattle.tariff.proofs.Limits.{rates-legal}
-use Rattle.tariff.proofs.Answered.{number-is, floored-six, floored-cents, eligible-level, eligible-prices, eligible-legal, charge-legal, judge-first, judge-second}
+use Rattle.tariff.proofs.Answered.{number-is, charges-six, charges-cents, eligible-level, eligible-prices, eligible-legal, charge-legal, judge-first, judge-second}
 use Rattle.tariff.proofs.Exactly.{eligible-zero}
 use Rattle.tariff.proofs.Only.{decision-only}
 use Rattle.decision.proofs.judge.Statement.{statement}
@@ -35,7 +35,7 @@ cents-at :
     (e : tie.After-asked)
     → let a = e .before .before .before .before .before .args in
     (pricesOut (a .rates .prices) ≡ false) × (e .asked .given .0 .0 ≡ chargesOf (a .figures) (a .rates))
-cents-at e = floored-cents _ _ (ap saidOfFloored (sym (e .asked .given .1)) ∙ e .before .before .floored-charge .ensures)
+cents-at e = charges-cents _ _ (ap saidOfCharges (sym (e .asked .given .1)) ∙ e .before .before .both-charges .ensures)
 
 legal-at : (e : tie.After-asked) → LegalRates (e .before .before .before .before .before .args .rates)
 legal-at e = rates-legal (level-at (e .before .before .before)) (cents-at e .0)
@@ -51,7 +51,7 @@ first-at c = c .eligible-rules .ensures ∙ eligible-legal _ _ (legal-at (c .bef
 returns-2 : tie.Need-returns-2
 returns-2 c =
     let asked = c .before .before in
-    let six = floored-six _ _ (ap saidOfFloored (sym (c .enum-told .given .1)) ∙ asked .floored-charge .ensures) in
+    let six = charges-six _ _ (ap saidOfCharges (sym (c .enum-told .given .1)) ∙ asked .both-charges .ensures) in
     judge-first _ _ (eligible-prices _ _ (level-at (asked .before)) six) (omega arith)
 
 returns-3 : tie.Need-returns-3
@@ -74,7 +74,7 @@ judge-spec =
     (tie.spec
     (λ c κs. search needs)  -- level-out-requires
     (λ c. judge-first _ _ (eligible-level _ _ (sym (c .before .level-out .ensures) ∙ c .if1 .taken)) (omega arith))  -- returns
-    (λ c κs. search needs)  -- floored-charge-requires
+    (λ c κs. search needs)  -- both-charges-requires
     (λ c. search needs)  -- enum-known-asked
     (λ c. search needs)  -- enum-told
     returns-2

@@ -5,7 +5,7 @@ use mathlib.Core.Path.{sym}
 use Prim.Native.Nat.{_+_, _-_}
 use native.Mathlib.Omega.{arith}
 use borrow.Author.Tests.{lt-ltb}
-use Rattle.over.proofs.Bools.{same-order}
+use Rattle.ranges.proofs.Bools.{same-order}
 use Rattle.answers.specs.Ruling.{leastReduction}
 use Rattle.decision.proofs.reduction_short.Statement.{statement}
 use Rattle.decision.proofs.reduction_short.Tie as tie

@@ -4,9 +4,10 @@ use mathlib.Core.Path.{refl}
 use Prim.Native.Nat.{_-_, _*_}
 use native.Mathlib.Omega.{arith}
 use borrow.Author.Needs.{needs}
-use Rattle.packed.specs.Bytes.{fourAt}
-use Rattle.fields.specs.Series.{readingBytes, mostReadings}
-use Rattle.over.proofs.Tables.{Filled, filled-none, filled-more, filled-all}
+use Rattle.encoding.specs.Bytes.{fourAt}
+use Rattle.readings.specs.Runs.{mostReadings}
+use Rattle.fields.specs.Series.{readingBytes}
+use Rattle.ranges.proofs.Tables.{Filled, filled-none, filled-more, filled-all}
 use Rattle.fields.proofs.readings_in.Statement.{statement}
 use Rattle.fields.proofs.readings_in.Tie as tie
 

@@ -8,16 +8,16 @@ use native.Mathlib.Omega.{arith}
 use borrow.Author.Needs.{needs}
 use lib.ListN.{getD}
 use Rattle.answers.specs.Ruling.{dayQuarters}
-use Rattle.sheet.specs.Windows.{places, flatWindows}
-use Rattle.over.proofs.Tables.{Filled, filled-none, filled-more, filled-all}
+use Rattle.sheet.specs.Windows.{windowPlaces, flatWindows}
+use Rattle.ranges.proofs.Tables.{Filled, filled-none, filled-more, filled-all}
 use Rattle.grid.proofs.flat_windows.Statement.{statement}
 use Rattle.grid.proofs.flat_windows.Tie as tie
 
 abbrev Inv-loop : tie.InvT-loop
-Inv-loop chosen out₀ p₀ out p = Filled (λ (k : ℕ). getD (getD chosen (k / dayQuarters) []) (k % dayQuarters) false) places false p out
+Inv-loop chosen out₀ p₀ out p = Filled (λ (k : ℕ). getD (getD chosen (k / dayQuarters) []) (k % dayQuarters) false) windowPlaces false p out
 
 abbrev μ-loop : tie.MeasureT-loop
-μ-loop chosen out₀ p₀ out p = places - p
+μ-loop chosen out₀ p₀ out p = windowPlaces - p
 
 returns : tie.Need-returns Inv-loop μ-loop
 unfolding flatWindows

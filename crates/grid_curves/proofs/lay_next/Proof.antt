@@ -6,7 +6,7 @@ use native.Mathlib.Omega.{arith}
 use borrow.Author.Needs.{needs}
 use borrow.Author.Tests.{leb-true}
 use lib.ListN.{length, length-take, length-drop}
-use Rattle.over.proofs.Bools.{both}
+use Rattle.ranges.proofs.Bools.{both}
 use Rattle.periods.specs.Period.{periodSeason}
 use Rattle.periods.proofs.Periods.{period-most, period-season-range}
 use Rattle.readings.specs.declared.Run.the-variants.{Period}

@@ -8,10 +8,10 @@ use borrow.Author.Tests.{eq-eqb, ne-eqb}
 use borrow.Author.Needs.{needs}
 use Rattle.grid.specs.declared.GridAnswer.{GridAnswer}
 use Rattle.grid.specs.Answers.{saidOfGrid}
-use Rattle.flat.specs.declared.Flat.{Flat}
+use Rattle.answer_numbers.specs.declared.Numbers.{Numbers}
 use Rattle.fields.specs.Stages.{stageOf, dayStage}
 use Rattle.fields.specs.declared.Stage.the-variants.{Refused}
-use Rattle.grid_flat.proofs.Small.{answer-small}
+use Rattle.grid_numbers.proofs.Small.{answer-small}
 use Rattle.grid_file.proofs.GridDays.{not-five}
 use types.Run.{miss}
 use Rattle.grid_file.proofs.stage_of.Statement.{statement}
@@ -22,15 +22,15 @@ abbrev others : List ℕ
 others = 0 ∷ 1 ∷ 2 ∷ 3 ∷ 4 ∷ 6 ∷ 7 ∷ 8 ∷ []
 
 cast-number : tie.Need-cast-number
-cast-number c = let e = ap (λ (f : Flat). f .number) (c .before .of-answer .ensures) in omega (arith, e, answer-small (c .before .before .before .args .answer))
+cast-number c = let e = ap (λ (f : Numbers). f .number) (c .before .of-answer .ensures) in omega (arith, e, answer-small (c .before .before .before .args .answer))
 
 returns : tie.Need-returns
-returns c = let e = ap (λ (f : Flat). f .number) (c .before .before .of-answer .ensures) in rw (eq-eqb _ 0 (sym e ∙ c .if1 .taken))
+returns c = let e = ap (λ (f : Numbers). f .number) (c .before .before .of-answer .ensures) in rw (eq-eqb _ 0 (sym e ∙ c .if1 .taken))
 
 returns-2 : tie.Need-returns-2
 returns-2 c =
     let a = c .before .before .before .before .args .answer in
-    let e = ap (λ (f : Flat). f .number) (c .before .before .of-answer .ensures) in
+    let e = ap (λ (f : Numbers). f .number) (c .before .before .of-answer .ensures) in
     rw (ne-eqb _ 0 (λ z. c .if1 .left (e ∙ z))) (ap Refused e ∙ not-five a (λ place k. miss others 5 tt (rw k at (c .before .before .before .match .keys2))))
 
 returns-3 : tie.Need-returns-3

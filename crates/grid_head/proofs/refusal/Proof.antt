@@ -11,7 +11,7 @@ use Rattle.grid_head.proofs.refusal.Statement.{statement}
 use Rattle.grid_head.proofs.refusal.Tie as tie
 
 returns : tie.Need-returns
-returns c = c .number-if .ensures ∙ mark-no _ 0 gridMark (c .before .unlike .ensures) ∙ refusal-at _ 0 (omega arith) (omega arith)
+returns c = c .number-if .ensures ∙ mark-no _ 0 gridMark (c .before .other-mark .ensures) ∙ refusal-at _ 0 (omega arith) (omega arith)
 
 returns-2 : tie.Need-returns-2
 returns-2 c = c .number-if2 .ensures ∙ version-no _ 3 (c .before .two-at .ensures) ∙ refusal-at _ 1 (omega arith) (omega arith)
@@ -32,7 +32,7 @@ pub refusal-spec : {M : Type 1} → statement M
 refusal-spec =
     tie.close
     (tie.spec
-    (λ c κs. search needs)  -- unlike-requires
+    (λ c κs. search needs)  -- other-mark-requires
     (λ c κs. search needs)  -- number-if-requires
     returns
     (λ c κs. search needs)  -- two-at-requires

@@ -4,10 +4,10 @@ use mathlib.Core.Path.{_≡_, sym, ap, _∙_}
 use borrow.Author.Needs.{needs}
 use Rattle.answers.specs.Said.{Said}
 use Rattle.sheet.specs.Bytes.{sheetSize}
-use Rattle.sheet.specs.Answers.{SheetRead, readSheet}
+use Rattle.sheet.specs.Answers.{ReadSaid, readSheet}
 use Rattle.grid.specs.declared.Grid.{Grid}
-use Rattle.grid.specs.Answers.{closeAnswer}
-use Rattle.flat.specs.declared.Flat.{Flat}
+use Rattle.grid.specs.Answers.{gridCloseAnswer}
+use Rattle.answer_numbers.specs.declared.Numbers.{Numbers}
 use Rattle.lines.proofs.Text.{put-as}
 use Rattle.grid_text.specs.Text.{sheetText}
 use Rattle.grid_text.proofs.Closing.{closed-refused, closed-done}
@@ -18,8 +18,8 @@ use Rattle.grid_text.proofs.closed.Tie as tie
 abbrev series : tie.After-of-answer → Grid
 series e = e .before .before .before .before .before .args .grid
 
-number : (e : tie.After-of-answer) → e .of-answer .result .number ≡ closeAnswer (series e) sheetSize .number
-number e = ap (λ (f : Flat). f .number) (e .of-answer .ensures) ∙ ap (λ (x : Said). x .number) (e .before .before .close .ensures .0)
+number : (e : tie.After-of-answer) → e .of-answer .result .number ≡ gridCloseAnswer (series e) sheetSize .number
+number e = ap (λ (f : Numbers). f .number) (e .of-answer .ensures) ∙ ap (λ (x : Said). x .number) (e .before .before .close .ensures .0)
 
 returns : tie.Need-returns
 returns c =
@@ -33,7 +33,7 @@ returns-2 c =
     let read = lines .before .before .before .before .before in
     let told = read .before .before in
     let e = told .before in
-    let sheet = ap (λ (r : SheetRead). r .sheet) (read .read .ensures) ∙ ap readSheet (e .before .before .close .ensures .1) in
+    let sheet = ap (λ (r : ReadSaid). r .sheet) (read .read .ensures) ∙ ap readSheet (e .before .before .close .ensures .1) in
     put-as (ap sheetText sheet ∙ closed-done (series e) (sym (number e) ∙ told .if1 .left)) (lines .windows-text .ensures)
 
 pub closed-spec : {M : Type 1} → statement M

@@ -8,11 +8,11 @@ use native.Mathlib.Omega.{arith}
 use borrow.Author.Needs.{needs}
 use lib.ListN.{getD}
 use Rattle.answers.specs.Ruling.{yearOut, levelOut}
-use Rattle.packed.specs.Bytes.{twoAt}
+use Rattle.encoding.specs.Bytes.{twoAt}
 use Rattle.sheet.specs.Bytes.{yearAt, levelAt}
 use Rattle.sheet.specs.Rows.{Formed}
 use Rattle.sheet.specs.Answers.{shownOf}
-use Rattle.over.proofs.Bools.{clash}
+use Rattle.ranges.proofs.Bools.{clash}
 use Rattle.sheet.proofs.Answered.{read-refused, read-taken, marked, read-form, read-year, read-level, read-full, read-accepted}
 use Rattle.sheet_read.proofs.read.Statement.{statement}
 use Rattle.sheet_read.proofs.read.Tie as tie
@@ -28,7 +28,7 @@ formed-at : (e : tie.Else3) → Formed (versioned e)
 formed-at e =
     record {
       size = omega arith;
-      marked = marked _ .0 (sym (e .before .before .before .unlike .ensures) ∙ e .before .before .if2 .left);
+      marked = marked _ .0 (sym (e .before .before .before .other-mark .ensures) ∙ e .before .before .if2 .left);
       version = sym (e .before .two-at .ensures) ∙ e .if3 .left;
     }
 
@@ -44,7 +44,7 @@ returns c = ap shownOf (c .refused .ensures) ∙ read-refused _ (read-form _ (λ
 returns-2 : tie.Need-returns-2
 returns-2 c =
     ap shownOf (c .refused2 .ensures)
-    ∙ read-refused _ (read-form _ (λ f. clash (sym (c .before .before .unlike .ensures) ∙ c .before .if2 .taken) (marked _ .1 (f .marked)))) refl
+    ∙ read-refused _ (read-form _ (λ f. clash (sym (c .before .before .other-mark .ensures) ∙ c .before .if2 .taken) (marked _ .1 (f .marked)))) refl
 
 returns-3 : tie.Need-returns-3
 returns-3 c =
@@ -84,7 +84,7 @@ read-spec =
     (tie.spec
     (λ c κs. search needs)  -- refused-requires
     returns
-    (λ c κs. search needs)  -- unlike-requires
+    (λ c κs. search needs)  -- other-mark-requires
     (λ c κs. search needs)  -- refused-requires-2
     returns-2
     (λ c κs. search needs)  -- two-at-requires

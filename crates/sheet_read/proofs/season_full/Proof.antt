@@ -4,11 +4,11 @@ use mathlib.Core.Path.{_≡_, sym, ap, _∙_}
 use Prim.Native.Nat.{_≤_, _-_}
 use native.Mathlib.Omega.{arith}
 use borrow.Author.Needs.{needs}
-use Rattle.over.specs.Over.{bit, countOver}
+use Rattle.ranges.specs.Ranges.{bit, countOver}
 use Rattle.answers.specs.Ruling.{dayQuarters}
 use Rattle.sheet.specs.Windows.{tooMany}
 use Rattle.sheet.specs.Bytes.{bitAt, setFrom}
-use Rattle.over.proofs.Tests.{count-none, counted}
+use Rattle.ranges.proofs.Tests.{count-none, counted}
 use Rattle.sheet_read.proofs.season_full.Statement.{statement}
 use Rattle.sheet_read.proofs.season_full.Tie as tie
 

@@ -5,17 +5,17 @@ use mathlib.Core.Bool.{false}
 use Prim.Native.Nat.{_-_}
 use native.Mathlib.Omega.{arith}
 use borrow.Author.Needs.{needs}
-use Rattle.sheet.specs.Windows.{places}
+use Rattle.sheet.specs.Windows.{windowPlaces}
 use Rattle.sheet.specs.Bytes.{windowAt, windowsIn}
-use Rattle.over.proofs.Tables.{Filled, filled-none, filled-more, filled-all}
+use Rattle.ranges.proofs.Tables.{Filled, filled-none, filled-more, filled-all}
 use Rattle.sheet_read.proofs.unpack.Statement.{statement}
 use Rattle.sheet_read.proofs.unpack.Tie as tie
 
 abbrev Inv-loop : tie.InvT-loop
-Inv-loop b windows₀ p₀ windows p = Filled (windowAt b) places false p windows
+Inv-loop b windows₀ p₀ windows p = Filled (windowAt b) windowPlaces false p windows
 
 abbrev μ-loop : tie.MeasureT-loop
-μ-loop b windows₀ p₀ windows p = places - p
+μ-loop b windows₀ p₀ windows p = windowPlaces - p
 
 returns : tie.Need-returns Inv-loop μ-loop
 unfolding windowsIn

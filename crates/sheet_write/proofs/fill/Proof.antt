@@ -6,7 +6,7 @@ use Prim.Native.Nat.{_-_}
 use native.Mathlib.Omega.{arith}
 use borrow.Author.Needs.{needs}
 use Rattle.sheet.specs.Bytes.{sheetSize, bytesOf}
-use Rattle.over.proofs.Buffers.{Copied, copied-none, copied-more, copied-all}
+use Rattle.ranges.proofs.Buffers.{Copied, copied-none, copied-more, copied-all}
 use Rattle.sheet.proofs.Bytes.{length-bytes, byte-at}
 use Rattle.sheet_write.proofs.fill.Statement.{statement}
 use Rattle.sheet_write.proofs.fill.Tie as tie

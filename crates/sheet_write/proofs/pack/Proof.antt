@@ -6,9 +6,9 @@ use mathlib.Core.List.{List}
 use Prim.Native.Nat.{ℕ, _+_, _-_, _*_, _≤_, _<_}
 use native.Mathlib.Omega.{arith}
 use borrow.Author.Needs.{needs}
-use Rattle.over.specs.Over.{inBase}
+use Rattle.ranges.specs.Ranges.{inBase}
 use Rattle.sheet.specs.Bytes.{windowByte}
-use Rattle.over.proofs.Digits.{base-none, base-more}
+use Rattle.ranges.proofs.Digits.{base-none, base-more}
 use Rattle.sheet.proofs.Bytes.{quarter, byte-lt}
 use Rattle.sheet_write.proofs.pack.Statement.{statement}
 use Rattle.sheet_write.proofs.pack.Tie as tie

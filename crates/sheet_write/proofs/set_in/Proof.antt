@@ -6,15 +6,15 @@ use Prim.Native.Nat.{ℕ, _≤_, _-_}
 use native.Mathlib.Omega.{arith}
 use borrow.Author.Needs.{needs}
 use lib.ListN.{getD}
-use Rattle.over.specs.Over.{countOver}
+use Rattle.ranges.specs.Ranges.{countOver}
 use Rattle.answers.specs.Ruling.{dayQuarters}
-use Rattle.sheet.specs.Windows.{placeOf, setIn}
-use Rattle.over.proofs.Tests.{count-none, counted}
+use Rattle.sheet.specs.Windows.{quarterPlace, setIn}
+use Rattle.ranges.proofs.Tests.{count-none, counted}
 use Rattle.sheet_write.proofs.set_in.Statement.{statement}
 use Rattle.sheet_write.proofs.set_in.Tie as tie
 
 abbrev Inv-loop : tie.InvT-loop
-Inv-loop windows season n₀ q₀ n q = (q ≤ dayQuarters) × (n ≤ q) × (n ≡ countOver (λ (k : ℕ). getD windows (placeOf season k) false) q)
+Inv-loop windows season n₀ q₀ n q = (q ≤ dayQuarters) × (n ≤ q) × (n ≡ countOver (λ (k : ℕ). getD windows (quarterPlace season k) false) q)
 
 abbrev μ-loop : tie.MeasureT-loop
 μ-loop windows season n₀ q₀ n q = dayQuarters - q

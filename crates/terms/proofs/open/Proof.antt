@@ -5,12 +5,12 @@ use borrow.Author.Needs.{needs}
 use types.Run.{miss}
 use Rattle.calendar.specs.Free.{windowDays}
 use Rattle.sheet.specs.declared.Sheet.{Sheet}
-use Rattle.sheet.specs.Answers.{SheetRead}
+use Rattle.sheet.specs.Answers.{ReadSaid}
 use Rattle.sheet.proofs.Exactly.{read-never}
 use Rattle.tariff.specs.Answers.{saidOf}
 use Rattle.tariff.proofs.Taken.{others, untaken}
 use Rattle.terms.specs.Basis.{Basis, basis}
-use Rattle.terms.specs.Opening.{openAnswer}
+use Rattle.terms.specs.Opening.{customerOpenAnswer}
 use Rattle.terms.proofs.Exactly.{open-zero, open-meaning}
 use Rattle.terms.proofs.Answered.{open-said, open-refused, open-taken}
 use Rattle.terms.proofs.open.Statement.{statement}
@@ -19,7 +19,7 @@ use Rattle.terms.proofs.open.Tie as tie
 open-answer-requires : tie.Need-open-answer-requires
 open-answer-requires c κs =
     let read = c .before in
-    λ e. read-never (read .before .before .before .args .sheet .now) (sym (ap (λ (r : SheetRead). r .answer .number) (read .read .ensures)) ∙ e)
+    λ e. read-never (read .before .before .before .args .sheet .now) (sym (ap (λ (r : ReadSaid). r .answer .number) (read .read .ensures)) ∙ e)
 
 -- the basis that is opened, and what is answered
 abbrev given : tie.After-open-answer → Basis
@@ -27,7 +27,7 @@ given e =
     let a = e .before .before .before .before .before .args in
     basis (a .sheet .now) (a .holidays .now) (a .prices) (a .option)
 
-answer-at : (e : tie.After-open-answer) → saidOf (e .open-answer .result) ≡ openAnswer (given e)
+answer-at : (e : tie.After-open-answer) → saidOf (e .open-answer .result) ≡ customerOpenAnswer (given e)
 answer-at e = e .open-answer .ensures ∙ open-said (given e) (e .before .before .read .ensures)
 
 returns : tie.Need-returns

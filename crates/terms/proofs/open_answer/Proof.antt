@@ -16,7 +16,7 @@ use Rattle.terms.proofs.open_answer.Tie as tie
 
 -- the sheet is accepted
 read-at : (e : tie.After-enum-told) → only 0 ≡ saidOfSheet (e .before .before .before .before .args .read)
-read-at e = ap saidOf (sym (e .enum-told .given .1)) ∙ e .before .before .told .ensures
+read-at e = ap saidOf (sym (e .enum-told .given .1)) ∙ e .before .before .as-decision .ensures
 
 -- and the list is legal
 abbrev accepted : tie.Else1 → tie.After-enum-told
@@ -27,12 +27,12 @@ legal-at e = sym (e .before .bad-holidays .ensures) ∙ e .if1 .left
 
 returns : tie.Need-returns
 returns c =
-    let e = c .before .told .ensures in
+    let e = c .before .as-decision .ensures in
     let z =
-    untaken {d = c .before .told .result} e (sheet-zero (c .before .before .before .args .read))
+    untaken {d = c .before .as-decision .result} e (sheet-zero (c .before .before .before .args .read))
     (λ k. miss others 2 tt (rw k at (c .match .keys2)))
     in
-    refusal-stands (saidOf (c .before .told .result)) _ e z
+    refusal-stands (saidOf (c .before .as-decision .result)) _ e z
 
 returns-2 : tie.Need-returns-2
 returns-2 c = rw (← read-at (c .before .before), sym (c .before .bad-holidays .ensures) ∙ c .if1 .taken)
@@ -51,7 +51,7 @@ pub open-answer-spec : {M : Type 1} → statement M
 open-answer-spec =
     tie.close
     (tie.spec
-    (λ c κs. search needs)  -- told-requires
+    (λ c κs. search needs)  -- as-decision-requires
     (λ c. search needs)  -- enum-told
     returns
     (λ c κs. search needs)  -- bad-holidays-requires

@@ -5,8 +5,8 @@ use mathlib.Core.Bool.{_||_}
 use Prim.Native.Nat.{_-_, _≤_}
 use native.Mathlib.Omega.{arith}
 use borrow.Author.Needs.{needs}
-use Rattle.over.specs.Over.{anyOver}
-use Rattle.over.proofs.Tests.{any-none, any-more}
+use Rattle.ranges.specs.Ranges.{anyOver}
+use Rattle.ranges.proofs.Tests.{any-none, any-more}
 use Rattle.answers.specs.Ruling.{dayQuarters}
 use Rattle.sheet.specs.Windows.{isSet}
 use Rattle.window_lines.proofs.any_set.Statement.{statement}

@@ -7,7 +7,7 @@ use Prim.Native.Nat.{ℕ, _≤_, _<_}
 use native.Mathlib.Omega.{arith}
 use borrow.Author.Tests.{le-ltb, le-leb, lt-leb}
 use borrow.Author.Needs.{needs}
-use Rattle.over.specs.Limits.{Within}
+use Rattle.ranges.specs.Limits.{Within}
 use Rattle.answers.specs.Ruling.{dayQuarters}
 use Rattle.sheet.specs.Windows.{seasons, isSet}
 use Rattle.sheet.proofs.Windows.{set-at}

@@ -5,7 +5,7 @@ use mathlib.Core.Bool.{not}
 use Prim.Native.Nat.{_+_, _-_, _≤_}
 use native.Mathlib.Omega.{arith}
 use borrow.Author.Needs.{needs}
-use Rattle.over.proofs.Tests.{Passed, passed-none, passed-more}
+use Rattle.ranges.proofs.Tests.{Passed, passed-none, passed-more}
 use Rattle.answers.specs.Ruling.{dayQuarters}
 use Rattle.sheet.specs.Windows.{isSet}
 use Rattle.window_lines.proofs.Runs.{run-stops, run-through}

@@ -6,10 +6,10 @@ use native.Mathlib.Omega.{arith}
 use borrow.Author.Needs.{needs}
 use lib.Dec.{ltb}
 use lib.ListN.{getD}
-use Rattle.over.specs.Over.{countOver}
+use Rattle.ranges.specs.Ranges.{countOver}
 use Rattle.answers.specs.Ruling.{dayQuarters}
 use Rattle.windows.specs.Cuts.{higherThan}
-use Rattle.over.proofs.Tests.{count-none, counted}
+use Rattle.ranges.proofs.Tests.{count-none, counted}
 use Rattle.windows.proofs.count_above.Statement.{statement}
 use Rattle.windows.proofs.count_above.Tie as tie
 

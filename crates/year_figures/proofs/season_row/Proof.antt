@@ -7,7 +7,7 @@ use borrow.Author.Needs.{needs}
 use Rattle.answers.specs.Ruling.{dayQuarters}
 use Rattle.dates.specs.Dates.{seasonOf}
 use Rattle.dates.proofs.Seasons.{season-range}
-use Rattle.sheet.specs.Windows.{placeOf}
+use Rattle.sheet.specs.Windows.{quarterPlace}
 use Rattle.year_figures.proofs.Rows.{season-cut}
 use Rattle.year_figures.proofs.season_row.Statement.{statement}
 use Rattle.year_figures.proofs.season_row.Tie as tie
@@ -25,7 +25,7 @@ returns c =
     let s = seasonOf (a .year) (a .d + 1) in
     let end = 96 * season .result in
     let range = season-range (a .year) (a .d + 1) in
-    let start : end - 96 ≡ placeOf s 0 = omega (arith, season .ensures) in
+    let start : end - 96 ≡ quarterPlace s 0 = omega (arith, season .ensures) in
     let size : end - (end - 96) ≡ dayQuarters = omega (arith, season .ensures) in
     season-cut (a .windows .now) s start size
 

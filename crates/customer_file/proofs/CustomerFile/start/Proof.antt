@@ -3,22 +3,22 @@
 use mathlib.Core.Path.{_≡_, refl, _∙_}
 use borrow.Author.Needs.{needs}
 use lib.ListN.{replicate}
-use Rattle.over.specs.Over.{joined, anyOver}
-use Rattle.packed.specs.Bytes.{unlike}
+use Rattle.ranges.specs.Ranges.{joined, anyOver}
+use Rattle.encoding.specs.Bytes.{otherMark}
 use Rattle.sheet.specs.Answers.{readAnswer}
-use Rattle.terms.specs.Opening.{openAnswer}
-use Rattle.customer.specs.Answers.{shut, openCustomer}
-use Rattle.customer_head.specs.Header.{openedIn}
+use Rattle.terms.specs.Opening.{customerOpenAnswer}
+use Rattle.customer.specs.Answers.{shutCustomer, openCustomer}
+use Rattle.customer_head.specs.Header.{customerHeadMost, openedIn}
 use Rattle.fields.specs.declared.Stage.the-variants.{Going}
 use Rattle.customer_file.proofs.CustomerFile.start.Statement.{statement}
 use Rattle.customer_file.proofs.CustomerFile.start.Tie as tie
 
-blank : openedIn (replicate 159 0) ≡ shut
-unfolding openedIn openCustomer openAnswer readAnswer unlike anyOver joined
+blank : openedIn (replicate customerHeadMost 0) ≡ shutCustomer
+unfolding openedIn openCustomer customerOpenAnswer readAnswer otherMark anyOver joined
 blank = refl
 
 returns : tie.Need-returns
-returns c = λ i. record { field = 0; head = replicate 159 0; customer = (c .opened .ensures ∙ blank) i; stage = Going }
+returns c = λ i. record { field = 0; head = replicate customerHeadMost 0; customer = (c .opened .ensures ∙ blank) i; stage = Going }
 
 pub start-spec : {M : Type 1} → statement M
 start-spec =

@@ -12,6 +12,7 @@ use Rattle.customer_file.specs.CustomerMachine.{customerReader}
 use Rattle.customer_head.proofs.CustomerLayout.{count-is, fits}
 use Rattle.fields.proofs.Header.{is-field}
 use Rattle.fields.proofs.Machine.{field-refused, field-taken, span-cut, span-held, span-laid}
+use Rattle.customer_head.specs.Header.{customerHeadMost}
 use Rattle.customer_file.proofs.CustomerFile.take_field.Statement.{statement}
 use Rattle.customer_file.proofs.CustomerFile.take_field.Tie as tie
 
@@ -23,7 +24,7 @@ first e = let held = e .before .before .before .before in held .before .before .
 head-at : (e : tie.After-lay) → e .lay .last .0 ≡ headWith customerReader (first e .args .self) (first e .args .b .now)
 head-at e =
     let s = first e .args .self in
-    let long : length (s .head) ≡ 159 = search needs in
+    let long : length (s .head) ≡ customerHeadMost = search needs in
     span-laid customerReader s (fits _ _) (first e .pre .0) _ (omega arith) long (e .lay .ensures)
 
 held-at : (e : tie.After-lay) → fieldSize customerReader (first e .args .self) ≤ length (first e .args .b .now)

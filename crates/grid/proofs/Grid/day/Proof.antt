@@ -8,12 +8,12 @@ use borrow.Author.Needs.{needs}
 use types.Run.{miss}
 use Rattle.answers.specs.Said.{only}
 use Rattle.periods.proofs.Periods.{period-most}
-use Rattle.grid.specs.Answers.{saidOfGrid, dayAnswer}
+use Rattle.grid.specs.Answers.{saidOfGrid, gridDayAnswer}
 use Rattle.grid.proofs.Steps.{refuses, others, day-left, curves-refused, curves-taken, day-refused, day-taken}
 use Rattle.grid.proofs.Grid.day.Statement.{statement}
 use Rattle.grid.proofs.Grid.day.Tie as tie
 
-taken-at : (e : tie.After-enum-told) → let a = e .before .before .before .before .before .args in only 0 ≡ dayAnswer (a .self) (a .day .now)
+taken-at : (e : tie.After-enum-told) → let a = e .before .before .before .before .before .args in only 0 ≡ gridDayAnswer (a .self) (a .day .now)
 taken-at e = ap saidOfGrid (sym (e .enum-told .given .1)) ∙ e .before .before .take-day .ensures .0
 
 returns : tie.Need-returns

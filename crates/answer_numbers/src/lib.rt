@@ -1,0 +1,47 @@
+// An answer as a plain list of numbers, for a line of text and for a caller in Rust or C, where no enum crosses:
+// document 01, Numbered answers ("carries") and Two programs ("the number and its carried figures in the table's order,
+// a place as day then quarter").
+// Main theorem: the first figures of the list are the answer's (`line-is`, proofs/Line).
+ghost use mathlib.Core.Path.{_≡_};
+ghost use mathlib.Core.List.{_∷_};
+ghost use Rattle.answers.specs.Said.{only, badPlace};
+ghost use Rattle.answer_numbers.specs.Numbers.{numbersOf};
+use answers::Place;
+
+// An answer's number, how many figures it carries, and the figures, 0 past the last.
+#[repr(C)]
+pub struct Numbers {
+    pub number: u64,
+    pub count: u64,
+    pub figures: [u64; 7],
+}
+
+// A number that carries nothing.
+pub fn only(number: u64) -> Numbers
+    ensures { λ r. ⌜ r ≡ numbersOf (only number) ⌝ }
+{
+    Numbers {
+        number,
+        count: 0,
+        figures: [0; 7],
+    }
+}
+
+// 5 with the place of the first illegal reading.
+pub fn with_place(place: Place) -> Numbers
+    ensures { λ r. ⌜ r ≡ numbersOf (badPlace place) ⌝ }
+{
+    Numbers {
+        number: 5,
+        count: 2,
+        figures: [place.day as u64, place.position as u64, 0, 0, 0, 0, 0],
+    }
+}
+
+// The number and then the figures: a line is the first of them, one more than the figures that are carried.
+pub fn line_of(flat: Numbers) -> [u64; 8]
+    ensures { λ r. ⌜ r ≡ flat .number ∷ flat .figures ⌝ }
+{
+    let f = flat.figures;
+    [flat.number, f[0], f[1], f[2], f[3], f[4], f[5], f[6]]
+}

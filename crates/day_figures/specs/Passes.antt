@@ -1,0 +1,63 @@
+-- How the code works inside: a day in short passes, by masks of the quarters that count. Nothing of this is promised to
+-- a caller.
+use mathlib.Core.Path.{_≡_}
+use mathlib.Core.Bool.{Bool, false}
+use mathlib.Core.List.{List}
+use Prim.Native.Nat.{ℕ, _+_, _≤_, _<_, max}
+use lib.Bits.{bitAnd}
+use lib.Dec.{ltb}
+use lib.ListN.{length, getD}
+use Rattle.ranges.specs.Ranges.{largestOver, sumOver, anyOver, numberIf, table}
+use Rattle.answers.specs.Ruling.{dayQuarters}
+use Rattle.readings.specs.declared.Run.{Run}
+use Rattle.readings.specs.Legal.{highestOf}
+use Rattle.readings.specs.Runs.{runDays, dayLen, quarterOf}
+use Rattle.tariff.specs.declared.Figures.{Figures}
+use Rattle.day_figures.specs.declared.Tops.{Tops}
+use Rattle.day_figures.specs.Day.{alone, dayMost}
+
+-- four readings below this fit 32 bits together
+abbrev pub fourEnd : ℕ
+fourEnd = 1073741824
+
+-- a day's sum, which is at most what a day can add
+pub record DaySum (day : List ℕ) (sum : ℕ) : Type 0 where
+  pub is : sum ≡ sumOver (alone day) (length day)
+  pub most : sum ≤ dayMost
+
+-- the highest reading, and the sum
+unfoldable pub topsOf : List ℕ → Tops
+topsOf day = record { peak = highestOf day; sum = sumOver (alone day) (length day) }
+
+-- a row as masks of 32 bits, all ones where a quarter is set; does any of them leave something?
+abbrev pub allOnes : ℕ
+allOnes = 4294967295
+
+unfoldable pub masksOf : List Bool → List ℕ
+masksOf row = table (λ q. numberIf (getD row q false) allOnes) dayQuarters
+
+unfoldable pub someLeft : List ℕ → Bool
+someLeft masks = anyOver (λ q. ltb 0 (getD masks q 0)) dayQuarters
+
+-- the highest of what the masks leave of day d's readings
+unfoldable pub maskedHigh : List ℕ → Run → ℕ → List ℕ → ℕ
+maskedHigh masks run d day = largestOver (λ p. bitAnd (alone day p) (getD masks (quarterOf run d p) 0)) (length day)
+
+-- the figures with a day taken in whose in-window peak, if it has one, does not count
+abbrev pub plainly : Figures → Tops → Figures
+plainly f t =
+    record {
+      peak = max (f .peak) (t .peak);
+      sum = f .sum + t .sum;
+      any = f .any;
+      high = f .high;
+      day = f .day;
+      quarter = f .quarter;
+    }
+
+-- a day that can be taken in: the run has it, it is as long as the run says, and `next` are the figures with its
+-- highest reading and sum
+pub record Fits (f : Figures) (run : Run) (d : ℕ) (day : List ℕ) (next : Figures) : Type 0 where
+  pub on : d < runDays run
+  pub long : length day ≡ dayLen run d
+  pub next-is : next ≡ plainly f (topsOf day)

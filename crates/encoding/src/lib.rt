@@ -1,0 +1,80 @@
+// Numbers and marks in bytes, for the sheet and for both files. Document 01, Window sheet: "numbers here and in files
+// with the high byte first". Behind the last byte there is 0, so that every call answers for any bytes and any place.
+ghost use mathlib.Core.Path.{_≡_};
+ghost use Prim.Native.Nat.{_+_, _-_, _<_, min};
+ghost use lib.ListN.{getD};
+ghost use Rattle.encoding.specs.Bytes.{twoAt, fourAt, laid};
+ghost use Rattle.encoding.specs.Bytes.{otherMark};
+
+// Bytes of a mark, and the one version of sheets and files.
+pub const MARK_SIZE: usize = 3;
+
+pub const VERSION: u16 = 1;
+
+// Its two bytes.
+pub const VERSION_HIGH: u8 = 0;
+
+pub const VERSION_LOW: u8 = 1;
+
+// What stands behind the last byte.
+const BEHIND: u8 = 0;
+
+// Byte k of the bytes from place i on.
+pub fn byte_at(b: &[u8], i: usize, k: usize) -> u8
+    ensures { λ r. ⌜ r ≡ getD (now (b .entry)) (i + k) 0 ⌝ }
+{
+    if i < b.len() {
+        if k < b.len() - i {
+            return b[i + k];
+        }
+    }
+    BEHIND
+}
+
+fn wide(x: u8) -> u32
+    ensures { λ r. ⌜ (r ≡ x) × (r < 256) ⌝ }
+{
+    x as u32
+}
+
+// The 16 bits at place i, high byte first.
+pub fn two_at(b: &[u8], i: usize) -> u16
+    ensures { λ r. ⌜ r ≡ twoAt (now (b .entry)) i ⌝ }
+{
+    (256 * wide(byte_at(b, i, 0)) + wide(byte_at(b, i, 1))) as u16
+}
+
+// The 32 bits at place i, high byte first.
+pub fn four_at(b: &[u8], i: usize) -> u32
+    ensures { λ r. ⌜ r ≡ fourAt (now (b .entry)) i ⌝ }
+{
+    let first = 256 * wide(byte_at(b, i, 0)) + wide(byte_at(b, i, 1));
+    256 * (256 * first + wide(byte_at(b, i, 2))) + wide(byte_at(b, i, 3))
+}
+
+// Are the three bytes at place i another mark?
+pub fn other_mark(b: &[u8], i: usize, mark: &[u8; MARK_SIZE]) -> bool
+    ensures { λ r. ⌜ r ≡ otherMark (now (mark .entry)) (now (b .entry)) i ⌝ }
+{
+    (byte_at(b, i, 0) != mark[0]) | (byte_at(b, i, 1) != mark[1]) | (byte_at(b, i, 2) != mark[2])
+}
+
+// How many of `size` bytes fit into `room` bytes from place `at` on.
+fn fitting(size: usize, room: usize, at: usize) -> usize
+    ensures { λ r. ⌜ r ≡ min size (room - at) ⌝ }
+{
+    if room < at {
+        return 0;
+    }
+    if size < room - at { size } else { room - at }
+}
+
+// Lays bytes over a lent buffer from place `at` on, those that fit; all others stay.
+pub fn lay(out: &mut [u8], at: usize, b: &[u8])
+    ensures { λ r. ⌜ now (out .exit) ≡ laid (now (out .entry)) at (now (b .entry)) ⌝ }
+{
+    let n = fitting(b.len(), out.len(), at);
+    for i in 0..n {
+        out[at + i] = b[i];
+    }
+}

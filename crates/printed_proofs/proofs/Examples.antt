@@ -1,0 +1,10 @@
+-- The printed examples of document 01 hold, from the series and from the file's bytes.
+-- Assumes nothing.
+use Rattle.printed_proofs.specs.Examples.{Examples}
+use Rattle.printed_proofs.proofs.ExampleSheet.{sheet-laid}
+use Rattle.printed_proofs.proofs.ExampleLines.{windows-example}
+use Rattle.printed_proofs.proofs.ExampleDecision.{decided}
+use Rattle.printed_proofs.proofs.ExampleStatement.{statement-example}
+
+pub examples : Examples
+examples = record { sheet = sheet-laid; windows = windows-example; decision = decided; statement = statement-example }

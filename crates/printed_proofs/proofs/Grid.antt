@@ -1,0 +1,287 @@
+-- The window program: its machine, driven over any bytes, prints what the file's bytes
+-- are answered (grid_text, specs/Text).
+-- Assumes nothing.
+use mathlib.Core.Path.{_≡_, refl, sym, ap, _∙_}
+use mathlib.Core.Bool.{false}
+use mathlib.Core.List.{List, [], _∷_}
+use Prim.Native.Nat.{ℕ, zero, suc, _+_, _≤_, _<_}
+use native.Mathlib.Decide.{decLt}
+use native.Mathlib.Omega.{arith}
+use borrow.Author.Tests.{eq-eqb, ne-eqb}
+use lib.Dec.{ltb, eqb}
+use lib.ListN.{length, take, replicate}
+use lib.Seq.{take-all}
+use Rattle.ranges.specs.Ranges.{numberIf}
+use Rattle.ranges.proofs.Tests.{Passed}
+use Rattle.ranges.proofs.Bools.{clash}
+use Rattle.answers.specs.Ruling.{gridMost, yearOut, levelOut}
+use Rattle.answers.specs.Said.{Said, only}
+use Rattle.periods.specs.Period.{periodDays}
+use Rattle.periods.proofs.Periods.{period-most}
+use Rattle.readings.specs.declared.Run.{Run}
+use Rattle.readings.specs.declared.Run.the-variants.{Period}
+use Rattle.readings.specs.Runs.{runDays, dayLen, dayStart}
+use Rattle.readings.specs.Legal.{highestOf, badIn}
+use Rattle.readings.specs.Days.{seriesAnswer}
+use Rattle.readings.proofs.Runs.{start-none, run-all, period-run}
+use Rattle.readings.proofs.Days.{series-legal, next-bad, next-taken}
+use Rattle.sheet.specs.Bytes.{sheetSize}
+use Rattle.grid.specs.declared.Grid.{Grid}
+use Rattle.grid.specs.Answers.{gridOpenAnswer, openGrid, gridDayAnswer, dayGrid, gridCloseBuffer, windowsAnswer}
+use Rattle.grid.proofs.Steps.{open-done}
+use Rattle.grid.proofs.Whole.{holding, machine, opens-empty, closes-whole}
+use Rattle.fields.specs.Layout.{Layout, startOf, headSize, stops}
+use Rattle.fields.specs.Series.{readingsOf, seriesIn, daySize, fileSize}
+use Rattle.fields.specs.File.{part, driven}
+use Rattle.fields.proofs.Bytes.{Same, buffer-same, part-long, part-none, length-readings}
+use Rattle.fields.proofs.Header.{field-none, fields-held, field-held}
+use Rattle.fields.proofs.Days.{series-long, series-all, days-read}
+use Rattle.fields.proofs.Driven.{Stopped, TakesEnd, FileMachine, file-driven}
+use Rattle.fields.proofs.Fed.{heldIn, LooksBack, FeedsField, feeds-field, heldAfter, FeedsDay, feeds-takes}
+use Rattle.lines.specs.Figures.{refusedLine}
+use Rattle.fields.specs.declared.Stage.the-variants.{Going, Refused, Complete}
+use Rattle.grid_file.specs.declared.GridFile.{GridFile}
+use Rattle.grid_head.specs.Header.{gridMark, gridLayout, gridYear, gridLevel}
+use Rattle.grid_file.specs.Grid.{blankSheet, withSheet, wholeGrid, gridAnswer}
+use Rattle.fields.specs.Stages.{stageOf}
+use Rattle.grid_file.specs.GridMachine.{gridHead, gridEnded, gridReader, gridWants, gridFed, closedGrid}
+use Rattle.grid_text.specs.Text.{windowLines, gridText}
+use Rattle.encoding.proofs.Bytes.{two-same}
+use Rattle.fields.proofs.Common.{mark-own, version-own, year-own, level-own, year-no, level-no, unrefused}
+use Rattle.grid_head.proofs.GridLayout.{grid-count, grid-width, grid-start, grid-size, grid-refusal}
+use Rattle.fields.proofs.Machine.{wants-field, wants-day, wants-end, fed-none, fed-field, fed-day, fed-end, field-cut, field-refused, field-taken, day-cut, day-refused, day-taken, end-left, end-done}
+use Rattle.printed_proofs.specs.Printed.{WindowsPrinted}
+
+-- no field's number looks at a byte behind it
+looks-back : (bytes : List ℕ) → LooksBack gridLayout bytes
+looks-back bytes =
+    record {
+      counts = λ k h b e. ap (ltb k) (grid-count b ∙ sym (grid-count bytes));
+      widths = λ k h b e. sym (grid-width b k (omega (arith, grid-count bytes))) ∙ grid-width bytes k (omega (arith, grid-count bytes));
+      refusals = λ k h b e. numbers b k (omega (arith, grid-count bytes)) e;
+    }
+  where
+    numbers : (b : List ℕ) (k : ℕ) → k < 4 → Same (startOf (gridLayout bytes) (k + 1)) b bytes → gridLayout b .refusal k ≡ gridLayout bytes .refusal k
+    numbers b zero h e =
+        sym (grid-refusal b 0 (omega arith))
+        ∙ mark-own gridMark b bytes 0 (λ i l. e (0 + i) (omega (arith, grid-start bytes 1 (omega arith))))
+        ∙ grid-refusal bytes 0 (omega arith)
+    numbers b (suc zero) h e =
+        sym (grid-refusal b 1 (omega arith))
+        ∙ version-own b bytes 3 (λ i l. e (3 + i) (omega (arith, grid-start bytes 2 (omega arith))))
+        ∙ grid-refusal bytes 1 (omega arith)
+    numbers b (suc (suc zero)) h e =
+        sym (grid-refusal b 2 (omega arith))
+        ∙ year-own b bytes 5 (λ i l. e (5 + i) (omega (arith, grid-start bytes 3 (omega arith))))
+        ∙ grid-refusal bytes 2 (omega arith)
+    numbers b (suc (suc (suc zero))) h e =
+        sym (grid-refusal b 3 (omega arith)) ∙ level-own b bytes 7 (λ i l. e (7 + i) (omega (arith, grid-size bytes))) ∙ grid-refusal bytes 3 (omega arith)
+    numbers b (suc (suc (suc (suc k)))) h e = absurd (omega arith)
+
+-- a machine that has ended with a number, and its line
+abbrev Ended : GridFile → Said → Type 0
+Ended s x = Stopped gridWants gridFed gridText windowLines s x
+
+line-of : (n : ℕ) → (n ≡ 0 → ⊥) → refusedLine (n ∷ []) ≡ windowLines (only n)
+unfolding windowLines
+line-of n z = simp (ne-eqb n 0 z)
+
+ended-with : (s : GridFile) {t : GridFile} (n : ℕ) → (n ≡ 0 → ⊥) → gridEnded s (Refused n) ≡ t → Ended t (only n)
+ended-with s n z e =
+    rw (← e) (record { says = line-of n z; stays = λ b. sym (fed-none gridReader (gridEnded s (Refused n)) refl b) })
+
+-- the header
+feeds : (k : ℕ) (buffer : List ℕ) → k < gridLayout buffer .count → FeedsField gridWants gridFed gridText windowLines gridLayout gridHead k buffer
+feeds k buffer h =
+    record {
+      size = sym (wants-field gridReader s refl h);
+      cut = λ b c. ended-with s 12 (omega arith) (field-cut gridReader s b c ∙ fed-field gridReader s refl h b);
+      refused = λ b next w e z. ended-with s _ z (field-refused gridReader s b (omega arith) e refl z ∙ fed-field gridReader s refl h b);
+      taken = λ b next w e z. sym (field-taken gridReader s b (omega arith) e z ∙ fed-field gridReader s refl h b);
+    }
+  where
+    s : GridFile
+    s = gridHead k buffer
+
+module _ (bytes : List ℕ) where
+  abbrev l : Layout
+  l = gridLayout bytes
+
+  abbrev y : ℕ
+  y = gridYear bytes
+
+  abbrev level : ℕ
+  level = gridLevel bytes
+
+  abbrev run : Run
+  run = Period y
+
+  abbrev xs : List ℕ
+  xs = seriesIn bytes (headSize l)
+
+  abbrev held : ℕ → List ℕ
+  held k = heldIn (replicate 8 0) bytes (startOf l k)
+
+  -- the state whose machine of days stands at g
+  abbrev inside : Grid → GridFile
+  inside g = record { field = 4; head = held 4; grid = g; stage = Going }
+
+  abbrev inDays : ℕ → GridFile
+  inDays d = inside (heldAfter run (holding y level) (headSize l) bytes d)
+
+  -- it stands behind the header
+  over : gridLayout (held 4) .count ≤ 4
+  over = omega (arith, grid-count (held 4))
+
+  head-size : headSize l ≡ 8
+  head-size = ap (startOf l) (grid-count bytes) ∙ grid-size bytes
+
+  -- the number of year and level, by the test that the opening makes
+  pub year-tested : numberIf (yearOut y) 1 ≡ l .refusal 2
+  year-tested = year-no bytes 5 refl refl ∙ grid-refusal bytes 2 (omega arith)
+
+  pub level-tested : numberIf (levelOut level) 2 ≡ l .refusal 3
+  level-tested = level-no bytes 7 refl ∙ grid-refusal bytes 3 (omega arith)
+
+  pub year-legal : l .refusal 2 ≡ 0 → yearOut y ≡ false
+  year-legal e = unrefused (yearOut y) 0 (year-tested ∙ e)
+
+  level-legal : l .refusal 3 ≡ 0 → levelOut level ≡ false
+  level-legal e = unrefused (levelOut level) 1 (level-tested ∙ e)
+
+  -- all fields are read: year and level are legal, and the series is opened
+  module _ (p : Passed (stops l bytes) 4) where
+    passed : (k : ℕ) → k < 4 → l .refusal k ≡ 0
+    passed k h = field-held l bytes k (p .fails k h) .1
+
+    opens : gridOpenAnswer y level ≡ only 0
+    opens = sym (open-done y level (year-legal (passed 2 (omega arith))) (level-legal (passed 3 (omega arith))) .0)
+
+    same-head : Same 8 (held 4) bytes
+    same-head i h = buffer-same (replicate 8 0) bytes (startOf l 4) (fields-held l bytes 4 p) i (omega (arith, grid-size bytes))
+
+    opened : gridHead 4 (held 4) ≡ inside (heldAfter run (holding y level) (headSize l) bytes 0)
+    opened =
+        ap inside
+        (ap (λ (k : ℕ). openGrid k (gridLevel (held 4))) (two-same (held 4) bytes 5 5 (λ i m. same-head (5 + i) (omega arith)))
+        ∙ ap (openGrid y) (same-head 7 (omega arith))
+        ∙ opens-empty y level opens
+        ∙ ap (λ (n : ℕ). holding y level (take n xs) 0) (sym (start-none run)))
+
+  -- a day
+  day-whole : (b : List ℕ) (d : ℕ) → length b ≡ daySize run d → readingsOf b ≡ readingsOf (take (daySize run d) b)
+  day-whole b d w = ap readingsOf (sym (take-all (daySize run d) b (omega arith)))
+
+  module _ (ys : List ℕ) (d : ℕ) (h : d < runDays run) where
+    abbrev t : Grid
+    t = holding y level ys d
+
+    abbrev s : GridFile
+    s = inside t
+
+    more : d < periodDays y
+    more = omega (arith, period-run y)
+
+    -- a day of the right length that is not taken has a bad reading
+    module _ (b : List ℕ) (w : length b ≡ daySize run d) (z : eqb (gridDayAnswer t (readingsOf b) .number) 0 ≡ false) where
+      long : length (readingsOf b) ≡ dayLen run d
+      long = omega (arith, length-readings b)
+
+      ends : gridEnded s (stageOf (gridDayAnswer t (readingsOf b))) ≡ gridFed s b
+      ends = day-refused gridReader s (readingsOf b) b (omega arith) (day-whole b d w) z ∙ fed-day gridReader s refl over more b
+
+      bad : Ended (gridFed s b) (gridDayAnswer t (readingsOf b))
+      unfolding stageOf windowLines
+      bad = go (decLt gridMost (highestOf (readingsOf b)))
+        where
+          go : Dec (gridMost < highestOf (readingsOf b)) → Ended (gridFed s b) (gridDayAnswer t (readingsOf b))
+          go (yes v) =
+              let five = next-bad run gridMost d (readingsOf b) h long v refl in
+              rw (← ends, ← five) (record { says = refl; stays = λ c. sym (fed-none gridReader (gridEnded s _) refl c) })
+          go (no v) =
+              let taken = next-taken run gridMost d (readingsOf b) h long (omega arith) in
+              absurd (clash (ap (λ (x : Said). eqb (x .number) 0) (sym taken)) z)
+
+    day-feeds : FeedsDay gridWants gridFed gridText windowLines run gridDayAnswer dayGrid inside t d
+    day-feeds =
+        record {
+          size = sym (wants-day gridReader s refl over more);
+          cut = λ b c. ended-with s 4 (omega arith) (day-cut gridReader s b c ∙ fed-day gridReader s refl over more b);
+          refused = bad;
+          taken = λ b w e.
+              let taken = eq-eqb _ 0 (ap (λ (x : Said). x .number) e) in
+              sym (day-taken gridReader s (readingsOf b) b (omega arith) (day-whole b d w) taken ∙ fed-day gridReader s refl over more b);
+        }
+
+  -- after the last day
+  module _ (p : Passed (stops l bytes) 4) (w : fileSize run (headSize l) ≤ length bytes) (c : Passed (badIn run gridMost xs) (runDays run)) where
+    abbrev all : Grid
+    all = heldAfter run (holding y level) (headSize l) bytes (runDays run)
+
+    full : periodDays y ≤ all .seen
+    full = omega (arith, period-run y)
+
+    module _ (e : length bytes ≡ fileSize run (headSize l)) where
+      legal : only 0 ≡ seriesAnswer run gridMost xs
+      legal =
+          let r = days-read run (headSize l) bytes gridMost (runDays run) c (omega (arith, run-all run)) in
+          series-legal run gridMost xs (series-long run (headSize l) bytes e) (rw (series-all run (headSize l) bytes e) at (r .legal))
+
+      all-is : all ≡ holding y level xs (periodDays y)
+      all-is = ap (λ (ys : List ℕ). holding y level ys (runDays run)) (series-all run (headSize l) bytes e) ∙ ap (holding y level xs) (period-run y)
+
+      closed-is : closedGrid all ≡ wholeGrid y level xs
+      closed-is =
+          let c = closes-whole y level (opens p) xs blankSheet legal in
+          ap closedGrid all-is
+          ∙ ap (λ (x : Said). withSheet x (gridCloseBuffer (holding y level xs (periodDays y)) blankSheet)) (c .0)
+          ∙ ap (withSheet (windowsAnswer y level xs sheetSize)) (c .1)
+
+    abbrev last : GridFile
+    last = inside all
+
+    abbrev rest : List ℕ
+    rest = part bytes (fileSize run (headSize l)) 1
+
+    ends-complete : (e : length bytes ≡ fileSize run (headSize l)) → Ended (gridFed last rest) (wholeGrid y level xs)
+    ends-complete e =
+        let ends : gridEnded last Complete ≡ gridFed last rest =
+        end-done gridReader last rest (part-none bytes (fileSize run (headSize l)) 1 (omega arith)) ∙ fed-end gridReader last refl over full rest in
+        rw (← ends) (record { says = ap windowLines (closed-is e); stays = λ b. sym (fed-none gridReader (gridEnded last Complete) refl b) })
+
+    takes-end : TakesEnd gridWants gridFed gridText windowLines bytes run gridMost (headSize l) inDays (wholeGrid y level xs)
+    takes-end =
+        record {
+          size = sym (wants-end gridReader last refl over full);
+          left = λ o.
+              ended-with last 4 (omega arith)
+              (end-left gridReader last rest (omega (arith, part-long bytes (fileSize run (headSize l)) 1 (omega arith)))
+              ∙ fed-end gridReader last refl over full rest);
+          closed = ends-complete;
+        }
+
+  as-four : {n : ℕ} → n ≡ 4 → Passed (stops l bytes) n → Passed (stops l bytes) 4
+  as-four e p = rw e at p
+
+  takes : FileMachine gridWants gridFed gridText windowLines l run gridMost (wholeGrid y level xs) bytes (λ k. gridHead k (held k)) inDays
+  takes =
+      record {
+        fields = λ k h p.
+            feeds-field gridWants gridFed gridText windowLines gridLayout gridHead
+            (replicate 8 0) bytes (looks-back bytes) k h p (feeds k (held k));
+        opened = λ p. ap (λ (k : ℕ). gridHead k (held k)) (grid-count bytes) ∙ opened (as-four (grid-count bytes) p);
+        days = λ p d h w c.
+            feeds-takes gridWants gridFed gridText windowLines (machine y level) inside (headSize l)
+            bytes d w c (day-feeds (take (dayStart run d) xs) d h);
+        last = λ p w c. takes-end (as-four (grid-count bytes) p) w c;
+      }
+
+-- for every byte list, with turns enough for the header, the days and the end: 4 fields, at most 366 days, and 1
+pub windows-printed : WindowsPrinted
+unfolding gridAnswer
+windows-printed bytes turns h =
+    let l = gridLayout bytes in
+    let y = gridYear bytes in
+    let enough : l .count + runDays (Period y) < turns = omega (arith, grid-count bytes, period-run y, period-most y) in
+    ap (λ (k : ℕ). gridText (driven gridWants gridFed turns (gridHead 0 (heldIn (replicate 8 0) bytes k)) bytes)) (sym (field-none l))
+    ∙ file-driven (takes bytes) turns enough
