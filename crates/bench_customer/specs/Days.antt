@@ -8,8 +8,8 @@ use Rattle.readings.specs.declared.Run.the-variants.{Year}
 use Rattle.readings.specs.Days.{offered, daysOf}
 use Rattle.tariff.specs.declared.Prices.{Prices}
 use Rattle.terms.specs.Basis.{Basis}
-use Rattle.customer.specs.declared.Customer.{Customer}
-use Rattle.customer.specs.Answers.{openCustomer, dayCustomer, customerCloseAnswer}
+use Rattle.customer_days.specs.declared.Customer.{Customer}
+use Rattle.customer_days.specs.Days.{openCustomer, dayCustomer, customerCloseAnswer}
 
 -- a customer's year after the first n days of a series
 abbrev pub customerAfterDays : Basis → List ℕ → ℕ → Customer

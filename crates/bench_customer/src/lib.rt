@@ -7,7 +7,7 @@ ghost use Rattle.customer.specs.Answers.{decideAnswer};
 ghost use Rattle.answer_numbers.specs.Numbers.{numbersOf};
 ghost use Rattle.bench_customer.specs.Days.{customerAfterDays, openDays, customerDaysAnswer, priceList};
 use answer_numbers::Numbers;
-use customer::Customer;
+use customer_days::Customer;
 use readings::Run;
 use tariff::Prices;
 use tariff::Row;

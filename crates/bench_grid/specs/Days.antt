@@ -6,8 +6,8 @@ use Rattle.answers.specs.Said.{Said}
 use Rattle.periods.specs.Period.{periodDays}
 use Rattle.readings.specs.declared.Run.the-variants.{Period}
 use Rattle.readings.specs.Days.{offered, daysOf}
-use Rattle.grid.specs.declared.Grid.{Grid}
-use Rattle.grid.specs.Answers.{openGrid, dayGrid, gridCloseAnswer, gridCloseBuffer}
+use Rattle.grid_days.specs.declared.Grid.{Grid}
+use Rattle.grid_days.specs.Days.{openGrid, dayGrid, gridCloseAnswer, gridCloseBuffer}
 
 -- the grid after the first n days of a series
 abbrev pub gridAfterDays : ℕ → ℕ → List ℕ → ℕ → Grid

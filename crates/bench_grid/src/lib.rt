@@ -7,7 +7,7 @@ ghost use Rattle.grid.specs.Answers.{windowsAnswer, windowsBuffer};
 ghost use Rattle.answer_numbers.specs.Numbers.{numbersOf};
 ghost use Rattle.bench_grid.specs.Days.{gridAfterDays, gridDaysAnswer, gridDaysBuffer};
 use answer_numbers::Numbers;
-use grid::Grid;
+use grid_days::Grid;
 use readings::Run;
 
 // The windows of a whole grid series.

@@ -14,7 +14,7 @@ use super::output;
 use super::series;
 use super::tariffs::next_prices;
 use super::tariffs::write_answer;
-use customer::Customer;
+use customer_days::Customer;
 use readings::Run;
 use tariff::Decision;
 use tariff::Prices;

@@ -13,8 +13,8 @@ use super::input;
 use super::input::ROOM;
 use super::output;
 use super::series;
-use grid::Grid;
 use grid::GridAnswer;
+use grid_days::Grid;
 use readings::Run;
 
 // The state after some days, how many of them were taken, and what the last one offered was answered.

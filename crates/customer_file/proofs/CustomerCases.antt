@@ -16,8 +16,8 @@ use Rattle.readings.specs.Days.{nextAnswer}
 use Rattle.tariff.specs.declared.Decision.{Decision}
 use Rattle.tariff.specs.declared.Decision.the-variants.{Accepted, Eligible, Taken, YearOut, LevelOut, BadHolidays, WrongLength, BadReading, PriceOut, NoWindow, ShareShort, MoveShort, ReductionShort, Malformed, DayOut}
 use Rattle.tariff.specs.Answers.{saidOf}
-use Rattle.customer.specs.declared.Customer.{Customer}
-use Rattle.customer.specs.Answers.{overfull, customerDayAnswer, dayCustomer}
+use Rattle.customer_days.specs.declared.Customer.{Customer}
+use Rattle.customer_days.specs.Days.{overfull, customerDayAnswer, dayCustomer}
 use Rattle.fields.specs.declared.Stage.the-variants as Stage
 use Rattle.fields.specs.declared.Stage.{Stage}
 use Rattle.fields.specs.Stages.{stageOf, dayStage}

@@ -11,7 +11,7 @@ ghost use Rattle.tariff.specs.Answers.{saidOf};
 ghost use Rattle.fields.specs.Stages.{dayStage};
 ghost use Rattle.fields.specs.Machine.{fieldFed, dayFed, endFed};
 ghost use Rattle.customer_file.specs.CustomerMachine.{openedWith, customerStart, customerEnded, customerReader, customerWants, customerFed};
-use customer::Customer;
+use customer_days::Customer;
 use fields::Span;
 use fields::Stage;
 use readings::Run;

@@ -13,8 +13,8 @@ use Rattle.encoding.specs.Bytes.{twoAt, fourAt, markSize, versionSize}
 use Rattle.sheet.specs.Bytes.{mark, yearAt, sheetSize, seasonBytes, seasonFull}
 use Rattle.tariff.specs.declared.Prices.{Prices}
 use Rattle.terms.specs.Basis.{Basis, basis}
-use Rattle.customer.specs.declared.Customer.{Customer}
-use Rattle.customer.specs.Answers.{openCustomer}
+use Rattle.customer_days.specs.declared.Customer.{Customer}
+use Rattle.customer_days.specs.Days.{openCustomer}
 use Rattle.fields.specs.Layout.{Field, Layout, layoutOf}
 use Rattle.fields.specs.File.{part}
 use Rattle.fields.specs.Common.{markField, versionField, yearField, levelField}

@@ -10,7 +10,7 @@ ghost use Rattle.ranges.specs.Ranges.{numberIf};
 ghost use Rattle.holidays.specs.Holidays.{before};
 ghost use Rattle.fields.specs.Layout.{fieldAt, fieldSpan};
 ghost use Rattle.customer_head.specs.Header.{holidayCount, holidaysOf, pricesIn, holidayOut, priceFields, customerLayout, openedIn};
-use customer::Customer;
+use customer_days::Customer;
 use fields::Span;
 use tariff::Prices;
 use tariff::Row;

@@ -33,13 +33,15 @@ use Rattle.grid_curves.specs.Curves.{curveAt, flatCurves}
 use Rattle.grid.specs.Answers.{gridOpenAnswer, sheetOf, finishAnswer, finished, windowsAnswer, windowsBuffer}
 use Rattle.grid.specs.Rows.{periodPeak}
 use Rattle.grid_curves.proofs.Curves.{peak-curves}
-use Rattle.grid.proofs.Exactly.{open-exactly, close-exactly, windows-exactly}
-use Rattle.grid.proofs.Whole.{days-whole as grid-days, same-place as grid-place}
+use Rattle.grid.proofs.Exactly.{open-exactly, windows-exactly}
+use Rattle.grid_days.proofs.Exactly.{close-exactly}
+use Rattle.grid_days.proofs.Whole.{days-whole as grid-days, same-place as grid-place}
 use Rattle.tariff.proofs.Answered.{number-is}
 use Rattle.tariff.proofs.Exactly.{eligible-exactly, charge-exactly, judge-exactly}
 use Rattle.terms.proofs.Exactly.{customer-open-exactly}
-use Rattle.customer.proofs.Exactly.{customer-day-exactly, customer-close-exactly, decide-exactly}
-use Rattle.customer.proofs.Whole.{days-whole as customer-days, same-place as customer-place}
+use Rattle.customer.proofs.Exactly.{decide-exactly}
+use Rattle.customer_days.proofs.Exactly.{customer-day-exactly, customer-close-exactly}
+use Rattle.customer_days.proofs.Whole.{days-whole as customer-days, same-place as customer-place}
 use Rattle.demands.specs.Module.{ours}
 use Rattle.demands.specs.Answers.{ExactlyWhen, ToTheQuarterHour, DaysAsWhole}
 use Rattle.demands.proofs.Windows.{peak-one, curve-one, kept-plain}

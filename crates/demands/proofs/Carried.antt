@@ -37,10 +37,11 @@ use Rattle.sheet.specs.Answers.{readAnswer, writeAnswer}
 use Rattle.sheet.specs.Rows.{ReadRow}
 use Rattle.sheet.specs.Rows.ReadRow.{malformed, one, two, full, zero}
 use Rattle.sheet.proofs.Exactly.{read-zero}
-use Rattle.grid.specs.Answers.{windowsAnswer, gridOpenAnswer, gridCloseAnswer, finishAnswer, sheetOf}
+use Rattle.grid.specs.Answers.{windowsAnswer, gridOpenAnswer, finishAnswer, sheetOf}
+use Rattle.grid_days.specs.Days.{gridCloseAnswer}
 use Rattle.grid.specs.Rows.{WindowsRow}
 use Rattle.grid.specs.Rows.WindowsRow.{five}
-use Rattle.grid.specs.declared.Grid.{Grid}
+use Rattle.grid_days.specs.declared.Grid.{Grid}
 use Rattle.grid.proofs.Exactly.{windows-exactly}
 use Rattle.tariff.specs.declared.Rates.{Rates}
 use Rattle.tariff.specs.declared.Figures.{Figures}
@@ -52,15 +53,18 @@ use Rattle.terms.specs.Opening.{termsOf, customerOpenAnswer}
 use Rattle.terms.specs.Rows.{CustomerOpenRow}
 use Rattle.terms.specs.Rows.CustomerOpenRow.{sheet, three, six, zero}
 use Rattle.terms.proofs.Exactly.{open-zero}
-use Rattle.customer.specs.declared.Customer.{Customer}
-use Rattle.customer.specs.Answers.{wholeAnswer, decideAnswer, overfull, customerDayAnswer, customerCloseAnswer}
-use Rattle.customer.specs.Rows.{CustomerDayRow, SeriesRow, DecideRow}
-use Rattle.customer.specs.Rows.CustomerDayRow.{over, next}
+use Rattle.customer_days.specs.declared.Customer.{Customer}
+use Rattle.customer.specs.Answers.{wholeAnswer, decideAnswer}
+use Rattle.customer_days.specs.Days.{overfull, customerDayAnswer, customerCloseAnswer}
+use Rattle.customer.specs.Rows.{SeriesRow, DecideRow}
+use Rattle.customer_days.specs.Rows.{CustomerDayRow}
+use Rattle.customer_days.specs.Rows.CustomerDayRow.{over, next}
 use Rattle.customer.specs.Rows.SeriesRow.{four, five, judged}
 use Rattle.customer.specs.Rows.DecideRow.{refused, series}
 use Rattle.customer.specs.Demand.{basisRun, basisFigures}
-use Rattle.customer.proofs.Exactly.{customer-day-exactly, decide-exactly}
-use Rattle.customer.proofs.Whole.{judge-five}
+use Rattle.customer.proofs.Exactly.{decide-exactly}
+use Rattle.customer_days.proofs.Exactly.{customer-day-exactly}
+use Rattle.customer_days.proofs.Whole.{judge-five}
 use Rattle.demands.specs.Module.{ours, Refused}
 use Rattle.demands.specs.Refusals.{zeroAlone, withFigures, yearColumn, Carries, CarriesPlace, FirstToday, Carried}
 

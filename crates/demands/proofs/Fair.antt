@@ -25,7 +25,7 @@ use Rattle.terms.specs.Opening.{termsOf, customerOpenAnswer}
 use Rattle.terms.proofs.Exactly.{open-legal}
 use Rattle.customer.specs.Answers.{judged, decideAnswer}
 use Rattle.customer.specs.Demand.{LegalYear, basisFigures}
-use Rattle.customer.proofs.Whole.{days-whole}
+use Rattle.customer_days.proofs.Whole.{days-whole}
 use Rattle.customer.proofs.Demand.{whole-one, same-answer, pays-no-more, stays-accepted, accepted-fair}
 use Rattle.sheet.specs.Rows.{ReadRow}
 use Rattle.sheet.specs.Rows.ReadRow.{zero}

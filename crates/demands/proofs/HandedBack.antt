@@ -16,13 +16,16 @@ use Rattle.readings.proofs.Runs.{period-run, year-run}
 use Rattle.readings.proofs.Given.{offered-stays}
 use Rattle.readings.proofs.Machines.{Holds, holds-taken, thirteen-full}
 use Rattle.sheet.specs.Bytes.{sheetSize}
-use Rattle.grid.specs.declared.Grid.{Grid}
-use Rattle.grid.specs.Answers.{gridOpenAnswer, openGrid, shutGrid, gridDayAnswer, dayGrid, gridCloseAnswer}
-use Rattle.grid.specs.Rows.{OpenRow, CloseRow}
+use Rattle.grid_days.specs.declared.Grid.{Grid}
+use Rattle.grid.specs.Answers.{gridOpenAnswer}
+use Rattle.grid_days.specs.Days.{openGrid, shutGrid, gridDayAnswer, dayGrid, gridCloseAnswer}
+use Rattle.grid.specs.Rows.{OpenRow}
+use Rattle.grid_days.specs.Rows.{CloseRow}
 use Rattle.grid.specs.Rows.OpenRow.{one, two, zero}
-use Rattle.grid.specs.Rows.CloseRow.{fourteen, early, seven, one, two, zero}
-use Rattle.grid.proofs.Exactly.{open-exactly, close-exactly}
-use Rattle.grid.proofs.Whole.{holding as gridHolding, machine as gridMachine, opens-empty}
+use Rattle.grid_days.specs.Rows.CloseRow.{fourteen, early, seven, one, two, zero}
+use Rattle.grid.proofs.Exactly.{open-exactly}
+use Rattle.grid_days.proofs.Exactly.{close-exactly}
+use Rattle.grid_days.proofs.Whole.{holding as gridHolding, machine as gridMachine, opens-empty}
 use Rattle.tariff.specs.Rows.{JudgeRow}
 use Rattle.tariff.specs.Rows.JudgeRow.{two, six, eight, nine, ten, eleven, zero}
 use Rattle.tariff.proofs.Answered.{number-is}
@@ -31,14 +34,14 @@ use Rattle.figures.specs.Figures.{figuresOf}
 use Rattle.terms.specs.declared.Terms.{Terms}
 use Rattle.terms.specs.Basis.{Basis}
 use Rattle.terms.specs.Opening.{termsOf, customerOpenAnswer}
-use Rattle.customer.proofs.Answered.{opened-state}
-use Rattle.customer.specs.declared.Customer.{Customer}
-use Rattle.customer.specs.Answers.{shutCustomer, sumMost, customerDayAnswer, dayCustomer, customerCloseAnswer, openCustomer}
-use Rattle.customer.specs.Rows.{CustomerCloseRow}
-use Rattle.customer.specs.Rows.CustomerCloseRow.{early, judged}
+use Rattle.customer_days.proofs.Steps.{opened-state}
+use Rattle.customer_days.specs.declared.Customer.{Customer}
+use Rattle.customer_days.specs.Days.{shutCustomer, sumMost, customerDayAnswer, dayCustomer, customerCloseAnswer, openCustomer}
+use Rattle.customer_days.specs.Rows.{CustomerCloseRow}
+use Rattle.customer_days.specs.Rows.CustomerCloseRow.{early, judged}
 use Rattle.customer.specs.Demand.{basisRun, basisDays}
-use Rattle.customer.proofs.Exactly.{customer-close-exactly}
-use Rattle.customer.proofs.Whole.{holding as customerHolding, machine as customerMachine, opens-holding, legal-sum}
+use Rattle.customer_days.proofs.Exactly.{customer-close-exactly}
+use Rattle.customer_days.proofs.Whole.{holding as customerHolding, machine as customerMachine, opens-holding, legal-sum}
 use Rattle.demands.specs.Module.{ours, gridAfter, customerAfter, Refused}
 use Rattle.demands.specs.Refusals.{zeroAlone, HandedBack}
 use Rattle.demands.proofs.Refusals.{left-as-before, fixed-state}

@@ -24,13 +24,15 @@ use Rattle.terms.specs.Basis.{Basis, basisYear}
 use Rattle.terms.specs.Opening.{termsOf}
 use Rattle.terms.specs.Rows.{CustomerOpenRow}
 use Rattle.terms.specs.Rows.CustomerOpenRow.{sheet, three, six, zero}
-use Rattle.customer.specs.declared.Customer.{Customer}
-use Rattle.customer.specs.Rows.{CustomerDayRow, SeriesRow, DecideRow}
-use Rattle.customer.specs.Rows.CustomerDayRow.{over, next}
+use Rattle.customer_days.specs.declared.Customer.{Customer}
+use Rattle.customer.specs.Rows.{SeriesRow, DecideRow}
+use Rattle.customer_days.specs.Rows.{CustomerDayRow}
+use Rattle.customer_days.specs.Rows.CustomerDayRow.{over, next}
 use Rattle.customer.specs.Rows.SeriesRow.{four, five, judged}
 use Rattle.customer.specs.Rows.DecideRow.{refused, series}
 use Rattle.customer.specs.Demand.{basisRun, basisDays}
-use Rattle.customer.proofs.Exactly.{customer-day-exactly, decide-exactly}
+use Rattle.customer.proofs.Exactly.{decide-exactly}
+use Rattle.customer_days.proofs.Exactly.{customer-day-exactly}
 use Rattle.sheet.specs.Rows.{ReadRow}
 use Rattle.sheet.specs.Rows.ReadRow.{malformed, one, two, full, zero}
 use Rattle.demands.specs.Module.{ours}

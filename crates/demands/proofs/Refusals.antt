@@ -5,12 +5,13 @@ use borrow.Author.Tests.{ne-eqb}
 use lib.ListN.{length}
 use Rattle.answers.specs.Said.{Said, after}
 use Rattle.sheet.specs.Answers.{readAnswer, readSheet, writeAnswer, written}
-use Rattle.grid.specs.Answers.{windowsAnswer, windowsBuffer, gridOpenAnswer, shutGrid, gridDayAnswer, dayGrid, gridCloseAnswer, gridCloseBuffer}
-use Rattle.grid.proofs.Steps.{close-short}
-use Rattle.grid.proofs.Only.{shut-day as grid-shut-day, shut-close as grid-shut-close}
+use Rattle.grid.specs.Answers.{windowsAnswer, windowsBuffer, gridOpenAnswer}
+use Rattle.grid_days.specs.Days.{shutGrid, gridDayAnswer, dayGrid, gridCloseAnswer, gridCloseBuffer}
+use Rattle.grid_days.proofs.Steps.{close-short}
+use Rattle.grid_days.proofs.Only.{shut-day as grid-shut-day, shut-close as grid-shut-close}
 use Rattle.terms.specs.Opening.{customerOpenAnswer}
-use Rattle.customer.specs.Answers.{openCustomer, customerDayAnswer, dayCustomer}
-use Rattle.customer.proofs.Only.{shut-day as customer-shut-day, shut-close as customer-shut-close}
+use Rattle.customer_days.specs.Days.{openCustomer, customerDayAnswer, dayCustomer}
+use Rattle.customer_days.proofs.Only.{shut-day as customer-shut-day, shut-close as customer-shut-close}
 use Rattle.demands.specs.Module.{ours, Refused}
 use Rattle.demands.specs.Refusals.{LeftAsBefore, FixedState}
 

@@ -26,7 +26,7 @@ use Rattle.sheet.specs.Bytes.{sheetSize, windowAt, windowsIn, sheetIn}
 use Rattle.sheet.specs.Rows.{ReadRow, WriteRow}
 use Rattle.sheet.specs.Rows.ReadRow.{malformed, one, two, full, zero}
 use Rattle.sheet.specs.Rows.WriteRow.{zero}
-use Rattle.grid.specs.declared.Grid.{Grid}
+use Rattle.grid_days.specs.declared.Grid.{Grid}
 use Rattle.grid.specs.Answers.{gridOpenAnswer}
 use Rattle.tariff.specs.Answers.{payable}
 use Rattle.tariff.specs.Rows.{EligibleRow, ChargeRow, JudgeRow}
@@ -36,7 +36,7 @@ use Rattle.tariff.specs.Rows.JudgeRow.{two, six, eight, nine, ten, eleven, zero
 use Rattle.tariff.proofs.Answered.{number-is}
 use Rattle.tariff.specs.declared.Figures.{Figures}
 use Rattle.terms.specs.Basis.{Basis, basisRates}
-use Rattle.customer.specs.declared.Customer.{Customer}
+use Rattle.customer_days.specs.declared.Customer.{Customer}
 use Rattle.customer.specs.Demand.{basisRun, LegalYear, basisFigures}
 use Rattle.demands.specs.Module.{Module, gridEnd, gridWhole}
 use Rattle.demands.specs.Refusals.{zeroAlone}

@@ -27,7 +27,7 @@ use Rattle.tariff.proofs.Answered.{number-is}
 use Rattle.figures.specs.Figures.{sumOf, figuresOf}
 use Rattle.terms.specs.Basis.{Basis, basisYear}
 use Rattle.terms.specs.Opening.{customerOpenAnswer}
-use Rattle.customer.specs.declared.Customer.{Customer}
+use Rattle.customer_days.specs.declared.Customer.{Customer}
 use Rattle.customer.specs.Demand.{basisRun, LegalYear}
 use Rattle.demands.specs.Module.{Module, customerAfter}
 use Rattle.demands.specs.Refusals.{zeroAlone}

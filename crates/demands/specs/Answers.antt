@@ -23,16 +23,18 @@ use Rattle.sheet.specs.declared.Sheet.{Sheet}
 use Rattle.sheet.specs.Windows.{seasons, isSet}
 use Rattle.sheet.specs.Bytes.{sheetSize}
 use Rattle.sheet.specs.Rows.{ReadRow, WriteRow}
-use Rattle.grid.specs.declared.Grid.{Grid}
-use Rattle.grid.specs.Rows.{OpenRow, CloseRow, WindowsRow}
+use Rattle.grid_days.specs.declared.Grid.{Grid}
+use Rattle.grid.specs.Rows.{OpenRow, WindowsRow}
+use Rattle.grid_days.specs.Rows.{CloseRow}
 use Rattle.tariff.specs.declared.Rates.{Rates}
 use Rattle.tariff.specs.declared.Figures.{Figures}
 use Rattle.tariff.specs.Rows.{EligibleRow, ChargeRow, JudgeRow}
 use Rattle.figures.specs.Figures.{FirstPlace}
 use Rattle.terms.specs.Basis.{Basis, basisYear}
 use Rattle.terms.specs.Rows.{CustomerOpenRow}
-use Rattle.customer.specs.declared.Customer.{Customer}
-use Rattle.customer.specs.Rows.{CustomerDayRow, CustomerCloseRow, DecideRow}
+use Rattle.customer_days.specs.declared.Customer.{Customer}
+use Rattle.customer.specs.Rows.{DecideRow}
+use Rattle.customer_days.specs.Rows.{CustomerDayRow, CustomerCloseRow}
 use Rattle.customer.specs.Demand.{basisRun, basisDays, inWindow, LegalYear, basisFigures}
 use Rattle.demands.specs.Windows.{IsPeak, IsCurve, Kept}
 use Rattle.demands.specs.Module.{Module, gridEnd, gridWhole}

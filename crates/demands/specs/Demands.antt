@@ -4,11 +4,11 @@ use mathlib.Core.List.{List}
 use Prim.Native.Nat.{ℕ}
 use lib.ListN.{length}
 use Rattle.sheet.specs.declared.Sheet.{Sheet}
-use Rattle.grid.specs.declared.Grid.{Grid}
+use Rattle.grid_days.specs.declared.Grid.{Grid}
 use Rattle.tariff.specs.declared.Rates.{Rates}
 use Rattle.tariff.specs.declared.Figures.{Figures}
 use Rattle.terms.specs.Basis.{Basis}
-use Rattle.customer.specs.declared.Customer.{Customer}
+use Rattle.customer_days.specs.declared.Customer.{Customer}
 use Rattle.demands.specs.Module.{Module}
 use Rattle.demands.specs.Refusals.{LeftAsBefore, FixedState, HandedBack, Carried}
 use Rattle.demands.specs.Calendar.{Calendar}

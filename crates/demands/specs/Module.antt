@@ -12,15 +12,17 @@ use Rattle.readings.specs.Part.{dayPart}
 use Rattle.readings.specs.Days.{offered}
 use Rattle.sheet.specs.declared.Sheet.{Sheet}
 use Rattle.sheet.specs.Answers.{readAnswer, readSheet, writeAnswer, written as sheetWritten}
-use Rattle.grid.specs.declared.Grid.{Grid}
-use Rattle.grid.specs.Answers.{windowsAnswer, windowsBuffer, gridOpenAnswer, openGrid, gridDayAnswer, dayGrid, gridCloseAnswer, gridCloseBuffer}
+use Rattle.grid_days.specs.declared.Grid.{Grid}
+use Rattle.grid.specs.Answers.{windowsAnswer, windowsBuffer, gridOpenAnswer}
+use Rattle.grid_days.specs.Days.{openGrid, gridDayAnswer, dayGrid, gridCloseAnswer, gridCloseBuffer}
 use Rattle.tariff.specs.declared.Rates.{Rates}
 use Rattle.tariff.specs.declared.Figures.{Figures}
 use Rattle.tariff.specs.Decision.{eligibleAnswer, chargeAnswer, judgeAnswer}
 use Rattle.terms.specs.Basis.{Basis}
 use Rattle.terms.specs.Opening.{customerOpenAnswer}
-use Rattle.customer.specs.declared.Customer.{Customer}
-use Rattle.customer.specs.Answers.{customerDayAnswer, dayCustomer, customerCloseAnswer, openCustomer, decideAnswer}
+use Rattle.customer_days.specs.declared.Customer.{Customer}
+use Rattle.customer.specs.Answers.{decideAnswer}
+use Rattle.customer_days.specs.Days.{customerDayAnswer, dayCustomer, customerCloseAnswer, openCustomer}
 
 pub record Module : Type 0 where
   -- a calendar day: year, holiday list, day

@@ -21,14 +21,14 @@ use Rattle.readings.specs.Days.{takenDays}
 use Rattle.sheet.specs.declared.Sheet.{Sheet}
 use Rattle.sheet.specs.Bytes.{sheetSize}
 use Rattle.sheet.specs.Answers.{blank}
-use Rattle.grid.specs.declared.Grid.{Grid}
-use Rattle.grid.specs.Answers.{shutGrid}
+use Rattle.grid_days.specs.declared.Grid.{Grid}
+use Rattle.grid_days.specs.Days.{shutGrid}
 use Rattle.tariff.specs.declared.Rates.{Rates}
 use Rattle.tariff.specs.declared.Figures.{Figures}
 use Rattle.tariff.specs.Charges.{general, charge}
 use Rattle.terms.specs.Basis.{Basis, basisRates}
-use Rattle.customer.specs.declared.Customer.{Customer}
-use Rattle.customer.specs.Answers.{shutCustomer, sumMost}
+use Rattle.customer_days.specs.declared.Customer.{Customer}
+use Rattle.customer_days.specs.Days.{shutCustomer, sumMost}
 use Rattle.customer.specs.Demand.{basisRun, basisDays, basisFigures}
 use Rattle.demands.specs.Module.{Module, gridAfter, customerAfter, Refused}
 

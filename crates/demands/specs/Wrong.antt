@@ -19,13 +19,13 @@ use Rattle.readings.specs.Illegal.{LegalSeries}
 use Rattle.readings.specs.Part.{dayPart}
 use Rattle.readings.specs.Days.{offered, daysOf}
 use Rattle.sheet.specs.declared.Sheet.{Sheet}
-use Rattle.grid.specs.declared.Grid.{Grid}
+use Rattle.grid_days.specs.declared.Grid.{Grid}
 use Rattle.tariff.specs.declared.Rates.{Rates}
 use Rattle.tariff.specs.declared.Figures.{Figures}
 use Rattle.tariff.specs.Answers.{payable}
 use Rattle.figures.specs.Figures.{sumOf}
 use Rattle.terms.specs.Basis.{Basis}
-use Rattle.customer.specs.declared.Customer.{Customer}
+use Rattle.customer_days.specs.declared.Customer.{Customer}
 use Rattle.customer.specs.Demand.{basisRun, basisDays, LegalYear}
 use Rattle.demands.specs.Module.{Module, Refused}
 use Rattle.demands.specs.Answers.{sheetShown}

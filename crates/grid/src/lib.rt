@@ -1,15 +1,11 @@
-// The high-load windows of a grid series, whole and day by day.
-// Main theorem: days given one by one, refused ones among them, close as the whole series of the taken days, sheet
-// bytes included (`days-whole`, proofs/Whole).
+// The high-load windows of a whole grid series, as a sheet. It meets specs/Answers. Rules 4.1 to 4.7 and 8.2; the same
+// day by day is room `grid_days`.
+// Main theorem: each number is answered exactly when its row holds (`windows-exactly`, proofs/Exactly).
 ghost use mathlib.Core.Path.{_≡_};
 ghost use lib.ListN.{length};
-ghost use Rattle.answers.specs.Ruling.{gridMost};
-ghost use Rattle.readings.specs.declared.Run.the-variants.{Period};
-ghost use Rattle.readings.specs.Legal.{highestOf};
-ghost use Rattle.readings.specs.Days.{nextAnswer};
 ghost use Rattle.sheet.specs.Answers.{saidOfSheet};
 ghost use Rattle.sheet.specs.Windows.{flatWindows};
-ghost use Rattle.grid.specs.Answers.{saidOfGrid, Gives, finishAnswer, finished, windowsAnswer, windowsBuffer, gridOpenAnswer, openGrid, shutGrid, gridDayAnswer, dayGrid, dayCurves, gridCloseAnswer, gridCloseBuffer};
+ghost use Rattle.grid.specs.Answers.{saidOfGrid, Gives, finishAnswer, finished, windowsAnswer, windowsBuffer};
 use answers::Place;
 use readings::Run;
 use sheet::Sheet;
@@ -28,20 +24,6 @@ pub enum GridAnswer {
     DayOut,
 }
 
-// A series that is given day by day: the days taken so far, and the curves of their readings, flat.
-pub struct Grid {
-    pub year: u16,
-    pub level: u8,
-    pub seen: u16,
-    pub curves: [u32; sheet::WINDOW_PLACES],
-}
-
-// An answer, and the next state beside it.
-pub struct Stepped {
-    pub answer: GridAnswer,
-    pub grid: Grid,
-}
-
 fn as_grid_answer(answer: SheetAnswer) -> GridAnswer
     ensures { λ r. ⌜ saidOfGrid r ≡ saidOfSheet answer ⌝ }
 {
@@ -55,7 +37,7 @@ fn as_grid_answer(answer: SheetAnswer) -> GridAnswer
 }
 
 // The chosen quarters of four seasons, one season after the other, as a sheet holds them.
-pub fn flat_windows(
+fn flat_windows(
     chosen: [[bool; answers::DAY_QUARTERS]; sheet::SEASONS],
 ) -> [bool; sheet::WINDOW_PLACES]
     ensures { λ r. ⌜ r ≡ flatWindows chosen ⌝ }
@@ -67,18 +49,18 @@ pub fn flat_windows(
     out
 }
 
-// All days are in: 7 for a peak of zero, else the windows are chosen and their sheet is written.
-fn finish(
+// What curves are answered once all days are in: 7 for a peak of zero, else the windows are chosen and their sheet is
+// written into a lent buffer. Any curves have an answer.
+pub fn finish(
     year: u16,
     level: u8,
     curves: &[u32; sheet::WINDOW_PLACES],
-    peak: u32,
     out: &mut [u8],
 ) -> GridAnswer
-    requires { ⌜ peak ≡ highestOf (now curves) ⌝ }
     ensures { λ r. ⌜ Gives r (finishAnswer year level (now (curves .entry)) (length (now (out .entry))))
         (now (out .exit)) (finished year level (now (curves .entry)) (now (out .entry))) ⌝ }
 {
+    let peak = legal_readings::highest(curves);
     if peak == 0 {
         return GridAnswer::NoPeak;
     }
@@ -121,118 +103,5 @@ pub fn windows(year: u16, level: u8, series: &[u32], out: &mut [u8]) -> GridAnsw
             answers::GRID_MOST,
         ));
     }
-    finish(year, level, &curves, peak, out)
-}
-
-// What a day is answered where so many days are taken: 13, then 4, then 5.
-fn day_answer(year: u16, seen: u16, day: &[u32]) -> GridAnswer
-    ensures { λ r. ⌜ saidOfGrid r ≡ nextAnswer (Period year) gridMost seen (now (day .entry)) ⌝ }
-{
-    if periods::period_days(year) <= seen {
-        return GridAnswer::DayOut;
-    }
-    if day.len() != readings::day_span(Run::Period(year), seen).len {
-        return GridAnswer::WrongLength;
-    }
-    let first = legal_readings::first_above(day, answers::GRID_MOST);
-    if first < day.len() {
-        return GridAnswer::BadReading(Place {
-            day: seen + 1,
-            position: first as u16,
-        });
-    }
-    GridAnswer::Done
-}
-
-// One day more, laid over lent curves where so many days are taken: for a host that keeps the curves itself. Refuses
-// 13, 4, 5 in this order, and then changes no value.
-pub fn take_day(
-    curves: &mut [u32; sheet::WINDOW_PLACES],
-    year: u16,
-    seen: u16,
-    day: &[u32],
-) -> GridAnswer
-    ensures { λ r. ⌜ Gives r (nextAnswer (Period year) gridMost seen (now (day .entry)))
-        (now (curves .exit)) (dayCurves year (now (curves .entry)) seen (now (day .entry))) ⌝ }
-{
-    let answer = day_answer(year, seen, day);
-    let GridAnswer::Done = answer else {
-        return answer;
-    };
-    grid_curves::lay_day(&mut *curves, year, seen, day);
-    answer
-}
-
-impl Grid {
-    // Opens a series that comes day by day. Refuses 1, 2; a refusal hands back one fixed state, on which every day and
-    // every closing is 13.
-    pub fn open(year: u16, level: u8) -> Stepped
-        ensures { λ r. ⌜ Gives (r .answer) (gridOpenAnswer year level) (r .grid) (openGrid year level) ⌝ }
-    {
-        if answers::year_out(year) {
-            return Stepped {
-                answer: GridAnswer::YearOut,
-                grid: Grid::shut(),
-            };
-        }
-        if answers::level_out(level) {
-            return Stepped {
-                answer: GridAnswer::LevelOut,
-                grid: Grid::shut(),
-            };
-        }
-        Stepped {
-            answer: GridAnswer::Done,
-            grid: Grid {
-                year,
-                level,
-                seen: 0,
-                curves: [0; sheet::WINDOW_PLACES],
-            },
-        }
-    }
-
-    fn shut() -> Grid
-        ensures { λ r. ⌜ r ≡ shutGrid ⌝ }
-    {
-        Grid {
-            year: 0,
-            level: 0,
-            seen: readings::SHUT_DAYS,
-            curves: [0; sheet::WINDOW_PLACES],
-        }
-    }
-
-    // One day more, laid over the curves of the state that is handed back. Refuses 13, 4, 5 in this order, and then
-    // hands back the state as it was.
-    pub fn day(self, day: &[u32]) -> Stepped
-        ensures { λ r. ⌜ Gives (r .answer) (gridDayAnswer self (now (day .entry))) (r .grid) (dayGrid self (now (day .entry))) ⌝ }
-    {
-        let year = self.year;
-        let seen = self.seen;
-        let mut grid = self;
-        let answer = take_day(&mut grid.curves, year, seen, day);
-        let GridAnswer::Done = answer else {
-            return Stepped { answer, grid };
-        };
-        grid.seen = seen + 1;
-        Stepped { answer, grid }
-    }
-
-    // The windows of the days taken, as a sheet in a lent buffer. Refuses 14, 13, 7 in this order, and then changes no
-    // byte.
-    pub fn close(self, out: &mut [u8]) -> GridAnswer
-        ensures { λ r. ⌜ Gives r (gridCloseAnswer self (length (now (out .entry))))
-            (now (out .exit)) (gridCloseBuffer self (now (out .entry))) ⌝ }
-    {
-        let curves = self.curves;
-        if out.len() < sheet::SHEET_SIZE {
-            return GridAnswer::Short;
-        }
-        if self.seen != periods::period_days(self.year) {
-            return GridAnswer::DayOut;
-        }
-        let peak = legal_readings::highest(&curves);
-        finish(self.year, self.level, &curves, peak, out)
-    }
+    finish(year, level, &curves, out)
 }

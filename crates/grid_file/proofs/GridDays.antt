@@ -8,10 +8,11 @@ use Prim.Native.Nat.{ℕ}
 use lib.Dec.{eqb}
 use Rattle.answers.specs.Said.{Said}
 use Rattle.answers.specs.declared.Place.{Place}
-use Rattle.grid.specs.declared.Grid.{Grid}
+use Rattle.grid_days.specs.declared.Grid.{Grid}
 use Rattle.grid.specs.declared.GridAnswer.{GridAnswer}
 use Rattle.grid.specs.declared.GridAnswer.the-variants.{Done, Short, YearOut, LevelOut, WrongLength, BadReading, NoPeak, Malformed, DayOut}
-use Rattle.grid.specs.Answers.{saidOfGrid, gridDayAnswer, dayGrid}
+use Rattle.grid.specs.Answers.{saidOfGrid}
+use Rattle.grid_days.specs.Days.{gridDayAnswer, dayGrid}
 use Rattle.fields.specs.declared.Stage.{Stage}
 use Rattle.fields.specs.declared.Stage.the-variants.{Refused}
 use Rattle.fields.specs.Stages.{stageOf, dayStage}

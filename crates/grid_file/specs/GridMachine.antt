@@ -7,8 +7,8 @@ use Rattle.answers.specs.Said.{Said}
 use Rattle.periods.specs.Period.{periodDays}
 use Rattle.readings.specs.declared.Run.the-variants.{Period}
 use Rattle.sheet.specs.Bytes.{sheetSize}
-use Rattle.grid.specs.declared.Grid.{Grid}
-use Rattle.grid.specs.Answers.{gridDayAnswer, dayGrid, gridCloseAnswer, gridCloseBuffer}
+use Rattle.grid_days.specs.declared.Grid.{Grid}
+use Rattle.grid_days.specs.Days.{gridDayAnswer, dayGrid, gridCloseAnswer, gridCloseBuffer}
 use Rattle.fields.specs.declared.Stage.{Stage}
 use Rattle.fields.specs.declared.Stage.the-variants.{Going}
 use Rattle.fields.specs.Machine.{Reader, wants, fed}

@@ -13,8 +13,8 @@ ghost use Rattle.fields.specs.Machine.{fieldFed, dayFed, endFed};
 ghost use Rattle.grid_file.specs.GridMachine.{gridStart, gridEnded, gridReader, gridWants, gridFed};
 use fields::Span;
 use fields::Stage;
-use grid::Grid;
 use grid::GridAnswer;
+use grid_days::Grid;
 use readings::Run;
 
 // A grid file that is read: the fields taken so far, the header's bytes, the days taken so far, and where it stands.

@@ -4,8 +4,8 @@ use mathlib.Core.List.{List, [], _∷_}
 use Prim.Native.Nat.{ℕ, _+_}
 use lib.ListN.{getD}
 use Rattle.encoding.specs.Bytes.{twoAt, markSize, versionSize, yearSize}
-use Rattle.grid.specs.declared.Grid.{Grid}
-use Rattle.grid.specs.Answers.{openGrid}
+use Rattle.grid_days.specs.declared.Grid.{Grid}
+use Rattle.grid_days.specs.Days.{openGrid}
 use Rattle.fields.specs.Layout.{Field, Layout, layoutOf}
 use Rattle.fields.specs.Common.{markField, versionField, yearField, levelField}
 

@@ -5,7 +5,7 @@ ghost use mathlib.Core.Path.{_≡_};
 ghost use Rattle.fields.specs.Layout.{fieldSpan};
 ghost use Rattle.grid_head.specs.Header.{gridLayout, openedGrid};
 use fields::Span;
-use grid::Grid;
+use grid_days::Grid;
 
 // Fields of the header, counted from 0: where they start, and how wide they are. The header's bytes.
 const FIELDS: usize = 4;

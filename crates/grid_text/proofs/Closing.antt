@@ -13,8 +13,9 @@ use Rattle.readings.specs.Legal.{highestOf}
 use Rattle.sheet.specs.Windows.{tooFull}
 use Rattle.sheet.specs.Bytes.{sheetSize}
 use Rattle.sheet.specs.Answers.{readSheet, writeAnswer}
-use Rattle.grid.specs.declared.Grid.{Grid}
-use Rattle.grid.specs.Answers.{sheetOf, finishAnswer, gridCloseAnswer, gridCloseBuffer}
+use Rattle.grid_days.specs.declared.Grid.{Grid}
+use Rattle.grid.specs.Answers.{sheetOf, finishAnswer}
+use Rattle.grid_days.specs.Days.{gridCloseAnswer, gridCloseBuffer}
 use Rattle.lines.specs.Figures.{refusedLine}
 use Rattle.grid_file.specs.Grid.{blankSheet}
 use Rattle.grid_file.specs.GridMachine.{closedGrid}

@@ -7,7 +7,7 @@ use lib.Dec.{eqb}
 use Rattle.answers.specs.Said.{Said, badPlace}
 use Rattle.sheet.specs.declared.Sheet.{Sheet}
 use Rattle.sheet.specs.Answers.{readSheet}
-use Rattle.grid.specs.declared.Grid.{Grid}
+use Rattle.grid_days.specs.declared.Grid.{Grid}
 use Rattle.fields.specs.declared.Stage.{Stage}
 use Rattle.fields.specs.declared.Stage.the-variants.{Going, Refused, BadReading, Complete}
 use Rattle.lines.specs.Figures.{lineFigures, refusedLine}

@@ -8,7 +8,7 @@ ghost use Rattle.grid_file.specs.GridMachine.{closedGrid};
 ghost use Rattle.grid_text.specs.Text.{windowLines, gridText};
 use answers::Place;
 use fields::Stage;
-use grid::Grid;
+use grid_days::Grid;
 use grid_file::GridFile;
 
 // A refusal's line: a number alone, or 5 with its place.

@@ -22,10 +22,12 @@ use Rattle.readings.proofs.Legal.{bad-run}
 use Rattle.readings.proofs.Days.{series-legal}
 use Rattle.terms.specs.declared.Terms.{Terms}
 use Rattle.terms.specs.Opening.{termsOf}
-use Rattle.customer.specs.declared.Customer.{Customer}
-use Rattle.customer.specs.Answers.{freshCustomer, shutCustomer, customerDayAnswer, dayCustomer, customerCloseAnswer, decideAnswer}
-use Rattle.customer.proofs.Answered.{opened-state, decide-whole}
-use Rattle.customer.proofs.Whole.{holding, opens-holding, machine, closes-holding}
+use Rattle.customer_days.specs.declared.Customer.{Customer}
+use Rattle.customer.specs.Answers.{decideAnswer}
+use Rattle.customer_days.specs.Days.{freshCustomer, shutCustomer, customerDayAnswer, dayCustomer, customerCloseAnswer}
+use Rattle.customer.proofs.Answered.{decide-whole}
+use Rattle.customer_days.proofs.Steps.{opened-state}
+use Rattle.customer_days.proofs.Whole.{holding, opens-holding, machine, closes-holding}
 use Rattle.fields.specs.Layout.{Layout, startOf, headSize, stops}
 use Rattle.fields.specs.Series.{readingsOf, seriesIn, daySize, fileSize}
 use Rattle.fields.specs.File.{fileAnswer, part, driven}

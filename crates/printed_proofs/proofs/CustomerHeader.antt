@@ -21,7 +21,7 @@ use Rattle.sheet.specs.Windows.{tooMany}
 use Rattle.sheet.specs.Bytes.{mark, yearAt, sheetSize, seasonBytes}
 use Rattle.sheet.proofs.Bytes.{set-same}
 use Rattle.terms.specs.Basis.{basis}
-use Rattle.customer.specs.Answers.{openCustomer}
+use Rattle.customer_days.specs.Days.{openCustomer}
 use Rattle.fields.specs.Layout.{Layout, fieldAt, startOf, headSize}
 use Rattle.fields.proofs.Bytes.{part-long, part-at, Same}
 use Rattle.fields.proofs.Header.{field-more, field-rises}

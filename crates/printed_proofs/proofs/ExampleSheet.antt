@@ -32,7 +32,7 @@ use Rattle.windows.specs.Chosen.{curvesOf}
 use Rattle.windows.proofs.Forty.{chosen-roomy}
 use Rattle.grid_curves.specs.Curves.{curveAt, flatCurves}
 use Rattle.grid.specs.Answers.{sheetOf, windowsAnswer, windowsBuffer}
-use Rattle.grid.proofs.Steps.{open-done}
+use Rattle.grid.proofs.Answered.{open-done}
 use Rattle.grid.proofs.Answered.{finish-sheet, whole-finish}
 use Rattle.demands.specs.Cases.{exampleCurves, exampleSheet}
 use Rattle.demands.proofs.Cases.{example-bytes}
@@ -152,7 +152,7 @@ module _ (buffer : List ℕ) (room : sheetSize ≤ length buffer) where
   lays : (only 0 ≡ windowsAnswer 2025 5 gridSeries (length buffer)) × (next ≡ windowsBuffer 2025 5 gridSeries buffer)
   lays =
       let w = write-taken sheet buffer next writes (ap (λ (b : List ℕ). b ++ drop sheetSize buffer) (sym example-bytes)) in
-      whole-finish 2025 5 gridSeries buffer room (open-done 2025 5 years-in level-in .0) grid-legal curves-are
+      whole-finish 2025 5 gridSeries buffer room (open-done 2025 5 years-in level-in) grid-legal curves-are
       (finish-sheet 2025 5 exampleCurves buffer (λ z. omega (arith, peak-is)) (w .0) (w .1))
 
   pub sheet-laid : ExampleLaid buffer

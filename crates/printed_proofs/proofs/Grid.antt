@@ -26,10 +26,11 @@ use Rattle.readings.specs.Days.{seriesAnswer}
 use Rattle.readings.proofs.Runs.{start-none, run-all, period-run}
 use Rattle.readings.proofs.Days.{series-legal, next-bad, next-taken}
 use Rattle.sheet.specs.Bytes.{sheetSize}
-use Rattle.grid.specs.declared.Grid.{Grid}
-use Rattle.grid.specs.Answers.{gridOpenAnswer, openGrid, gridDayAnswer, dayGrid, gridCloseBuffer, windowsAnswer}
-use Rattle.grid.proofs.Steps.{open-done}
-use Rattle.grid.proofs.Whole.{holding, machine, opens-empty, closes-whole}
+use Rattle.grid_days.specs.declared.Grid.{Grid}
+use Rattle.grid.specs.Answers.{gridOpenAnswer, windowsAnswer}
+use Rattle.grid_days.specs.Days.{openGrid, gridDayAnswer, dayGrid, gridCloseBuffer}
+use Rattle.grid.proofs.Answered.{open-done}
+use Rattle.grid_days.proofs.Whole.{holding, machine, opens-empty, closes-whole}
 use Rattle.fields.specs.Layout.{Layout, startOf, headSize, stops}
 use Rattle.fields.specs.Series.{readingsOf, seriesIn, daySize, fileSize}
 use Rattle.fields.specs.File.{part, driven}
@@ -155,7 +156,7 @@ module _ (bytes : List ℕ) where
     passed k h = field-held l bytes k (p .fails k h) .1
 
     opens : gridOpenAnswer y level ≡ only 0
-    opens = sym (open-done y level (year-legal (passed 2 (omega arith))) (level-legal (passed 3 (omega arith))) .0)
+    opens = sym (open-done y level (year-legal (passed 2 (omega arith))) (level-legal (passed 3 (omega arith))))
 
     same-head : Same 8 (held 4) bytes
     same-head i h = buffer-same (replicate 8 0) bytes (startOf l 4) (fields-held l bytes 4 p) i (omega (arith, grid-size bytes))

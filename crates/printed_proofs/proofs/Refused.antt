@@ -24,7 +24,7 @@ use Rattle.tariff.specs.Prices.{rowOut, pricesOut}
 use Rattle.terms.specs.Opening.{customerOpenAnswer}
 use Rattle.terms.proofs.Answered.{open-read, open-holidays, open-prices}
 use Rattle.grid.specs.Answers.{gridOpenAnswer}
-use Rattle.grid.proofs.Steps.{open-year, open-level}
+use Rattle.grid.proofs.Answered.{open-year, open-level}
 use Rattle.fields.specs.Layout.{Layout, headSize}
 use Rattle.fields.proofs.Common.{refused-as}
 use Rattle.grid_head.specs.Header.{gridLayout, gridYear, gridLevel}
@@ -48,9 +48,9 @@ DecidedOnce opening l k = FirstRefused l k → opening ≡ only (l .refusal k)
 pub grid-once : (bytes : List ℕ) (k : ℕ) → 2 ≤ k → DecidedOnce (gridOpenAnswer (gridYear bytes) (gridLevel bytes)) (gridLayout bytes) k
 grid-once bytes zero m r = absurd (omega arith)
 grid-once bytes (suc zero) m r = absurd (omega arith)
-grid-once bytes (suc (suc zero)) m r = refused-as _ 0 (GridFields.year-tested bytes) (r .refused) (λ t. open-year _ _ t .0)
+grid-once bytes (suc (suc zero)) m r = refused-as _ 0 (GridFields.year-tested bytes) (r .refused) (open-year _ _)
 grid-once bytes (suc (suc (suc zero))) m r =
-    refused-as _ 1 (GridFields.level-tested bytes) (r .refused) (λ t. open-level _ _ (GridFields.year-legal bytes (r .before 2 (omega arith))) t .0)
+    refused-as _ 1 (GridFields.level-tested bytes) (r .refused) (open-level _ _ (GridFields.year-legal bytes (r .before 2 (omega arith))))
 grid-once bytes (suc (suc (suc (suc k)))) m r = absurd (omega (arith, r .field, grid-count bytes))
 
 -- the fields of a customer file that the opening sees: those of the sheet, the holidays and the prices

@@ -10,8 +10,8 @@ use Rattle.readings.specs.declared.Run.the-variants.{Year}
 use Rattle.readings.specs.Days.{offered, daysOf}
 use Rattle.readings.specs.Part.{dayPart}
 use Rattle.terms.specs.Basis.{basis}
-use Rattle.customer.specs.declared.Customer.{Customer}
-use Rattle.customer.specs.Answers.{dayCustomer}
+use Rattle.customer_days.specs.declared.Customer.{Customer}
+use Rattle.customer_days.specs.Days.{dayCustomer}
 use Rattle.bench_customer.specs.Days.{customerAfterDays}
 use Rattle.readings.proofs.Given.{days-none, days-more}
 use Rattle.bench_customer.proofs.all_customer_days.Statement.{statement}

@@ -4,7 +4,7 @@ use mathlib.Core.Path.{ap, _∙_}
 use borrow.Author.Needs.{needs}
 use Rattle.tariff.specs.declared.Prices.{Prices}
 use Rattle.terms.specs.Basis.{basis}
-use Rattle.customer.specs.Answers.{customerCloseAnswer}
+use Rattle.customer_days.specs.Days.{customerCloseAnswer}
 use Rattle.answer_numbers.specs.Numbers.{numbersOf}
 use Rattle.bench_customer.specs.Days.{customerDaysAnswer}
 use Rattle.bench_customer.proofs.bench_customer_days.Statement.{statement}

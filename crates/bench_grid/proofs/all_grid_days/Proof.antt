@@ -9,8 +9,8 @@ use Rattle.periods.specs.Period.{periodDays}
 use Rattle.readings.specs.declared.Run.the-variants.{Period}
 use Rattle.readings.specs.Days.{offered, daysOf}
 use Rattle.readings.specs.Part.{dayPart}
-use Rattle.grid.specs.declared.Grid.{Grid}
-use Rattle.grid.specs.Answers.{dayGrid}
+use Rattle.grid_days.specs.declared.Grid.{Grid}
+use Rattle.grid_days.specs.Days.{dayGrid}
 use Rattle.bench_grid.specs.Days.{gridAfterDays}
 use Rattle.readings.proofs.Given.{days-none, days-more}
 use Rattle.bench_grid.proofs.all_grid_days.Statement.{statement}

@@ -3,8 +3,8 @@
 use mathlib.Core.Path.{ap, _∙_}
 use borrow.Author.Needs.{needs}
 use lib.ListN.{length}
-use Rattle.grid.specs.declared.Grid.{Grid}
-use Rattle.grid.specs.Answers.{gridCloseAnswer, gridCloseBuffer}
+use Rattle.grid_days.specs.declared.Grid.{Grid}
+use Rattle.grid_days.specs.Days.{gridCloseAnswer, gridCloseBuffer}
 use Rattle.answer_numbers.specs.Numbers.{numbersOf}
 use Rattle.bench_grid.proofs.bench_grid_days.Statement.{statement}
 use Rattle.bench_grid.proofs.bench_grid_days.Tie as tie

@@ -8,7 +8,7 @@ use lib.Dec.{eqb}
 use lib.ListN.{length, take, drop}
 use lib.Seq.{length-take-le}
 use Rattle.terms.specs.Basis.{basis}
-use Rattle.customer.specs.Answers.{openCustomer}
+use Rattle.customer_days.specs.Days.{openCustomer}
 use Rattle.customer_head.specs.Header.{holidaysOf, openedIn}
 use Rattle.customer_head.proofs.CustomerLayout.{sheet-held}
 use Rattle.customer_head.proofs.opened.Statement.{statement}

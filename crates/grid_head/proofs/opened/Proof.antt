@@ -2,7 +2,7 @@
 -- Assumes nothing.
 use mathlib.Core.Path.{_∙_}
 use borrow.Author.Needs.{needs}
-use Rattle.grid.specs.Answers.{openGrid}
+use Rattle.grid_days.specs.Days.{openGrid}
 use Rattle.grid_head.proofs.opened.Statement.{statement}
 use Rattle.grid_head.proofs.opened.Tie as tie
 

@@ -5,8 +5,8 @@ use borrow.Author.Needs.{needs}
 use Rattle.answers.specs.Said.{Said}
 use Rattle.sheet.specs.Bytes.{sheetSize}
 use Rattle.sheet.specs.Answers.{ReadSaid, readSheet}
-use Rattle.grid.specs.declared.Grid.{Grid}
-use Rattle.grid.specs.Answers.{gridCloseAnswer}
+use Rattle.grid_days.specs.declared.Grid.{Grid}
+use Rattle.grid_days.specs.Days.{gridCloseAnswer}
 use Rattle.answer_numbers.specs.declared.Numbers.{Numbers}
 use Rattle.lines.proofs.Text.{put-as}
 use Rattle.grid_text.specs.Text.{sheetText}

@@ -7,7 +7,7 @@ use Rattle.ranges.specs.Ranges.{joined, anyOver}
 use Rattle.encoding.specs.Bytes.{otherMark}
 use Rattle.sheet.specs.Answers.{readAnswer}
 use Rattle.terms.specs.Opening.{customerOpenAnswer}
-use Rattle.customer.specs.Answers.{shutCustomer, openCustomer}
+use Rattle.customer_days.specs.Days.{shutCustomer, openCustomer}
 use Rattle.customer_head.specs.Header.{customerHeadMost, openedIn}
 use Rattle.fields.specs.declared.Stage.the-variants.{Going}
 use Rattle.customer_file.proofs.CustomerFile.start.Statement.{statement}
