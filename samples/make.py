@@ -1,10 +1,11 @@
 #!/usr/bin/env python3
-"""Makes the files of this folder, and beside each the text that its program must print, from document 01.
+"""Makes the files of this folder, and beside each the text that its program must print, by docs/RULES.md.
 
 Run at the project's root:  samples/make.py          writes them
-                            samples/make.py --check  says whether they are what it would write, and whether README.md has their lines
+                            samples/make.py --check  says whether they are what it would write, and whether
+                                                     samples/README.md has their lines
 
-What must be printed comes from tests/files.py, which knows nothing of the programs.
+What must be printed comes from tests/files.py, which knows nothing of the programs. Quarters count from 0.
 """
 import pathlib
 import sys
@@ -44,7 +45,8 @@ def grid_series():
     return [GRID_PEAK * course(q) * BY_SEASON[SEASON[day.month]] * of_day(k, day) // 1_000**3 for k, day in days for q in range(96)]
 
 
-# The cold store: it cools at night and at noon, and keeps its compressors low in the morning and in the evening of a working day
+# The cold store: it cools at night and at noon, and keeps its compressors low in the morning and in the evening of a
+# working day
 
 WORKING = ((0, 24, 900), (24, 44, 600), (44, 50, 350), (50, 68, 650), (68, 80, 320), (80, 88, 600), (88, 96, 900))  # kW from quarter to quarter
 WEEKEND = ((0, 96, 700),)
@@ -64,7 +66,7 @@ def cold_store_series():
 
 
 def taken_for_friday(series, terms):
-    """What is answered where weekdays are counted on from the year's start without 29 February: 2 March is then a Friday.
+    """What is answered where weekdays are counted on without 29 February: 2 March is then a Friday.
 
     No reading is higher than that day's, so H is M, whichever other days are mistaken.
     """
@@ -76,7 +78,7 @@ def taken_for_friday(series, terms):
 
 
 def cold_store():
-    """The grid file, the customer file under the sheet that the grid file gives, and the old module's line."""
+    """The grid file, the customer file under its sheet, and the line of a module that forgets 29 February."""
     readings, series = grid_series(), cold_store_series()
     said, windows = whole(YEAR, LEVEL, readings)
     assert said == (0,) and QUARTER in windows[2] and SATURDAY not in carrying_by_weeks(YEAR, frozenset())

@@ -1,7 +1,9 @@
-"""The calendar's records and what crates/cases must print of them, from Python's datetime and document 01: a part of tests/cases.py.
+"""The calendar's records and what crates/cases must print of them, by Rules 3.1 to 3.5 and 4.1 (docs/RULES.md) and
+Python's datetime: a part of tests/cases.py.
 
-It knows nothing of the code under test: weekdays and dates are datetime's, a week is the seven dates from a Monday on, and
-the days that carry windows are worked out week by week, as the paper tells them.
+It knows nothing of the code under test: weekdays and dates are datetime's, a week is the seven dates from a Monday on,
+and the days that carry windows are worked out week by week, as Rule 3.4 finds bridge days. Days of a year and of a
+reference period count from 1.
 """
 import datetime
 import functools
@@ -15,19 +17,19 @@ SEASON = {12: 1, 1: 1, 2: 1, 3: 2, 4: 2, 5: 2, 6: 3, 7: 3, 8: 3, 9: 4, 10: 4, 11
 
 
 def period(year):
-    """The reference period's dates, the first at place 1."""
+    """The reference period's dates, the first at place 0."""
     first, last = datetime.date(year - 2, 9, 1), datetime.date(year - 1, 8, 31)
     return [first + datetime.timedelta(days=k) for k in range((last - first).days + 1)]
 
 
 def season(year, day):
-    """Of a day of the year; day 0 counts to January and a day past the year to December."""
+    """Of a day of the year; day 0 counts to January and a day behind the year's end to December."""
     return SEASON[date(year, min(max(day, 1), days_of(year))).month]
 
 
 @functools.lru_cache(maxsize=None)
 def bridge_days(year, listed):
-    """The first candidate of each Monday-to-Sunday week that touches the year."""
+    """Of each week from Monday to Sunday that touches the year the first candidate (Rule 3.4)."""
     found = set()
     monday = datetime.date(year, 1, 1) - datetime.timedelta(days=datetime.date(year, 1, 1).weekday())
     while monday.year <= year:
@@ -40,7 +42,7 @@ def bridge_days(year, listed):
 
 
 def answer(year, holidays, day):
-    """The paper's number and, for 0, yes or no: order 1, 3, 13."""
+    """The number and, for 0, yes or no: order 1, 3, 13 (Rule 8.2)."""
     if not 2014 <= year <= 2028:
         return (1,)
     if not legal_list(year, holidays):
@@ -61,7 +63,7 @@ def record(kind, year, day, holidays):
 
 def whole_year(year, holidays):
     dates = period(year)
-    # day 0 of the period is 31 August, and past 31 August the days go on
+    # day 0 of the period is 31 August, and behind its last 31 August the days go on
     around = [dates[0] + datetime.timedelta(days=d - 1) for d in DAYS]
     return [
         f"Y {year} {days_of(year)} {len(dates)}",
@@ -73,9 +75,10 @@ def whole_year(year, holidays):
 
 
 def whole_list(year, holidays):
-    """For a list that is taken: the Monday-to-Friday days that are free, and window_days' count and sum.
+    """For a list that is taken: the days from Monday to Friday that are free, and window_days' count and sum.
 
-    window_days answers for any list, so for one that is refused its rule is applied to the days that are listed all the same.
+    window_days answers for any list, so for one that is refused its rule is applied to the days that are listed all
+    the same.
     """
     listed = frozenset(holidays)
     bridges = bridge_days(year, listed)
@@ -114,7 +117,7 @@ def cases():
         eve = yday(year, 12, 24)
         for listed in ([eve], [eve - 1, eve], [eve - 3, eve - 1], list(range(eve - 4, eve + 8))):
             yield "L", year, 0, listed
-    # lists that break their row
+    # lists that break Rule 2.6
     for year in (2014, 2016, 2023, 2024, 2028):
         last = days_of(year)
         full = list(range(1, 41))
@@ -125,7 +128,7 @@ def cases():
             yield "L", year, 0, bad
         yield "L", year, 0, full
         yield "L", year, 0, [last]
-    # single days: the starred case 11, case 14 and its variants, Christmas, and bad input
+    # single days: case 11, case 14 and its variants, Christmas, and bad input
     may = [yday(2025, 5, 13), yday(2025, 5, 15)]
     singles = [
         (2024, yday(2024, 3, 2), []), (2024, yday(2024, 3, 1), []), (2025, yday(2025, 5, 2), [yday(2025, 5, 1)]), (2025, yday(2025, 5, 2), []),

@@ -1,7 +1,9 @@
 #!/usr/bin/env python3
-"""Makes the records that crates/cases reads, and what it must print: the parts that the scripts named below make, one after the other.
+"""Makes the records that crates/cases reads, and what it must print: the parts that the scripts named below make, one
+after the other.
 
-Run at the project's root:  tests/cases.py          writes crates/cases/stdin and stdout, and counts each part's records and answers
+Run at the project's root:  tests/cases.py          writes crates/cases/stdin and stdout, and counts each part's
+                                                    records and answers
                             tests/cases.py --check  says whether the two files are what it would write
 
 A part maps the names of its kinds to records, each with its lines. No part knows the code under test, nor another part.

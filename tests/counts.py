@@ -1,10 +1,12 @@
 #!/usr/bin/env python3
-"""The table of counts in docs/PROOF.md: for each crate its functions, lines of code, specs, laws and function proofs, and must-fail edits.
+"""The table of counts in docs/PROOF.md: for each crate its functions, lines of code, specs, laws and function proofs,
+and must-fail edits.
 
 Run at the project's root:  tests/counts.py          prints the table
                             tests/counts.py --check  says whether docs/PROOF.md has it as it is now
 
-A line is one that is neither blank nor a comment. A law is what stands in proofs/ beside the functions' own proof files.
+A line is one that is neither blank nor a comment. A law is what stands in proofs/ beside the functions' own proof
+files.
 """
 import pathlib
 import re

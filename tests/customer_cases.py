@@ -1,8 +1,9 @@
-"""The customer's records and what crates/cases must print of them, from document 01's "Customer's year and decision": a part of
-tests/cases.py.
+"""The customer's records and what crates/cases must print of them, by Rules 6.1 to 7.7 and 9.1 to 9.5 (docs/RULES.md):
+a part of tests/cases.py.
 
-It knows nothing of the code under test. tests/year.py works a decision out in two ways: `whole` from the places of a whole series, `Days`
-along the days; where all days were taken, the two are held against each other.
+It knows nothing of the code under test. tests/year.py works a decision out in two ways: `whole` from the places of a
+whole series, `Days` along the days; where all days were taken, the two are held against each other. Days count from 1,
+quarters from 0.
 """
 import itertools
 import random
@@ -104,7 +105,7 @@ def figures_of(case):
 # Kinds: whole years
 
 def printed():
-    """The statement program's example, and beside it: the option, other levels, other prices, the day and the quarter moved."""
+    """The example of Rule 10.7, and beside it: the option, other levels and prices, the day and the quarter moved."""
     terms = Terms(bytes.fromhex("484c5a000107e905" + "00" * 9 + "80" + "00" * 38), (), USUAL, False)
     patches = [one(2025, 1, 4, 0, 1_000_000), one(2025, 1, 2, 72, 500_000)]
     case = both(terms, 0, patches, 2025)
@@ -117,7 +118,7 @@ def printed():
 
 
 def zeros():
-    """A year of zeros with windows: M 0, answer 10, H 0 at the first in-window quarter of the year. And without windows: 8."""
+    """Zeros with windows (case 13): 10, with M 0, and H 0 at the year's first in-window quarter. Without windows: 8."""
     for year in YEARS:
         terms = [asked(year, year % 7 + 1, {season: [year % 90, 95]}, nationwide(year)) for season in ALL]
         case = all_terms(year, 0, [], terms)
@@ -139,7 +140,10 @@ def no_windows():
 
 
 def free_days_high():
-    """Every day that carries no windows is high in a quarter of the windows: none may count. Each year, with and without its holidays."""
+    """Every day that carries no windows is high in a quarter of the windows: none may count.
+
+    Each year, with and without its holidays.
+    """
     for year, listed in itertools.product(YEARS, (True, False)):
         holidays = nationwide(year) if listed else []
         carrying = carrying_by_weeks(year, frozenset(holidays))
@@ -204,7 +208,7 @@ def holidays_move():
             patches = [on_day(m, 70, 900_000), on_day(m + 4, 70, 900_000), on_day(m + 2, 70, 500_000), Patch(1, 1, 1, 3_000_000)]
             lists = [m + 1], [m + 3], [m + 1, m + 3], [m, m + 3], [m, m + 1, m + 3], [m + 2]
             yield all_terms(year, 100_000, patches, [asked(year, 5, EVENING, numbers) for numbers in lists], 3)
-    # the first week: 1 and 3 January 2019 listed, so 4 January is a bridge day; and the weeks about the end of each year
+    # the first week: 1 and 3 January 2019 listed, so 4 January is a bridge day; and the weeks about each year's end
     for year in (2014, 2016, 2019, 2020, 2021, 2024, 2028):
         patches = [on_day(d, 70, 900_000 - 10_000 * k) for k, d in enumerate((2, 3, 4, 5, 6, 7, 8, 9))]
         last = days_of(year)
@@ -227,7 +231,10 @@ def year_ends():
 
 
 def seasons():
-    """Another quarter in each season: every day is high at the other seasons' quarters, and a season's edges are the highest of its own."""
+    """Another quarter in each season.
+
+    Every day is high at the other seasons' quarters, and a season's first and last days are the highest of its own.
+    """
     for year in YEARS:
         n = days_of(year)
         of = {d: SEASON[date(year, d).month] for d in range(1, n + 1)}
@@ -260,7 +267,7 @@ def one_season():
 
 
 def edges_of_day():
-    """Windows at the first and the last quarter, and readings at the quarters beside them, of this day and of the next."""
+    """Windows at the first and the last quarter, and readings at the quarters beside them, of this day and the next."""
     for year, quarters in zip((2018, 2024, 2018, 2024, 2018, 2024, 2018), ([0], [95], [0, 95], [7], [8], [87, 88], [1, 94])):
         monday = next(d for d in range(100, 107) if date(year, d).weekday() == 0)
         around = [on_day(monday - 7, 0, 900_000, 96 * 21)] + [Patch(96 * (monday - 8) + q, 21, 96, 200_000) for q in quarters]
@@ -273,7 +280,10 @@ def edges_of_day():
 
 
 def ties():
-    """H at its first place: two days, two quarters of a day, a later day's earlier quarter; equal readings before it that do not count."""
+    """H at its first place: two days, two quarters of a day, a later day's earlier quarter.
+
+    Also equal readings before it that do not count.
+    """
     year = 2025
     wednesday = yday(year, 4, 2)
     cases = [
@@ -336,7 +346,10 @@ def thresholds():
 # Kinds: refusals
 
 def bad_readings():
-    """1,000,000,001 and a missing reading, in a window or not, at the edges of days and of the year; the highest legal reading beside them."""
+    """1,000,000,001 and a lost reading, in a window or not, at the edges of days and of the year.
+
+    The highest legal reading stands beside them.
+    """
     for year in (2024, 2025):
         last = 96 * days_of(year) - 1
         for at in (0, 70, 95, 96, 96 * 91 + 70, 17_000, last - 95, last):
@@ -388,7 +401,10 @@ def broken_terms(year):
 
 
 def alone():
-    """Every field out of its row alone, then a day and a closing; where it is taken, the whole year. As many terms as a record has room for."""
+    """Every field out of its limits alone, then a day and a closing; where it is taken, the whole year.
+
+    As many terms as a record has room for.
+    """
     for year in (2025, 2028):
         n, terms = days_of(year), broken_terms(year)
         for k in range(0, len(terms), 40):
@@ -397,7 +413,7 @@ def alone():
 
 
 def order():
-    """Every choice of things wrong in the terms, over series that are right, too short, bad, or both, of zeros or not."""
+    """Every choice of things wrong in the terms, over series that are right, too short, bad, or both; zeros or not."""
     year = 2025
     for short, bad, base in itertools.product((0, 1), (False, True), (0, 400_000)):
         calls = []
@@ -412,7 +428,10 @@ def order():
 
 
 def refused_openings():
-    """Each number, after a year in part and after a whole one: every day and every closing is 13, and the next opening begins anew."""
+    """Each number of a refused opening, after a year in part and after a whole one (Rule 9.5).
+
+    Every day is 13 then, and so is closing; the next opening begins anew.
+    """
     year, n = 2025, 365
     good = asked(year, 5, EVENING, nationwide(year))
     refused = [good._replace(sheet=sheet) for sheet in (b"", good.sheet[:55], good.sheet + b"\0", b"GRD" + good.sheet[3:])]
@@ -423,7 +442,8 @@ def refused_openings():
     for terms in refused:
         number = opening(terms)
         assert number in (12, 1, 2, 3, 6)
-        # before any opening; then a year in part; then the refused opening; then a whole year; then the refused one again
+        # before any opening; then a year in part; then the refused opening; then a whole year; then the refused one
+        # again
         start = [*offers, ("A", good), ("C",), ("P", 96 * 2, 96), ("P", 96 * 3, 96), ("C",), ("A", terms), *offers]
         again = [("A", good), ("P", 0, 96), ("P", 0, 96), ("D", 3, n), ("C",), ("A", terms), *offers, ("A", good), ("C",)]
         yield 96 * n, 1_000, patches, start + again
@@ -458,7 +478,7 @@ def refused_days():
 
 
 def other_order():
-    """The series' days given in another order: the state counts its days by itself, and the place is that of its own day."""
+    """The series' days given in another order: the state counts its days by itself, and names its own day's place."""
     for year in (2017, 2020, 2028):
         n = days_of(year)
         patches = [Patch(60 * 96, 96, 1, 1_000_000), Patch(170 * 96 + 69, 3, 1, 960_000), Patch(300 * 96, 40, 2, 970_000)]
@@ -480,7 +500,7 @@ def early_and_twice():
 
 
 def every_year():
-    """Each year with made-up readings, nationwide holidays and windows in the evening; on the way a few refused days."""
+    """Each year with made-up readings, nationwide holidays and evening windows; on the way a few refused days."""
     for year in YEARS:
         n = days_of(year)
         patches = [Patch(q, n, 96, 600_000, 60_000, 97 * q + year) for q in range(60, 84)] + [Patch(20, 3 * n, 32, 1_000_000, 65_000, year)]

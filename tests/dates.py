@@ -1,4 +1,6 @@
-"""Dates, holiday lists and what frees a day, from document 01's "Calendar" and "Numbers": shared by the scripts that make expectations."""
+"""Dates, holiday lists and what frees a day, by Rules 2.6 and 3.1 to 3.3 (docs/RULES.md): shared by the scripts that
+make expectations. Days of a year count from 1.
+"""
 import datetime
 
 
@@ -19,7 +21,7 @@ def days_of(year):
 
 
 def free_by_others(when, year, listed):
-    """Weekend, listed, or 24 December to 1 January."""
+    """The first three lines of Rule 3.3: weekend, listed, 1 January or one of 24 to 31 December."""
     inside = when.year == year and day_of(when) in listed
     christmas = (when.month, when.day) >= (12, 24) or (when.month, when.day) == (1, 1)
     return when.weekday() >= 5 or inside or christmas

@@ -1,11 +1,13 @@
 #!/usr/bin/env python3
-"""Makes the files that crates/file_cases, hlz and statement are run on, and what they must print, from document 01's "Two programs".
+"""Makes the files that crates/file_cases, hlz and statement are run on, and what they must print, by Rules 10.1 to
+10.7 (docs/RULES.md).
 
-Run at the project's root:  tests/file_cases.py          writes stdin, args, data/ and stdout of the three crates, and counts the files of each kind
+Run at the project's root:  tests/file_cases.py          writes stdin, args, data/ and stdout of the three crates, and
+                                                         counts the files of each kind
                             tests/file_cases.py --check  says whether they are what it would write
 
-It knows nothing of the code under test. tests/files.py works out what is printed, in two ways that are held against each other.
-A whole year has 140 KB, so few files are whole. A header that is taken is seen by its 4: no day follows it.
+It knows nothing of the code under test. tests/files.py works out what is printed, in two ways that are held against
+each other. A whole year has 140 KB, so few files are whole. A header that is taken is seen by its 4: no day follows it.
 """
 import collections
 import itertools
@@ -33,7 +35,7 @@ def four(number):
 
 
 def season(bits):
-    """The 12 bytes of a season; quarter 0 is the top bit of these."""
+    """The 12 bytes of a season; quarter 0 is their highest bit."""
     return bits.to_bytes(12, "big")
 
 
@@ -62,7 +64,7 @@ def up_to(head, name):
 
 
 def around(head, name):
-    """A header that a field refuses: whole with a day; cut right after the field; cut in the next one; cut in the field itself."""
+    """A header that a field refuses: whole with a day; cut right after the field; cut in the next; cut in the field."""
     short = up_to(head, name)
     yield name, joined(head) + readings_bytes(DAY)
     yield name + "_cut", short
@@ -193,7 +195,7 @@ def prices():
 
 
 def first_of_two():
-    """Two fields that are refused: the first in the file answers, whatever its number; before a bad reading any field."""
+    """Two refused fields: the first in the file answers, whatever its number; before a bad reading any field."""
     yield "g_mark_and_year", joined(grid_head(mark=b"CUS", year=two(2013)))
     yield "g_version_and_level", joined(grid_head(version=two(2), level=b"\0"))
     yield "g_year_and_level", joined(grid_head(year=two(2013), level=b"\0"))
@@ -244,7 +246,7 @@ def on_days(year, dates, value):
 
 
 def whole_grids():
-    """Every shape of lines in one file; a peak of zero; bytes left over, which do not undo a bad reading of the last day."""
+    """Every shape of lines in one file; a peak of zero; bytes left over, which do not undo a bad last day's reading."""
     patches = on_days(2025, [(1, 13, (0, 1, 2, 72, 93, 94)), (12, 24, (95,)), (2, 29, (71,))], 2_000)  # runs from 00:00 and to 24:00
     patches += on_days(2025, [(3, 1, range(1, 81, 2))], 1_901)  # forty runs of a quarter
     patches += on_days(2025, [(8, 31, range(96))], 1_950)  # a whole day, of which forty stay
@@ -272,7 +274,8 @@ def whole_customers():
     edges = {1: [*range(0, 12), *range(68, 96)], 2: [95], 3: range(28, 68), 4: [0, 1, 3, 4, 90, 95]}
     evening = {s: range(68, 76) for s in (1, 2, 3, 4)}
     leap = Terms(sheet_bytes(2024, 5, edges), tuple(nationwide(2024)), USUAL, True)
-    # high in quarters of windows, but on a Saturday, the listed days, the bridge day after Ascension and 31 December; then a Tuesday in April
+    # high in quarters of windows, but on a Saturday, the listed days, the bridge day after Ascension and 31 December;
+    # then a Tuesday in April
     free = [Patch(96 * (day - 1) + 95, 1, 1, 3_000_000) for day in (*leap.holidays, yday(2024, 5, 10), 366)]
     peaks = [Patch(96 * (yday(2024, 3, 2) - 1) + 95, 1, 1, 4_000_000), Patch(96 * (yday(2024, 4, 2) - 1) + 95, 1, 1, 700_000)]
     yield decided("c_whole_leap", 0, leap, 123_456, free + peaks)

@@ -1,8 +1,10 @@
-"""Document 01's "Two programs": what the window program and the statement program print, for the bytes of any file.
+"""What the window program and the statement program print for the bytes of any file, by Rules 10.1 to 10.7
+(docs/RULES.md).
 
-It knows nothing of the code under test. Each text is worked out in two ways that are held against each other: from the whole file, by the
-places at which its fields stand, with the answer over a whole series (`from_places`); and along the bytes as they come, a field or a day at a
-time, with the answer of days given singly (`from_parts`). The two take runs of windows apart in two ways, too.
+It knows nothing of the code under test. Each text is worked out in two ways that are held against each other: from the
+whole file, by the places at which its fields stand, with the answer over a whole series (`from_places`); and along the
+bytes as they come, a field or a day at a time, with the answer of days given singly (`from_parts`). The two take runs
+of windows apart in two ways, too. Places of bytes and quarters count from 0.
 """
 import io
 import re
@@ -113,7 +115,7 @@ def customer_fields(data):
 
 
 def days_stop(body, days, most):
-    """5 for a bad reading of the days that are there whole, then 4 for another length than all days have; else nothing."""
+    """5 for a bad reading of the days that are whole, then 4 for another length than all days have, or nothing."""
     held = min(days, len(body) // 384)
     series = struct.unpack(f">{96 * held}I", body[:384 * held])
     bad = next((i for i, reading in enumerate(series) if reading > most), None)
@@ -138,7 +140,7 @@ def terms_at(data, head):
 
 
 def held_to_opening(data, number):
-    """A header that is wholly there, and right in what the file adds to the terms, is refused as the opening of a year is."""
+    """A whole header that is right in what the file adds to the terms is refused as the opening of a year is."""
     head = 79 + 2 * at(data, 62, 63)
     if data[:5] == b"CUS\0\1" and at(data, 61, 62) < 2 and len(data) >= head:
         assert number == customer.opening(terms_at(data, head))
@@ -280,7 +282,7 @@ def statement_of(data):
 
 
 def printed():
-    """The two printed examples as files: they come out letter by letter, or nothing is made of this module."""
+    """The examples of Rules 10.6 and 10.7 as files: they come out to the letter, or nothing is made of this module."""
     series = series_of(96 * 366, 1_000, [Patch(grid.place(2025, 1, 15, 72), 1, 1, 2_000)])
     windows = grid_file(2025, 5, series)
     assert windows_of(windows) == PRINTED_WINDOWS

@@ -1,8 +1,9 @@
-"""Document 01's "High-load windows" for the scripts that make records and files: the reference period, and the windows of its readings.
+"""The reference period and the windows of its readings, by Rules 4.1 to 4.7 and 9.1 to 9.5 (docs/RULES.md), for the
+scripts that make records and files.
 
-It knows nothing of the code under test. The windows are worked out in two ways that share the calendar alone: `whole` gathers each season's
-days of a whole series and sorts, `Days` goes day by day with running maxima and throws quarters away. Where all days were taken, the two are
-held against each other.
+It knows nothing of the code under test. The windows are worked out in two ways that share the calendar alone: `whole`
+gathers each season's days of a whole series and sorts, `Days` goes day by day with running maxima and throws quarters
+away. Where all days were taken, the two are held against each other. Seasons count from 1, quarters from 0.
 """
 import datetime
 import fractions
@@ -19,7 +20,7 @@ def period(year):
 
 
 def place(year, month, day, quarter):
-    """Of a date's quarter in the series of a charge year; September and later are in the first of its two years."""
+    """From 0, of a date's quarter in the series of a charge year; September on is in the first of its two years."""
     date = datetime.date(year - (2 if month >= 9 else 1), month, day)
     return 96 * (date - period(year)[0]).days + quarter
 
@@ -35,7 +36,7 @@ def opening(year, level):
 
 
 def whole(year, level, series):
-    """The number with its figures, 1, 2, 4, 5, 7 in this order; and for 0 the quarters that each season keeps, else nothing."""
+    """The number with its figures, 1, 2, 4, 5, 7 in this order; and for 0 the quarters that each season keeps."""
     refused = opening(year, level)
     if refused:
         return (refused,), None
@@ -96,6 +97,6 @@ class Days:
             return (13,), None
         peak = max(max(curve) for curve in self.high.values())
         answer = ((7,), None) if peak == 0 else ((0,), {s: self.keep(s, peak) for s in (1, 2, 3, 4)})
-        # "Closing after all days answers as the whole series does"
+        # the days close as the whole series does (Rule 9.4)
         assert answer == whole(self.year, self.level, self.given)
         return answer

@@ -1,8 +1,8 @@
-"""The grid's records and what crates/cases must print of them, from Python's datetime and document 01's "High-load windows": a part of
-tests/cases.py.
+"""The grid's records and what crates/cases must print of them, by Rules 4.1 to 4.7 and 9.1 to 9.5 (docs/RULES.md) and
+Python's datetime: a part of tests/cases.py.
 
-It knows nothing of the code under test. tests/grid.py works the windows out in two ways, from a whole series and along the days; where all
-days were taken, the two are held against each other.
+It knows nothing of the code under test. tests/grid.py works the windows out in two ways, from a whole series and along
+the days; where all days were taken, the two are held against each other. Days count from 1, quarters from 0.
 """
 import random
 import struct
@@ -103,7 +103,7 @@ MIDDLES = {1: (1, 17), 2: (4, 9), 3: (7, 4), 4: (10, 30)}  # a day inside each s
 # Cases
 
 def printed():
-    """The paper's example, then with the first and the last level."""
+    """The example of Rule 10.6, then with the first and the last level."""
     example = [one(2025, 1, 15, 72, 2000)]
     got = whole(2025, 5, series_of(96 * 366, 1000, example), 64)
     assert got == ((0,), lent(bytes.fromhex("484c5a000107e905" + "00" * 9 + "80" + "00" * 38)))
@@ -112,7 +112,7 @@ def printed():
 
 
 def boundaries():
-    """The first and the last day of each season, with 29 February where the period has it: all at once, and each alone."""
+    """The first and the last day of each season, with 29 February where the period has it: all at once, each alone."""
     edges = [(9, 1), (11, 30), (12, 1), (12, 31), (1, 1), (2, 28), (2, 29), (3, 1), (5, 31), (6, 1), (8, 31)]
     for year in YEARS:
         has = [(m, d) for m, d in edges if (m, d) != (2, 29) or count_of(year) == 366]
@@ -120,7 +120,8 @@ def boundaries():
     for year in (2021, 2023):
         for i, (m, d) in enumerate(edges):
             if (m, d) != (2, 29) or count_of(year) == 366:
-                # nine quarters of the day, and the readings next to it: the last of the day before, the first of the day after
+                # nine quarters of the day, and the readings next to it: the last of the day before, the first of the
+                # day after
                 start = place(year, m, d, 0)
                 beside = [Patch(start + k, 1, 1, 999) for k in (-1, 96) if 0 <= start + k < 96 * count_of(year)]
                 yield both(year, 3, 100, [Patch(start + i, 9, 7, 1000)] + beside)
@@ -251,7 +252,7 @@ def lengths():
 
 
 def rooms():
-    """Every length of the lent buffer, for an accepted series, a peak of zero, a closing too early and a refused opening."""
+    """Every length of the lent buffer: an accepted series, a peak of zero, an early closing and a refused opening."""
     every = range(ROOM + 1)
     example = [one(2025, 1, 15, 72, 2000)]
     whole_calls = [("W", 2025, 5, room) for room in every]
@@ -316,7 +317,7 @@ def early():
 
 
 def refused_openings():
-    """Years and levels outside, on a state that was well on its way: every day and every closing is 13."""
+    """Years and levels outside, on a state that was well on its way: each day is 13 then, and so is closing."""
     pairs = [(2013, 5), (2029, 5), (2025, 0), (2025, 8), (2013, 0), (2029, 8), (0, 1), (65535, 7), (2028, 255)]
     offers = [("D", 1, 1), ("P", 0, 95), ("P", 0, 97), ("P", 0, 0), ("P", 96, 96), ("D", 1, 366)]
     closings = [("C", 64), ("C", 56), ("C", 55), ("C", 0)]

@@ -3,8 +3,9 @@
 
 Run at the project's root:  tests/pipes.py          takes the files of crates/file_cases/data and samples/
 
-Two things that a run on files cannot show. Bytes that come singly, or in parts of any size, are read as the file is. And a program answers
-as soon as it can: the input stays open, with no byte more than the answer needs, and the program ends all the same.
+Two things that a run on files cannot show. Bytes that come singly, or in parts of any size, are read as the file is.
+And a program answers as soon as it can: the input stays open, with no byte more than the answer needs, and the program
+ends all the same.
 """
 import pathlib
 import random
@@ -41,7 +42,10 @@ def printed_by(program):
 
 
 def fed(word, data, sizes):
-    """What is printed where the bytes come in parts of these sizes, over and over. A program may end before it has them all."""
+    """What is printed where the bytes come in parts of these sizes, over and over.
+
+    A program may end before it has them all.
+    """
     program, at = started(word), 0
     try:
         while at < len(data):

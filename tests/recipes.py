@@ -1,4 +1,6 @@
-"""Series by recipe, for the programs that are fed with whole years: a base value for all readings, and patches over it."""
+"""Series by recipe, for the programs that are fed with whole years: a base value for all readings, and patches over
+it. Places in a series count from 0, days from 1.
+"""
 import collections
 
 MOST = 35_500  # readings that the programs have room for
@@ -18,7 +20,7 @@ def series_of(length, base, patches):
 
 
 def day_part(series, day):
-    """Empty for day 0 and for a day that the series does not wholly hold."""
+    """Empty for day 0, and for a day of which the series does not have all readings (Rule 9.2)."""
     part = series[96 * (day - 1):96 * day] if day else []
     return part if len(part) == 96 else []
 

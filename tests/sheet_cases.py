@@ -1,6 +1,8 @@
-"""The sheet's records and what crates/cases must print of them, from document 01's "Window sheet": a part of tests/cases.py.
+"""The sheet's records and what crates/cases must print of them, by Rules 5.1 to 5.4 (docs/RULES.md): a part of
+tests/cases.py.
 
-It knows nothing of the code under test. A sheet is put together as one large number of bits, and taken apart from a string of bits.
+It knows nothing of the code under test. A sheet is put together as one large number of bits, and taken apart from a
+string of bits.
 """
 import random
 import struct
@@ -31,7 +33,7 @@ def write_answer(year, level, chosen, room):
 
 
 def read_sheet(data):
-    """The number, and for 0 the meaning: length, mark, version (12), year (1), level (2), set bits (12)."""
+    """The number, and for 0 the meaning; order 12 (form), 1, 2, 12 (set bits)."""
     if len(data) != 56 or data[:3] != b"HLZ" or struct.unpack(">H", data[3:5])[0] != 1:
         return 12, None
     year, level = struct.unpack(">HB", data[5:8])
@@ -65,7 +67,7 @@ def cases():
     rng = random.Random(56)
     everything = [(s, q) for s in (1, 2, 3, 4) for q in range(96)]
     example = sheet_bytes(2025, 5, [(1, 72)])
-    # case 12, as the paper prints it
+    # case 12
     assert example.hex() == "484c5a000107e905" + "00" * 9 + "80" + "00" * 38
     # every single-quarter sheet, written and read back
     for one in everything:

@@ -1,8 +1,8 @@
-"""The records of figures and what crates/cases must print of them, from document 01's "Customer's year and decision": a part of
+"""The records of figures and what crates/cases must print of them, by Rules 6.6 to 7.7 (docs/RULES.md): a part of
 tests/cases.py.
 
-It knows nothing of the code under test. tests/year.py has the rules, each in two ways that are held against each other; the two halves of the
-decision stand here, and their row is held against the decision there.
+It knows nothing of the code under test. tests/year.py has the rules, each in two ways that are held against each other;
+the two halves of the decision stand here, and their row is held against the decision there.
 """
 import itertools
 import random
@@ -14,7 +14,7 @@ from year import share_by_units, share_reached
 U32, U64 = 2**32 - 1, 2**64 - 1
 
 
-# What each half of the decision answers: the number and what it carries
+# What each half of the decision answers: the number and its figures
 
 def eligible(s):
     if s.level not in SHARE:
@@ -70,7 +70,7 @@ def parts_of(P, row, S):
 
 
 def starred():
-    """Cases 1 to 8 of "Figures on each side", and those that stand beside them."""
+    """Cases 1 to 8 of Rule 11.1, and those that stand beside them."""
     big = 12_000_000_000
     case_7 = USUAL[:2] + (500, 800)
     told = [
@@ -94,13 +94,13 @@ def starred():
         flipped = s._replace(option=not s.option)
         assert few_hours(s.M, s.S) or judge(flipped) == got
         yield flipped
-    # the printed example of the statement program
+    # the example of Rule 10.7
     assert judge(made(1_000_000, 500_000, 1_500_000))[:5] == (0, 1_001_500, 2_001_500, 1_000_000, 1_500_000)
     yield made(1_000_000, 500_000, 1_500_000)._replace(day=2, quarter=72)
 
 
 def share():
-    """For each level the highest H that reaches the share, one less and one more W; the peak a multiple of 100 and not one."""
+    """For each level the highest H that reaches the share, a W less and a W more; the peak a multiple of 100 or not."""
     for level, percent in SHARE.items():
         for M in (4_000_000, 4_000_001, 3_999_999, 2_345_678, U32):
             H = max(h for h in range(M - M * percent // 100 - 3, M - M * percent // 100 + 3) if share_by_units(M, h, percent))
@@ -141,7 +141,8 @@ def reduction():
             s = made(2_000_000, 2_000_000 - 10 * (50_000 + by), 12_000_000_000, 3, (100, 900, 100, 900), option)
             assert few_hours(s.M, s.S) and judge(s)[0] == (0 if by >= 0 else 11)
             yield s
-        # g of 1,200,000 from the low row, r from the option's row, where a W is a cent; at level 3, where the share is far off
+        # g of 1,200,000 from the low row, r from the option's row, where a W is a cent; at level 3, where the share is
+        # far off
         s = made(2_000_000, 1_150_000 - by, 4_000_000_000, 3, (100, 1_000, 1_000, 0), True)
         g, r, f = charges(s)
         assert r > f and g - r == 50_000 + by and judge(s)[0] == (0 if by >= 0 else 11)
@@ -175,7 +176,7 @@ def hours():
 
 
 def rounding():
-    """What is over a whole cent: nothing, one part, half a cent less one part, half, one part more, a cent less one part."""
+    """What is over a whole cent: nothing, a part, half a cent less a part, half, a part more, a cent less a part."""
     overs = (0, 1, PART // 2 - 1, PART // 2, PART // 2 + 1, PART - 1)
     years = (400_000, 100_000, 1_000, 1), (400_123, 100_123, 997, 3), (400_001, 77_777, 99_999, 7), (412_345, 0, 3, 49_999)
     for M, H, capacity, energy in years:

@@ -1,9 +1,11 @@
-"""Document 01's "Customer's year and decision" for the scripts that make records: the rules over figures, and a year of readings.
+"""The rules over figures, and a year of readings, by Rules 6.1 to 7.7 and 9.1 to 9.5 (docs/RULES.md), for the scripts
+that make records.
 
-It knows nothing of the code under test. What a charge, a row, a floor or a share is, which days carry windows, which bits of a sheet are
-set, and the figures of a year are each worked out in two ways that are held against each other: by the units and by the paper's integer
-formulas; week by week and day by day; by the sheet's bits as one number and byte by byte; from the whole series (`whole`) and along the
-days (`Days`).
+It knows nothing of the code under test. What a charge, a row, a floor or a share is, which days carry windows, which
+bits of a sheet are set, and the figures of a year are each worked out in two ways that are held against each other: by
+the units and by the integer formulas of the rules; week by week and day by day; by the sheet's bits as one number and
+byte by byte; from the whole series (`whole`) and along the days (`Days`). Days and seasons count from 1, quarters
+from 0.
 """
 import collections
 import datetime
@@ -16,7 +18,7 @@ from dates import date, day_of, days_of, free_by_others, legal_list, nationwide,
 
 SHARE = {1: 5, 2: 10, 3: 10, 4: 20, 5: 20, 6: 30, 7: 30}
 LIMITS = (100_000, 50_000, 100_000, 50_000)  # of the low row's prices, and of the high row's
-USUAL = (2_000, 4_000, 10_000, 800)  # the prices of "Figures on each side"
+USUAL = (2_000, 4_000, 10_000, 800)  # the prices of Rule 11.1
 PART = 4_000_000  # of a cent
 READING_MOST = 1_000_000_000
 MISSING = 4_294_967_295
@@ -37,7 +39,7 @@ def charge_by_units(power, capacity, energy, readings):
 
 
 def few_hours_by_units(M, S):
-    """Without a peak there are no hours to speak of; the paper's S < 10,000 M is false."""
+    """Without a peak there are no hours to speak of, and S < 10,000 M is false: the high row (Rule 6.6)."""
     return M > 0 and fractions.Fraction(S, 4) / M < 2_500
 
 
@@ -45,7 +47,7 @@ def share_by_units(M, H, percent):
     return M == 0 or fractions.Fraction(max(M - H, 0), M) >= fractions.Fraction(percent, 100)
 
 
-# The rules over figures, by the paper's formulas
+# The rules over figures, by the formulas of Rules 6.6 to 7.6
 
 def charge_for(power, row, S):
     cents = (2 * (4_000 * power * row[0] + S * row[1]) + PART) // (2 * PART)
@@ -85,7 +87,7 @@ def prices_out(prices):
 
 
 def judge(s):
-    """Number and what it carries: every row of the table, and then the first in the order 2, 6, 8, 9, 10, 11."""
+    """The number and its figures: every row of Rule 8.1, and then the first in the order 2, 6, 8, 9, 10, 11."""
     if s.level not in SHARE:
         return (2,)
     if prices_out(s.prices):
@@ -108,7 +110,7 @@ def judge(s):
 
 @functools.lru_cache(maxsize=None)
 def carrying_by_weeks(year, listed):
-    """The days that carry windows: Monday-to-Sunday weeks one after the other, the first candidate of each a bridge day."""
+    """The days that carry windows: weeks from Monday on, the first candidate of each a bridge day (Rule 3.4)."""
     carry = []
     monday = datetime.date(year, 1, 1) - datetime.timedelta(days=datetime.date(year, 1, 1).weekday())
     while monday.year <= year:
@@ -122,7 +124,7 @@ def carrying_by_weeks(year, listed):
 
 
 def carries_by_day(year, listed, day):
-    """One day by itself, by day numbers: 1 January 2014 was a Wednesday, and ordinals count on from there."""
+    """One day by itself, by day numbers: ordinals count on from 1 January 2014, a Wednesday."""
     weekday = (date(year, day).toordinal() - datetime.date(2014, 1, 1).toordinal() + 2) % 7
     last = days_of(year)
 
@@ -179,7 +181,7 @@ def opening(terms):
 # A year of readings
 
 def whole(terms, series):
-    """The decision: number and what it carries."""
+    """The decision: the number and its figures."""
     refused = opening(terms)
     if refused:
         return (refused,)

@@ -1,12 +1,12 @@
-//! The proved calls as Rust sees them (crates/bench_grid and bench_customer). A slice is a pointer and then a length. The answer is written
-//! where the first argument points: so C on x86-64 hands back a struct of this size, and the module says it in so many words, for any
-//! processor.
+//! The proved calls as Rust sees them (crates/bench_grid and bench_customer). A slice is a pointer and then a length.
+//! The answer is written where the first argument points: so C on x86-64 hands back a struct of this size, and the
+//! module says it in so many words, for any processor.
 
 use std::mem::MaybeUninit;
 
 use independent::decision::Prices;
 
-/// An answer's number, how many figures it carries, and the figures.
+/// An answer's number, how many figures it has, and the figures.
 #[repr(C)]
 #[derive(Clone, Copy, Debug, PartialEq, Eq)]
 pub struct Flat {

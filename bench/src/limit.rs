@@ -1,5 +1,5 @@
-//! The limit: a plain pass of maximum and sum in eight independent lanes, block by block. (Both in one loop, in eight or sixteen lanes,
-//! is slower where a maximum of unsigned numbers takes several instructions.)
+//! The limit: a plain pass of maximum and sum in eight independent lanes, block by block. (Both in one loop, in eight
+//! or sixteen lanes, is slower where a maximum of unsigned numbers takes several instructions.)
 
 const LANES: usize = 8;
 const BLOCK: usize = 96;

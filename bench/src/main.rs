@@ -66,7 +66,7 @@ impl<'a> Timed<'a> {
     }
 }
 
-/// A grid series through the independent implementation's machine.
+/// A grid series through the independent implementation, day by day.
 #[inline(never)]
 fn grid_days(grid: &Grid, sheet: &mut [u8]) -> u64 {
     let (_, mut state) = GridDays::open(grid.year, grid.level);
@@ -91,7 +91,7 @@ fn rust_decide(customer: &Customer) -> Decision {
     decide(&basis.sheet, basis.option, &basis.holidays, &basis.prices, &customer.series)
 }
 
-/// What a decision of the independent implementation is as a flat answer.
+/// A decision of the independent implementation as the calls give it: a number, a count and the figures.
 fn flat(decision: &Decision) -> Flat {
     let text = independent::files::decision_text(decision);
     let numbers: Vec<u64> = text.split_whitespace().filter_map(|word| word.parse().ok()).collect();

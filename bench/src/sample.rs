@@ -34,7 +34,7 @@ fn course(quarter: usize) -> u64 {
 pub fn usual_grid() -> Grid {
     let mut random = Random::new(1);
     let reading = |day: usize, quarter: usize| {
-        // winter is the third part of the period's days from 90 to 180
+        // the days from 90 to 179, from 0, are the high ones: about the period's winter, which begins with day 91
         let height = if (90..180).contains(&day) { 1_000 } else { 930 };
         (course(quarter) * height * random.between(970, 1_000) / 1_000) as u32
     };

@@ -1,4 +1,5 @@
-//! How much stack a call takes: the stack below is painted, the call is made, and the lowest byte that changed is looked for.
+//! How much stack a call takes: the stack below is painted, the call is made, and the lowest byte that changed is
+//! looked for.
 
 use std::hint::black_box;
 

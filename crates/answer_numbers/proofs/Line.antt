@@ -1,5 +1,4 @@
--- What is listed is what the answer says: as many of the list's figures as it counts are
--- the figures that the answer carries.
+-- What is listed is what the answer says: as many of the list's figures as it counts are the answer's figures.
 -- Assumes nothing.
 use mathlib.Core.Path.{_≡_, refl, ap, _∙_}
 use mathlib.Core.List.{List, [], _∷_}

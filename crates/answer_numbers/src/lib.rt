@@ -1,6 +1,5 @@
-// An answer as a plain list of numbers, for a line of text and for a caller in Rust or C, where no enum crosses:
-// document 01, Numbered answers ("carries") and Two programs ("the number and its carried figures in the table's order,
-// a place as day then quarter").
+// An answer as plain numbers, for a line of text and for a caller in Rust or C, to whom no enum can be handed. It meets
+// specs/Numbers. Rules 8.1 and 10.7.
 // Main theorem: the first figures of the list are the answer's (`line-is`, proofs/Line).
 ghost use mathlib.Core.Path.{_≡_};
 ghost use mathlib.Core.List.{_∷_};
@@ -8,7 +7,7 @@ ghost use Rattle.answers.specs.Said.{only, badPlace};
 ghost use Rattle.answer_numbers.specs.Numbers.{numbersOf};
 use answers::Place;
 
-// An answer's number, how many figures it carries, and the figures, 0 past the last.
+// An answer's number, how many figures follow it, and the figures, with 0 behind the last.
 #[repr(C)]
 pub struct Numbers {
     pub number: u64,
@@ -16,7 +15,7 @@ pub struct Numbers {
     pub figures: [u64; 7],
 }
 
-// A number that carries nothing.
+// A number without figures.
 pub fn only(number: u64) -> Numbers
     ensures { λ r. ⌜ r ≡ numbersOf (only number) ⌝ }
 {
@@ -27,7 +26,7 @@ pub fn only(number: u64) -> Numbers
     }
 }
 
-// 5 with the place of the first illegal reading.
+// 5 with the place of the first illegal reading: its day from 1, its position in the day from 0.
 pub fn with_place(place: Place) -> Numbers
     ensures { λ r. ⌜ r ≡ numbersOf (badPlace place) ⌝ }
 {
@@ -38,7 +37,8 @@ pub fn with_place(place: Place) -> Numbers
     }
 }
 
-// The number and then the figures: a line is the first of them, one more than the figures that are carried.
+// The number, then the seven figures. The printed line is the first of these eight: the number and as many as `count`
+// says.
 pub fn line_of(flat: Numbers) -> [u64; 8]
     ensures { λ r. ⌜ r ≡ flat .number ∷ flat .figures ⌝ }
 {

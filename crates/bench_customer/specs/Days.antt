@@ -1,5 +1,5 @@
--- A lent series that is given to a machine day by day, from its opening to its closing: each day as it is handed out,
--- and where one is refused the next ones all the same.
+-- A lent series that is given to a customer's year day by day, from its opening to its closing: each day as it is
+-- handed out, and where one is refused the next ones all the same. Rules 9.2 to 9.5.
 use mathlib.Core.List.{List}
 use Prim.Native.Nat.{ℕ}
 use Rattle.answers.specs.Said.{Said}
@@ -15,7 +15,7 @@ use Rattle.customer_days.specs.Days.{openCustomer, dayCustomer, customerCloseAn
 abbrev pub customerAfterDays : Basis → List ℕ → ℕ → Customer
 customerAfterDays k xs n = offered dayCustomer (openCustomer k) (daysOf (Year (openCustomer k .terms .rates .year)) xs n)
 
--- the days are those of the year that the opened state has
+-- how many days are given: those of the year that the opened state has, which is year 0 where the opening is refused
 abbrev pub openDays : Basis → ℕ
 openDays k = yearDays (openCustomer k .terms .rates .year)
 
@@ -23,7 +23,7 @@ openDays k = yearDays (openCustomer k .terms .rates .year)
 abbrev pub customerDaysAnswer : Basis → List ℕ → Said
 customerDaysAnswer k xs = customerCloseAnswer (customerAfterDays k xs (openDays k))
 
--- a price list of four numbers
+-- a price list of four numbers, low row before high row and capacity before energy (Rule 2.5)
 abbrev pub priceList : ℕ → ℕ → ℕ → ℕ → Prices
 priceList lowCapacity lowEnergy highCapacity highEnergy =
     record {

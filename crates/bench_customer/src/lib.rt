@@ -1,6 +1,7 @@
 // The module's long calls on a customer's year for a caller in Rust or C, as the benchmark makes them: the decision,
 // whole and by days. Each is the called function and no more; its promise is that function's, through the same
-// definitions.
+// definitions. It meets `customer`, specs/Answers (whole), and specs/Days (by days), each answer laid out by
+// `answer_numbers`, specs/Numbers.
 ghost use mathlib.Core.Path.{_≡_};
 ghost use Rattle.terms.specs.Basis.{basis};
 ghost use Rattle.customer.specs.Answers.{decideAnswer};
@@ -12,7 +13,7 @@ use readings::Run;
 use tariff::Prices;
 use tariff::Row;
 
-// A price list of four numbers.
+// A price list of four numbers, low row before high row and capacity before energy (Rule 2.5).
 fn prices_of(lowcapacity: u32, lowenergy: u32, highcapacity: u32, highenergy: u32) -> Prices
     ensures { λ r. ⌜ r ≡ priceList lowcapacity lowenergy highcapacity highenergy ⌝ }
 {
@@ -48,7 +49,7 @@ pub extern "C" fn bench_decide(
     decision_numbers::of_decision(customer::decide(sheet, holidays, prices, option, series))
 }
 
-// A customer's year after every day of a series, given one by one.
+// A customer's year after every day of a series, given one by one. The loop counts days from 0, `day_part` from 1.
 fn all_customer_days(
     sheet: &[u8],
     holidays: &[u16],

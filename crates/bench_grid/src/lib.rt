@@ -1,5 +1,7 @@
 // The module's long calls on a grid series for a caller in Rust or C, as the benchmark makes them: windows, whole and
-// by days. Each is the called function and no more; its promise is that function's, through the same definitions.
+// by days. Each is the called function and no more; its promise is that function's, through the same definitions. It
+// meets `grid`, specs/Answers (whole), and specs/Days (by days), each answer laid out by `answer_numbers`,
+// specs/Numbers.
 ghost use mathlib.Core.Path.{_≡_};
 ghost use lib.ListN.{length};
 ghost use Rattle.periods.specs.Period.{periodDays};
@@ -19,7 +21,7 @@ pub extern "C" fn bench_windows(year: u16, level: u8, series: &[u32], out: &mut 
     grid_numbers::of_answer(grid::windows(year, level, series, out))
 }
 
-// The grid after every day of a series, given one by one.
+// The grid after every day of a series, given one by one. The loop counts days from 0, `day_part` from 1.
 fn all_grid_days(year: u16, level: u8, series: &[u32]) -> Grid
     ensures { λ r. ⌜ r ≡ gridAfterDays year level (now (series .entry)) (periodDays year) ⌝ }
 {

@@ -53,7 +53,7 @@ module _ (y : ℕ) (hs : List ℕ) (d : ℕ) where
       unfolding calendarAnswer
       said-carries e {r} f = rw (a, b, e, f)
 
--- each number is given exactly when its row holds and no number before it is given
+-- each number is answered exactly when its row holds and none before it does
 module _ (y : ℕ) (hs : List ℕ) (d : ℕ) where
   holds : DayRow y hs d (calendarAnswer y hs d .number)
   holds =
@@ -81,7 +81,7 @@ module _ (y : ℕ) (hs : List ℕ) (d : ℕ) where
       go : DayRow y hs d 0 → calendarAnswer y hs d ≡ yesNo (carries y hs d)
       go (zero a b c) = sym (said-carries y hs d (charge-year y .1 a) (legal-holidays y hs .1 b) (day-of-year y d .1 c) refl)
 
--- an answer, back from what it says: linear in the cases
+-- an answer, back from what it says: so two answers that say the same are equal, without a case for each pair
 abbrev dayBack : Said → DayAnswer
 dayBack a =
     cond (eqb (a .number) 1) YearOut

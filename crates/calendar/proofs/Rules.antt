@@ -25,7 +25,7 @@ unfolding christmas
 christmas-late y d h = simp (le-leb (dayOf y 12 24) d (omega (arith, eve y))) (or-true (leb d 1))
 
 module _ (y : ℕ) (isListed : ℕ → Bool) (d : ℕ) where
-  -- free by the other rules
+  -- free by another ground than that of bridge days
   pub free-weekend : saturday ≤ weekdayOf y d → true ≡ free y isListed d
   unfolding free
   free-weekend h = simp (le-leb _ _ h)

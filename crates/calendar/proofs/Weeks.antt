@@ -1,5 +1,5 @@
 -- Theorems of the days that carry windows: a week has one bridge day at most, a bridge day is a Monday or a Friday that
--- no other rule frees, and a day carries windows exactly when document 01 says.
+-- no other ground makes free (Rule 3.4), and a day carries windows exactly when none of the grounds of Rule 3.3 holds.
 -- Assumes nothing.
 use mathlib.Core.Path.{_≡_, refl, _∙_}
 use mathlib.Core.Bool.{Bool, true, false, cond, not, _&&_, _||_, and-false}
@@ -44,7 +44,7 @@ module _ (y : ℕ) (isListed : ℕ → Bool) where
   bridge-weekday d e =
       ⊎-elim (λ a. inl (candidate-is monday (d + 1) d a .0)) (λ a. inr (candidate-is friday (d - 1) d (a .0) .0)) (bridge-is d e)
 
-  -- that no other rule frees
+  -- that no other ground makes free
   pub bridge-bound : (d : ℕ) → bridge y isListed d ≡ true → free y isListed d ≡ false
   bridge-bound d e =
       ⊎-elim (λ a. candidate-is monday (d + 1) d a .2) (λ a. candidate-is friday (d - 1) d (a .0) .2) (bridge-is d e)
@@ -55,8 +55,8 @@ module _ (y : ℕ) (isListed : ℕ → Bool) where
       let p : e - 4 ≡ d = omega arith in
       clash m (rw p at n)
 
-  -- At most one bridge day in a Monday-to-Sunday week: two days of one week are as far
-  -- from its Monday as their weekdays say.
+  -- At most one bridge day in a week, which begins on Monday: two days of one week are as far from its Monday as their
+  -- weekdays say.
   pub one-bridge : (d e : ℕ) → d + weekdayOf y e ≡ e + weekdayOf y d → bridge y isListed d ≡ true → bridge y isListed e ≡ true → d ≡ e
   one-bridge d e w p q = ⊎-elim (λ a. ⊎-elim (mm a) (mf a) (bridge-is e q)) (λ a. ⊎-elim (fm a) (ff a) (bridge-is e q)) (bridge-is d p)
     where
@@ -89,8 +89,7 @@ module _ (y : ℕ) (isListed : ℕ → Bool) where
   unfolding christmas
   year-before w n = ⊎-elim (λ e. absurd (clash refl (bound-christmas 0 (candidate-is w n 0 e .2)))) (λ e. e) (decided (candidate y isListed w n 0))
 
--- a day carries windows when it is Monday to Friday, not a listed holiday, not 24
--- December to 1 January, and not a bridge day
+-- a day carries windows exactly when none of the four grounds of Rule 3.3 makes it free
 pub carries-when :
     (y : ℕ) (hs : List ℕ) (d : ℕ)
     → carries y hs d ≡ (not (weekend y d) && (not (listed hs d) && (not (christmas y d) && not (bridge y (listed hs) d))))

@@ -1,4 +1,5 @@
--- Document 01, Numbered answers: "For a calendar day: 1, 3, 13."
+-- What is answered when somebody asks whether day d, from 1, of year y carries windows under the holiday list hs: one
+-- of 1, 3 and 13, tested in this order, or yes or no. Rules 3.5 and 8.2.
 use mathlib.Core.Bool.{Bool, cond}
 use mathlib.Core.List.{List}
 use Prim.Native.Nat.{ℕ}
@@ -18,14 +19,14 @@ saidOfDay YearOut = only 1
 saidOfDay BadList = only 3
 saidOfDay DayOut = only 13
 
--- answer 13: a day outside the year
+-- answer 13: the year does not have the day
 unfoldable pub dayOut : ℕ → ℕ → Bool
 dayOut y d = outside 1 (yearDays y) d
 
 abbrev pub DayOfYear : ℕ → ℕ → Type 0
 DayOfYear y d = Within 1 (yearDays y) d
 
--- what is answered: the first number whose row holds, else 0 with yes or no
+-- what is answered: the first number whose test holds, else 0 with yes or no
 unfoldable pub calendarAnswer : ℕ → List ℕ → ℕ → Said
 calendarAnswer y hs d =
     cond (yearOut y) (only 1)
@@ -33,7 +34,7 @@ calendarAnswer y hs d =
     (cond (dayOut y d) (only 13)
     (yesNo (carries y hs d))))
 
--- The table's rows for a calendar day: what each number is given for, where no number before it in the order is given.
+-- The rows of the table of Rule 8.1 for a calendar day: when each number is answered, no test before its own holding.
 pub data DayRow (y : ℕ) (hs : List ℕ) (d : ℕ) : ℕ → Type 0 where
   one : (ChargeYear y → ⊥) → DayRow y hs d 1
   three : ChargeYear y → (LegalHolidays y hs → ⊥) → DayRow y hs d 3

@@ -1,4 +1,5 @@
--- How the code works inside: marks for the listed days. Nothing of this is promised to a caller.
+-- How the code works inside: an array that marks the listed days, so that no list is searched. Nothing of this is
+-- promised to a caller.
 use mathlib.Core.Path.{_≡_}
 use mathlib.Core.Bool.{Bool, false, cond}
 use mathlib.Core.List.{List}
@@ -7,8 +8,8 @@ use lib.Dec.{ltb}
 use lib.ListN.{getD}
 use Rattle.holidays.specs.Holidays.{listed}
 
--- the places that mark days: one for each of days 0 to 367, so for a year's days and the days beside
--- them, and a last one for all others
+-- the places of the array, from 0: place d marks day d, for days 0 to 367, so for a year's days and the days beside
+-- them; the last place, 368, is for all other days
 abbrev pub lastMark : ℕ
 lastMark = 368
 

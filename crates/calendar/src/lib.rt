@@ -1,5 +1,7 @@
-// The calendar of document 01: the days that carry windows.
-// Main theorem: whatever year, list and day are given, the answer is the paper's, and nothing else meets the promise.
+// Which days of a year carry windows (Rules 3.3 to 3.5). It meets specs/Answer and specs/Free; how listed days are
+// marked inside is in specs/Marks. Days count from 1, weekdays from 0.
+// Main theorem: whatever year, list and day are given, each number is answered exactly when its row of Rule 8.1 says,
+// and nothing else meets the contract (`exactly`, `carries-only`, proofs/Answers).
 ghost use mathlib.Core.Path.{_≡_};
 ghost use Prim.Native.Nat.{_-_, _≤_, _<_};
 ghost use Rattle.dates.specs.Dates.{mostDays};
@@ -7,7 +9,8 @@ ghost use Rattle.calendar.specs.Free.{christmas, free, candidate, bridge
 ghost use Rattle.calendar.specs.Answer.{saidOfDay, dayOut, calendarAnswer};
 ghost use Rattle.calendar.specs.Marks.{markPlaces, lastMark, markPlace, marked, Marks};
 
-// The places that mark listed days: one for each of days 0 to 367, and a last one for days that no year has.
+// The places, from 0, that mark listed days: place d for day d, from 0 to 367, and a last one for days that no year
+// has.
 const MARK_PLACES: usize = 369;
 
 const LAST_MARK: usize = 368;
@@ -63,7 +66,7 @@ fn in_christmas(year: u16, day: u16) -> bool
     (day <= 1) | (dates::year_days(year) - 7 <= day)
 }
 
-// Free by another rule than that of bridge days.
+// Is a day free by another ground than that of bridge days?
 fn is_free(year: u16, marks: &[bool; MARK_PLACES], day: u16) -> bool
     requires { ⌜ day < lastMark ⌝ }
     ensures { λ r. ⌜ r ≡ free year (marked (now (marks .entry))) day ⌝ }
@@ -77,7 +80,7 @@ fn is_free(year: u16, marks: &[bool; MARK_PLACES], day: u16) -> bool
     in_christmas(year, day)
 }
 
-// A day of the weekday, with a listed neighbour, that is not free already.
+// Is a day a candidate for a bridge day: the weekday `on`, with `beside` on the list, and not free already?
 fn is_candidate(year: u16, marks: &[bool; MARK_PLACES], on: u8, beside: u16, day: u16) -> bool
     requires { ⌜ (beside < lastMark) × (day < lastMark) ⌝ }
     ensures { λ r. ⌜ r ≡ candidate year (marked (now (marks .entry))) on beside day ⌝ }
@@ -98,7 +101,7 @@ fn monday_of(friday: u16) -> u16
     if friday < 4 { 0 } else { friday - 4 }
 }
 
-// The first candidate of its week: a Monday, or a Friday whose Monday is none.
+// Is a day the bridge day of its week: a Monday that is a candidate, or a Friday that is one where its Monday is none?
 fn is_bridge(year: u16, marks: &[bool; MARK_PLACES], day: u16) -> bool
     requires { ⌜ (1 ≤ day) × (day ≤ mostDays) ⌝ }
     ensures { λ r. ⌜ r ≡ bridge year (marked (now (marks .entry))) day ⌝ }
@@ -133,6 +136,7 @@ fn kind(year: u16, marks: &[bool; MARK_PLACES], day: u16) -> DayKind
     DayKind::Windows
 }
 
+// Does a day of this kind carry windows?
 fn is_windows(kind: DayKind) -> bool
     ensures { λ r. ⌜ r ≡ isWindows kind ⌝ }
 {
@@ -145,7 +149,7 @@ fn is_windows(kind: DayKind) -> bool
     }
 }
 
-// Which days of any year carry windows by any list, day 1 first: for a loop over a year's days.
+// Which days of any year carry windows by any list, for a loop over a year's days: place k, from 0, is day k + 1.
 pub fn window_days(year: u16, holidays: &[u16]) -> [bool; dates::MOST_DAYS]
     ensures { λ r. ⌜ r ≡ windowDays year (now (holidays .entry)) ⌝ }
 {
@@ -157,13 +161,14 @@ pub fn window_days(year: u16, holidays: &[u16]) -> [bool; dates::MOST_DAYS]
     out
 }
 
+// Does a year not have a day (answer 13)?
 fn day_out(year: u16, day: u16) -> bool
     ensures { λ r. ⌜ r ≡ dayOut year day ⌝ }
 {
     (day < 1) | (dates::year_days(year) < day)
 }
 
-// Does a day of a charge year carry windows? Refuses 1, 3, 13 in this order; else yes or no.
+// Does a day, from 1, of a charge year carry windows? Refuses 1, 3, 13 in this order; else yes or no.
 pub fn carries_windows(year: u16, holidays: &[u16], day: u16) -> DayAnswer
     ensures { λ r. ⌜ saidOfDay r ≡ calendarAnswer year (now (holidays .entry)) day ⌝ }
 {

@@ -1,9 +1,9 @@
 // Dates and calendar. A record is its kind, a year and a day (16 bits each), a count (a byte), and as many 16-bit
-// holidays. Kinds:
+// holidays. Days count from 1, weekdays from 0 (Monday), seasons from 1. Kinds:
 //   Y  a whole year: its days and those of its reference period, then for days 0 to 367 the weekdays, the seasons, the
 //      period's seasons and whether the day carries windows, a character each
-//   L  a holiday list: bad_holidays, then each Monday-to-Friday day that the list leaves free, then how many days carry
-//      windows by window_days and the sum of their numbers
+//   L  a holiday list: bad_holidays, then each day from Monday to Friday that is free under the list, then how many
+//      days carry windows by window_days and the sum of their numbers
 //   D  one day: the number and, for 0, yes or no
 // tests/calendar_cases.py makes them, and what must come of them by Python's datetime.
 ghost use Prim.Native.Nat.{_<_};
@@ -25,7 +25,7 @@ fn mark(answer: DayAnswer) -> u8 {
     }
 }
 
-// Does the list leave a Monday-to-Friday day free?
+// Is the day one from Monday to Friday that is free under the list?
 fn is_freed(year: u16, list: &[u16], day: u16) -> bool {
     if 5 <= dates::weekday(year, day) {
         return false;
@@ -51,7 +51,7 @@ fn write_day(line: u8, year: u16, list: &[u16], day: u16) {
     }
 }
 
-// Day 0 and the days past the year's end, too.
+// Day 0 and the days behind the year's end, too.
 fn write_days(line: u8, year: u16, list: &[u16]) {
     for day in 0..368 {
         write_day(line, year, list, day);
@@ -87,7 +87,7 @@ fn number_if(yes: bool, n: u16) -> u64
     if yes { n as u64 } else { 0 }
 }
 
-// How many days carry windows, and the sum of their numbers.
+// How many days carry windows, and the sum of their numbers, from 1.
 fn counted(days: [bool; 366]) -> Tally {
     let mut count: u64 = 0;
     let mut sum: u64 = 0;

@@ -1,11 +1,11 @@
 // A customer's year, whole and by days: calls on a series (series.rt). Numbers have 16 bits where nothing else is said.
-// Each call prints a line: its letter, the answer's number, and what it carries in the order of document 01's table.
+// Each call prints a line: its letter, the answer's number, and its figures in the order of Rule 8.1.
 //   A  terms: sheet's length (a byte, at most 64) and bytes, count of holidays (a byte, at most 64) and holidays, the
-//      low row's capacity price and energy price, then the high row's (32 bits each), option (a byte). The decision
+//      four prices of 32 bits each, low row before high row and capacity before energy, option (a byte). The decision
 //      over the whole series (W), and an opening (O).
 //   D  day (from 1), count: as many days of the series from that day on, until one is refused. The days taken stand
 //      before the number.
-//   P  place, length: that part of the series as a day.
+//   P  place (from 0), length: that part of the series as a day.
 //   C  a closing, which leaves the state to the calls after it.
 // tests/customer_cases.py makes them, and what must come of them.
 ghost use Prim.Native.Nat.{_<_};
@@ -45,7 +45,7 @@ fn ask(series: &[u32]) -> Customer {
     opened.customer
 }
 
-// Days one after the other, until one is refused.
+// Days one after the other, `first` from 1, until one is refused.
 fn offer(series: &[u32], customer: Customer, first: usize, count: u16) -> Offered
     requires { ⌜ first < 65536 ⌝ }
 {
@@ -106,7 +106,7 @@ fn one_call(series: &[u32], customer: Customer) -> Customer {
     }
 }
 
-// The calls of a record: the first ones, up to an opening, are made on a state that was refused.
+// The calls of a record: the first ones, up to an opening, are made on the state of a refused opening.
 pub(crate) fn all_calls(series: &[u32], count: u8) {
     let none = Row {
         capacity: 0,

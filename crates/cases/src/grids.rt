@@ -1,11 +1,11 @@
 // The grid's windows, whole and by days: calls on a series (series.rt). Level and room are a byte, other numbers have
-// 16 bits. Each call prints a line: its letter and a number, for 5 with day and position.
+// 16 bits. Each call prints a line: its letter and a number, for 5 with day, from 1, and position in the day, from 0.
 //   W  year, level, room: the whole series, with the first `room` of 64 bytes that hold 170. All 64 bytes stand behind
 //      the number.
 //   O  year, level: an opening, with no day before the first.
 //   D  day (from 1), count: as many days of the series from that day on, until one is refused. The days taken stand
 //      before the number.
-//   P  place, length: that part of the series as a day.
+//   P  place (from 0), length: that part of the series as a day.
 //   C  room: a closing, which leaves the state to the calls after it. All 64 bytes stand behind the number.
 // tests/grid_cases.py makes them, and what must come of them.
 ghost use Prim.Native.Nat.{_<_};
@@ -62,7 +62,7 @@ fn opening() -> Grid {
     opened.grid
 }
 
-// Days one after the other, until one is refused.
+// Days one after the other, `first` from 1, until one is refused.
 fn offer(series: &[u32], grid: Grid, first: usize, count: u16) -> Offered
     requires { ⌜ first < 65536 ⌝ }
 {
@@ -127,7 +127,7 @@ fn one_call(series: &[u32], grid: Grid) -> Grid {
     }
 }
 
-// The calls of a record: the first ones, up to an opening, are made on a state that was refused.
+// The calls of a record: the first ones, up to an opening, are made on the state of a refused opening.
 pub(crate) fn all_calls(series: &[u32], count: u8) {
     let refused = Grid::open(0, 0);
     let mut grid = refused.grid;

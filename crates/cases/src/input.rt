@@ -54,7 +54,7 @@ pub(crate) fn count() -> usize
     byte() as usize
 }
 
-// A place or a count: two of them multiplied and one more added stay far below what a usize holds.
+// A place, from 0, or a count: two of them multiplied and one more added stay far below what a usize holds.
 pub(crate) fn size() -> usize
     ensures { λ r. ⌜ r < 65536 ⌝ }
 {

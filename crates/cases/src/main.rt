@@ -1,10 +1,11 @@
-// Runs calendar, sheet, grid, tariff and customer on records from standard input and prints what they answer; nothing
-// here is decided or proved of them. A record begins with its kind, a byte; the file of its module says what follows:
+// Runs the module's calls on records from standard input and prints what they answer: dates, periods, holidays,
+// calendar, sheet_write, sheet_read, charges, decision, grid and customer. Nothing here is decided or proved of them. A
+// record begins with its kind, a byte; the file of its module says what follows:
 //   Y L D  calendars.rt: a year, a holiday list, a day
 //   W R    sheets.rt: a sheet written, a sheet read
 //   T      tariffs.rt: a year's figures judged
 //   G C    series.rt: a series by its recipe, then calls on it, of the grid (grids.rt) or of a customer (customers.rt)
-// Numbers have their high byte first. tests/cases.py makes the records, and what must come of them from document 01.
+// Numbers have their high byte first. tests/cases.py makes the records, and what must come of them by docs/RULES.md.
 mod calendars;
 mod customers;
 mod grids;

@@ -33,7 +33,7 @@ pub(crate) fn bytes(bytes: [u8; ROOM]) {
     }
 }
 
-// An answer's number, then each figure that it carries.
+// An answer's number, then each of its figures.
 pub(crate) fn answer(listed: Numbers) {
     let last = listed.count as usize;
     let line = answer_numbers::line_of(listed);

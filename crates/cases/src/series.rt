@@ -1,9 +1,10 @@
 // A series has some 35,000 readings, so a record holds a recipe of one, and then calls on it. Numbers have 16 bits
 // where nothing else is said. A record:
 //   G, C  length (at most 35,500), base (32 bits: what every reading is at first), count of patches and count of calls
-//         (a byte each), the patches, the calls. Prints S and the length, then what grids.rt or customers.rt says
-//   a patch: first place, count, step, value (32 bits), spread, seed. It sets `count` readings, from the first place on
-//         and every `step`, to the value less a made-up amount of at most `spread`
+//         (a byte each), the patches, the calls. Prints the letter S and the length, then what grids.rt or customers.rt
+//         says
+//   a patch: first place (from 0), count, step, value (32 bits), spread, seed. It sets `count` readings, from the first
+//         place on and every `step`, to the value less a made-up amount of at most `spread`
 ghost use Prim.Native.Nat.{_<_, _≤_};
 use super::customers;
 use super::grids;
@@ -43,7 +44,7 @@ struct Values {
     seed: u16,
 }
 
-// A step of 0 sets one place again and again, and places past the end are left out.
+// Places count from 0. A step of 0 sets one place again and again, and places behind the end are left out.
 fn set_every(series: &mut [u32], first: usize, count: usize, step: usize, values: Values)
     requires { ⌜ (first < 65536) × (count < 65536) × (step < 65536) ⌝ }
 {
@@ -89,7 +90,7 @@ fn end_of(at: usize, size: usize, len: usize) -> usize
     if size < len - at { at + size } else { len }
 }
 
-// A part of the series by its place and its length, as much as there is of it.
+// A part of the series by its place, from 0, and its length, as much as there is of it.
 pub(crate) fn part(series: &[u32]) -> &[u32] {
     let at = input::smaller(input::size(), series.len());
     let end = end_of(at, input::size(), series.len());

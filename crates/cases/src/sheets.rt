@@ -1,9 +1,9 @@
 // The window sheet. Records:
-//   W  year (16 bits), level, room (at most 64), count (16 bits), and as many seasons (from 0) and quarters, a byte
-//      each: the quarters are chosen and written into the first `room` of 64 bytes that hold 170. Prints the number,
-//      then all 64 bytes.
+//   W  year (16 bits), level, room (at most 64), count (16 bits), and as many seasons (from 0) and quarters (from 0), a
+//      byte each: the quarters are chosen and written into the first `room` of 64 bytes that hold 170. Prints the
+//      number, then all 64 bytes.
 //   R  length (at most 64) and as many bytes: they are read as a sheet. Prints the number, year, level and each set
-//      quarter as season (from 1) and quarter.
+//      quarter as season (from 1) and quarter (from 0).
 // tests/sheet_cases.py makes them, and what must come of them.
 ghost use Prim.Native.Nat.{_<_};
 use super::input;
@@ -22,7 +22,7 @@ fn number(answer: SheetAnswer) -> u64 {
     }
 }
 
-// A season and a quarter as a place in all windows.
+// A season and a quarter, both from 0, as a place in all windows: season by season, 96 each.
 fn next_place() -> usize
     ensures { λ r. ⌜ r < 384 ⌝ }
 {

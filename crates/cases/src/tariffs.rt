@@ -1,8 +1,8 @@
-// The rules over a year's figures. A record:
-//   T  M (32 bits), S (64 bits), is there an in-window quarter (a byte), H (32 bits), its day (16 bits) and quarter (a
-//      byte), level (a byte), the low row's capacity price and energy price, then the high row's (32 bits each), option
-//      (a byte)
-// It prints a line for each call: the answer's number, and what it carries in the order of document 01's table.
+// The rules over a year's figures (Rules 7.1 to 7.7). A record:
+//   T  M (32 bits), S (64 bits), is there an in-window quarter (a byte), H (32 bits), its day (16 bits, from 1) and
+//      quarter (a byte, from 0), level (a byte), the four prices of 32 bits each, low row before high row and capacity
+//      before energy, option (a byte)
+// It prints a line for each call: the answer's number, and its figures in the order of Rule 8.1.
 //   P  prices_out: 1 for yes, 0 for no
 //   E  eligible
 //   C  charge

@@ -1,5 +1,5 @@
-// Prices and charges of a year's figures: document 01, Customer's year and decision. Any figures and any prices have an
-// answer.
+// Tests a price list, and works out the charges of a year's figures. Any figures and any prices have an answer. It
+// meets `tariff`, specs/Prices, specs/Charges and specs/Decision. Rules 2.1, 6.6 and 7.1 to 7.5.
 ghost use mathlib.Core.Path.{_≡_};
 ghost use Prim.Native.Nat.{_≤_, max};
 ghost use Rattle.tariff.specs.Prices.{rowOut, pricesOut, LegalRow, LegalPrices};
@@ -14,26 +14,27 @@ use tariff::Rates;
 use tariff::Row;
 use tariff::TwoCharges;
 
-// Below 2,500 hours of use: the sum of the quarter means is below 10,000 times the peak.
+// Fewer than 2,500 hours of use: S is less than 10,000 times M (Rule 6.6).
 const ROW_QUARTERS: u64 = 10_000;
 
-// The floor is the fifth part of the general charge.
+// The floor is a fifth of the general charge (Rule 7.4).
 const FLOOR_PARTS: u64 = 5;
 
-// The parts of a cent, and those of a W at a cent per kW and year.
+// A cent has 4,000,000 parts, in which charges are added up; one W at one cent for one kW a year is 4,000 of them.
 const CENT_PARTS: u64 = 4_000_000;
 
 const CAPACITY_PARTS: u64 = 4_000;
 
 const HALF_CENT: u64 = CENT_PARTS / 2;
 
+// Is one of the two prices of a row above its limit?
 fn row_out(row: Row) -> bool
     ensures { λ r. ⌜ r ≡ rowOut row ⌝ }
 {
     answers::capacity_out(row.capacity) | answers::energy_out(row.energy)
 }
 
-// Is a price of a price list above its limit (answer 6)? Any list has an answer.
+// Is one of the four prices of a list above its limit (answer 6)? Any list has an answer.
 pub fn prices_out(prices: Prices) -> bool
     ensures { λ r. ⌜ r ≡ pricesOut prices ⌝ }
 {
@@ -42,8 +43,8 @@ pub fn prices_out(prices: Prices) -> bool
     row_out(low) | row_out(high)
 }
 
-// A charge for a capacity figure, rounded once. The sum is split at the parts of a cent, so that no product is too
-// large, whatever the sum: the whole multiples need no rounding.
+// A charge in cent for a capacity figure in W, rounded once. The sum is taken apart into a multiple of 4,000,000 and
+// the rest: the multiple makes whole cents and needs no rounding, and so no product is too large, whatever the sum.
 fn charge_for(power: u32, row: Row, sum: u64) -> u64
     requires { ⌜ LegalRow row ⌝ }
     ensures { λ r. ⌜ r ≡ chargeFor power row sum ⌝ }
@@ -54,13 +55,14 @@ fn charge_for(power: u32, row: Row, sum: u64) -> u64
         + (CAPACITY_PARTS * (power as u64) * l + sum % CENT_PARTS * a + HALF_CENT) / CENT_PARTS
 }
 
-// Hours of use below 2,500, without a division: M may be 0, and then the high row applies.
+// Are there fewer than 2,500 hours of use? There is no division, since M may be 0: then the high row applies.
 fn few_hours(figures: Figures) -> bool
     ensures { λ r. ⌜ r ≡ fewHours figures ⌝ }
 {
     figures.sum < ROW_QUARTERS * (figures.peak as u64)
 }
 
+// The low row where `low` is set, else the high row.
 fn row_of(prices: Prices, low: bool) -> Row
     requires { ⌜ LegalPrices prices ⌝ }
     ensures { λ r. ⌜ (r ≡ rowOf prices low) × LegalRow r ⌝ }
@@ -73,7 +75,7 @@ fn row_of(prices: Prices, low: bool) -> Row
     row
 }
 
-// For the annual peak. The customer's option does not enter: the reduction is measured from this charge.
+// The general charge: for M. It never goes by the option, and the reduction is measured from it.
 fn general_cents(figures: Figures, rates: Rates) -> u64
     requires { ⌜ LegalPrices (rates .prices) ⌝ }
     ensures { λ r. ⌜ r ≡ general figures rates ⌝ }
@@ -83,8 +85,7 @@ fn general_cents(figures: Figures, rates: Rates) -> u64
     charge_for(figures.peak, row, figures.sum)
 }
 
-// For the in-window peak, in the same row; the option leaves the low row for the high one, and at 2,500 hours changes
-// nothing.
+// The reduced charge: for H, in the same row. With the option and fewer than 2,500 hours of use it is the high row.
 fn reduced_cents(figures: Figures, rates: Rates) -> u64
     requires { ⌜ LegalPrices (rates .prices) ⌝ }
     ensures { λ r. ⌜ r ≡ reduced figures rates ⌝ }
@@ -94,8 +95,8 @@ fn reduced_cents(figures: Figures, rates: Rates) -> u64
     charge_for(figures.high, row, figures.sum)
 }
 
-// The larger of reduced charge and floor. The floor is one fifth, rounded up: rounded down it would undercut the
-// statutory floor by a cent.
+// The larger of the reduced charge r and the floor, a fifth of the general charge g. The fifth goes up to a whole cent:
+// down, it could be less than a fifth, which the ordinance does not allow (Rule 7.4).
 fn with_floor(r: u64, g: u64) -> u64
     requires { ⌜ g ≤ chargeMost ⌝ }
     ensures { λ c. ⌜ c ≡ max r (floorOf g) ⌝ }
@@ -115,8 +116,8 @@ pub fn general_charge(figures: Figures, rates: Rates) -> General
     General::Cents(general_cents(figures, rates))
 }
 
-// The charge of an eligible customer, the larger of reduced charge and floor, beside the general charge; or 6. Who asks
-// for both asks here, once. Any figures and any rates have an answer.
+// The charge c beside the general charge g, or 6. The decision needs both and asks once. Any figures and any rates have
+// an answer.
 pub fn both_charges(figures: Figures, rates: Rates) -> BothCharges
     ensures { λ r. ⌜ saidOfCharges r ≡ chargesAnswer figures rates ⌝ }
 {

@@ -118,7 +118,7 @@ module _ (k : Basis) (o : customerOpenAnswer k ≡ only 0) where
   opens : openCustomer k ≡ holding (termsOf k) [] 0
   opens = sym (opened-state k (sym o)) ∙ opens-holding (termsOf k)
 
-  -- Document 01: "Closing after all days answers as the whole series does."
+  -- Rule 9.4: the same answer
   pub days-whole : AsWhole (Year (basisYear k)) customerMost customerDayAnswer dayCustomer (openCustomer k) customerCloseAnswer (decideAnswer k)
   days-whole =
       as-whole (machine (termsOf k)) customerCloseAnswer (decideAnswer k)

@@ -1,5 +1,5 @@
--- A customer's year day by day: opening, a day, closing, and the state between them. Rules 8.2 and 9.3 to 9.5. The days
--- taken count from 0. What the opening answers stands in terms, specs/Opening. The basis k.
+-- A customer's year day by day: opening, a day, closing, and the state between them. Rules 8.2 and 9.3 to 9.6. Days
+-- count from 0: the next day is day `seen`. What the opening answers stands in terms, specs/Opening. The basis k.
 use mathlib.Core.Path.{_≡_}
 use mathlib.Core.Bool.{Bool, cond, not}
 use mathlib.Core.List.{List}
@@ -36,7 +36,8 @@ shutCustomer = record { terms = noTerms; seen = shutDays; figures = noFigures }
 unfoldable pub openCustomer : Basis → Customer
 openCustomer k = after (customerOpenAnswer k) (freshCustomer (termsOf k)) shutCustomer
 
--- a sum above what so many days of legal readings can have: no call hands back a state with one, and it takes no day
+-- no days of legal readings have a sum above this: a hundred of the highest reading for each day. So no call hands back
+-- a state with such a sum, and it takes no day
 abbrev pub daySumMost : ℕ
 daySumMost = mostReadings * customerMost
 

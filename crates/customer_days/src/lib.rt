@@ -1,5 +1,5 @@
-// A customer's year that is given day by day: opening, one day after the other, closing. It meets specs/Days. Rules 9.1
-// to 9.6.
+// A customer's year that is given day by day: opening, one day after the other, closing. It meets specs/Days. Rules 9.3
+// to 9.6. The days taken count from 0, the day that 5 names from 1.
 // Main theorem: days given one by one, refused ones among them, close as the whole series of the taken days
 // (`days-whole`, proofs/Whole).
 ghost use mathlib.Core.Path.{_≡_};
@@ -16,7 +16,7 @@ use tariff::Figures;
 use tariff::Prices;
 use terms::Terms;
 
-// What a day of legal readings can add to the sum, which has at most `readings::MOST_READINGS`.
+// More than a day of legal readings can add to the sum: a hundred of the highest (`readings::MOST_READINGS`).
 const DAY_SUM_MOST: u64 = 100_000_000_000;
 
 // A year that is given day by day: the days taken so far, and their figures.
@@ -69,8 +69,8 @@ fn figures_of(taking: Taking) -> Figures
 }
 
 impl Customer {
-    // Opens a year that comes day by day. Refuses 12, 1, 2, 12, 3, 6 in this order; a refusal hands back one fixed
-    // state, on which every day and every closing is 13.
+    // Opens a year that comes day by day. Refuses 12, 1, 2, 12, 3, 6 in this order; beside a refusal stands one fixed
+    // state, which takes no day and never closes (Rule 9.5).
     pub fn open(sheet: &[u8], holidays: &[u16], prices: Prices, option: bool) -> Stepped
         ensures { λ r. ⌜ (let k = basis (now (sheet .entry)) (now (holidays .entry)) prices option in
             Steps (customerOpenAnswer k) (openCustomer k) r) ⌝ }

@@ -26,7 +26,7 @@ use Rattle.customer_file.specs.declared.CustomerFile.{CustomerFile}
 use Rattle.customer_file.specs.CustomerMachine.{customerReader}
 use Rattle.fields.proofs.Machine.{given-staged}
 
--- what a day is answered: 13, 4, 5 with its place, or 0, which carries nothing
+-- what a day is answered: 13, 4, 5 with its place, or 0 without figures
 module _ (P : Said → Type 0) (thirteen : P (only 13)) (four : P (only 4)) (five : (place : Place) → P (badPlace place)) (taken : P (only 0)) where
   by-tests :
       (over out wrong bad : Bool) (place : Place)
@@ -45,11 +45,11 @@ module _ (P : Said → Type 0) (thirteen : P (only 13)) (four : P (only 4)) (fiv
       by-tests (overfull c) (leb (runDays run) (c .seen)) (not (eqb (length day) (dayLen run (c .seen)))) (ltb first (length day))
       (record { day = c .seen + 1; position = first })
 
--- the places of the enum's cases, without that of `BadReading`, which is 7
+-- the places of the enum's cases, from 0, without that of `BadReading`, which is 7
 abbrev pub others : List ℕ
 others = 0 ∷ 1 ∷ 2 ∷ 3 ∷ 4 ∷ 5 ∷ 6 ∷ 8 ∷ 9 ∷ 10 ∷ 11 ∷ 12 ∷ 13 ∷ 14 ∷ []
 
--- only a bad reading carries its place on
+-- only 5 hands its place on
 pub stage-number : (d : Decision) → ((place : Place) → d ≡ BadReading place → ⊥) → Stage.Refused (saidOf d .number) ≡ stageOf (saidOf d)
 unfolding stageOf
 stage-number (Accepted a) n = refl

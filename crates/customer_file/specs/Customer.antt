@@ -1,5 +1,5 @@
--- Document 01, Two programs: a customer file is its header ("CUS", version 1, a sheet, option, holidays, prices), then
--- the readings of the charge year. What such a file is answered, by its bytes b.
+-- What a customer file is answered, by its bytes b: its header (room `customer_head`), then the readings of the charge
+-- year, four bytes each. Rules 10.3 to 10.5.
 use mathlib.Core.List.{List}
 use Prim.Native.Nat.{ℕ}
 use Rattle.answers.specs.Ruling.{customerMost}
@@ -11,7 +11,8 @@ use Rattle.fields.specs.Series.{seriesIn}
 use Rattle.fields.specs.File.{fileAnswer}
 use Rattle.customer_head.specs.Header.{customerYear, customerLayout, basisIn}
 
--- what a customer file is answered: its header, then its days, then what the decision over its whole series is
+-- what a customer file is answered: for its header, then for its days, and without a fault there, what the decision
+-- over its whole series is
 unfoldable pub customerAnswer : List ℕ → Said
 customerAnswer b =
     fileAnswer (customerLayout b) (Year (customerYear b)) customerMost

@@ -1,5 +1,5 @@
--- The machine that the statement program drives, as a reader of a file (fields, Machine): what it holds, the names of
--- its steps, and what it answers.
+-- The machine that the statement program drives, as a reader of a file (room `fields`, specs/Machine): what it holds,
+-- its steps, and what it answers. Rules 10.4, 10.5 and 10.7.
 use mathlib.Core.Bool.{cond}
 use mathlib.Core.List.{List}
 use Prim.Native.Nat.{ℕ, _+_}
@@ -17,21 +17,22 @@ use Rattle.fields.specs.Machine.{Reader, wants, fed}
 use Rattle.customer_head.specs.Header.{customerHeadMost, customerLayout, openedIn}
 use Rattle.customer_file.specs.declared.CustomerFile.{CustomerFile}
 
--- the year is opened once the header's last field is taken
+-- after k fields: the customer's year is opened once the header's last field is taken, and is the old one before
 unfoldable pub openedWith : Customer → List ℕ → ℕ → Customer
 openedWith old head k = cond (ltb k (customerLayout head .count)) old (openedIn head)
 
--- the header that holds these bytes, after k fields
+-- the state in the header: k fields are taken, and these are the header's bytes; and the state before the first byte
 abbrev pub customerHead : Customer → ℕ → List ℕ → CustomerFile
 customerHead old k head = record { field = k; head = head; customer = openedWith old head k; stage = Going }
 
 abbrev pub customerStart : CustomerFile
 customerStart = record { field = 0; head = replicate customerHeadMost 0; customer = shutCustomer; stage = Going }
 
+-- the state that has ended at a stage
 abbrev pub customerEnded : CustomerFile → Stage → CustomerFile
 customerEnded s stage = record { field = s .field; head = s .head; customer = s .customer; stage = stage }
 
--- the days are those of the charge year, and the customer's year takes them
+-- its days are those of the charge year, and the customer's year takes them in; `seen` is how many are taken
 abbrev pub customerReader : Reader CustomerFile
 customerReader =
     record {
@@ -48,12 +49,13 @@ customerReader =
       added = λ s day. record { field = s .field; head = s .head; customer = dayCustomer (s .customer) day; stage = Going };
     }
 
+-- how many bytes it wants, and what it does with those that came
 abbrev pub customerWants : CustomerFile → ℕ
 customerWants s = wants customerReader s
 
 abbrev pub customerFed : CustomerFile → List ℕ → CustomerFile
 customerFed s b = fed customerReader s b
 
--- what it answers: where it stands, and once all days are in, what closing the year says
+-- what it answers: by where it stands, and once all days are in, what closing the year says
 abbrev pub answerOf : CustomerFile → Said
 answerOf s = saidOfStage (s .stage) (customerCloseAnswer (s .customer))

@@ -1,8 +1,9 @@
-// The customer file: its header (room `customer_head`), then the readings of the charge year. Document 01, Two
-// programs. A machine that the statement program drives: `want` says how many bytes come next, and `feed` takes them,
-// fewer where the file has ended. Each field and each day is tested as soon as it is fed. What the program prints then
-// stands in the room above.
-// Main theorem: driven over any bytes, the machine prints what the file's bytes are answered (room `printed`).
+// The customer file: its header (room `customer_head`), then the readings of the charge year. A machine that the
+// statement program drives: `want` says how many bytes come next, and `feed` takes them, fewer where the file has
+// ended. Each field and each day is tested once all its bytes are there. It meets specs/CustomerMachine, and `fields`,
+// specs/Machine; room `customer_text` makes the text that is printed. Rules 10.3 to 10.5.
+// Main theorem: driven over any bytes, the machine gives what the file's bytes are answered, and that is printed (room
+// `printed_proofs`, specs/Printed).
 ghost use mathlib.Core.Path.{_≡_};
 ghost use Prim.Native.Nat.{_≤_, _<_};
 ghost use Rattle.fields.specs.Layout.{fieldSpan};
@@ -17,8 +18,8 @@ use fields::Stage;
 use readings::Run;
 use tariff::Decision;
 
-// A customer file that is read: the fields taken so far, the header's bytes, the days taken so far, and where it
-// stands.
+// A customer file that is being read: how many fields are taken, the header's bytes, the customer's year with the days
+// taken, and where the machine stands.
 pub struct CustomerFile {
     pub field: usize,
     pub head: [u8; customer_head::HEAD_MOST],
@@ -26,7 +27,7 @@ pub struct CustomerFile {
     pub stage: Stage,
 }
 
-// Where a machine stands after a day: it goes on where the day is taken.
+// Where the machine stands after a day: it goes on where the day is taken.
 fn stage_of(decision: Decision) -> Stage
     ensures { λ r. ⌜ r ≡ dayStage (saidOf decision) ⌝ }
 {
@@ -40,7 +41,7 @@ fn stage_of(decision: Decision) -> Stage
     Stage::BadReading(place)
 }
 
-// The year is opened once the header's last field is taken.
+// After k fields: the customer's year is opened once the header's last field is taken.
 fn opened_after(customer: Customer, head: &[u8], k: usize) -> Customer
     ensures { λ r. ⌜ r ≡ openedWith customer (now (head .entry)) k ⌝ }
 {
@@ -51,7 +52,7 @@ fn opened_after(customer: Customer, head: &[u8], k: usize) -> Customer
 }
 
 impl CustomerFile {
-    // Before the first byte: a blank header opens no year.
+    // The state before the first byte: a header of zeros opens no year.
     pub fn start() -> CustomerFile
         ensures { λ r. ⌜ r ≡ customerStart ⌝ }
     {
@@ -64,6 +65,7 @@ impl CustomerFile {
         }
     }
 
+    // The machine that has ended, with everything else as it was.
     fn ended(self, stage: Stage) -> CustomerFile
         ensures { λ r. ⌜ r ≡ customerEnded self stage ⌝ }
     {
@@ -77,7 +79,8 @@ impl CustomerFile {
         }
     }
 
-    // How many bytes come next: a field's, a day's, or one, which should not be there; none once the machine has ended.
+    // How many bytes come next: those of a field, those of a day, or one that should not be there; none once the
+    // machine has ended. Never more than 400 (a day has 384).
     pub fn want(self) -> usize
         ensures { λ r. ⌜ (r ≡ customerWants self) × (r ≤ 400) ⌝ }
     {
@@ -98,7 +101,7 @@ impl CustomerFile {
         0
     }
 
-    // Takes its next field, which stands there.
+    // Takes the next field, which stands at this span of the header: 12 where the file ends before it is complete.
     fn take_field(self, span: Span, b: &[u8]) -> CustomerFile
         requires { ⌜ (span ≡ fieldSpan (customerLayout (self .head)) (self .field)) × (0 < span .width) ⌝ }
         ensures { λ r. ⌜ r ≡ fieldFed customerReader self (now (b .entry)) ⌝ }
@@ -121,7 +124,8 @@ impl CustomerFile {
         }
     }
 
-    // A day's readings are given to the customer's year, which stays as it is where it refuses them.
+    // Gives a day's readings to the customer's year, which stays as it is where it refuses them: 4 where the file ends
+    // in the day.
     fn take_day(self, b: &[u8]) -> CustomerFile
         ensures { λ r. ⌜ r ≡ dayFed customerReader self (now (b .entry)) ⌝ }
     {
@@ -145,7 +149,7 @@ impl CustomerFile {
         }
     }
 
-    // After the last day: a byte that is left over is 4.
+    // Behind the last day: a byte that is there is 4.
     fn take_end(self, b: &[u8]) -> CustomerFile
         ensures { λ r. ⌜ r ≡ endFed customerReader self (now (b .entry)) ⌝ }
     {

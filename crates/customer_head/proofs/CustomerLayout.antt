@@ -273,7 +273,7 @@ module _ (b : List ℕ) where
           fits-by count-is (start-none k (omega arith)) (width-none k (omega arith))
           (omega arith) (omega arith) (λ z. omega arith) (λ z. omega arith)
 
-  -- the holidays by their bytes
+  -- the holidays by their bytes; holiday j counts from 0
   pub holiday-is : (j : ℕ) → j < n → twoAt b (holidaysPlace + 2 * j) ≡ getD (holidaysOf b) j 0
   holiday-is j l = sym (getD-table (λ i. twoAt b (holidaysPlace + 2 * i)) n j 0 l)
 

@@ -82,7 +82,7 @@ pub count-no : (b : List ℕ) (i : ℕ) {x : ℕ} → x ≡ getD b i 0 → numbe
 unfolding countField
 count-no b i e = ap (λ (x : ℕ). numberIf (ltb 40 x) 3) e
 
--- the prices: in each row the capacity price, then the energy price
+-- the prices, from 0: in each row the capacity price, then the energy price
 price-field : (b : List ℕ) (j : ℕ) → j < 4 → cond (eqb (j % 2) 0) (capacityField b) (energyField b) ≡ fieldAt (priceFields b) j
 price-field b zero l = refl
 price-field b (suc zero) l = refl

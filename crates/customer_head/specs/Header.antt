@@ -1,6 +1,5 @@
--- Document 01, Two programs: "The statement program reads "CUS", version 1, a sheet, option byte (0 or 1, else 12),
--- holiday count byte, 16-bit holidays, the low row's capacity price and energy price, then the high row's (32 bits
--- each), then readings." The header, by the file's bytes b.
+-- The header of a customer file, by the file's bytes b: mark, version, a window sheet, the option, the number of
+-- holidays, the holidays, four prices. Fields, places, holidays j and prices j count from 0. Rules 10.3 and 10.4.
 use mathlib.Core.Bool.{Bool}
 use mathlib.Core.List.{List, [], _∷_, _++_}
 use Prim.Native.Nat.{ℕ, _+_, _*_, min}
@@ -19,11 +18,11 @@ use Rattle.fields.specs.Layout.{Field, Layout, layoutOf}
 use Rattle.fields.specs.File.{part}
 use Rattle.fields.specs.Common.{markField, versionField, yearField, levelField}
 
--- "CUS"
+-- the mark `CUS`, in ASCII
 abbrev pub customerMark : List ℕ
 customerMark = 67 ∷ 85 ∷ 83 ∷ []
 
--- where sheet, option, count and holidays stand
+-- the places of the sheet, the option, the number of holidays, and the holidays
 abbrev pub sheetPlace : ℕ
 sheetPlace = markSize + versionSize
 
@@ -36,11 +35,11 @@ countPlace = optionPlace + 1
 abbrev pub holidaysPlace : ℕ
 holidaysPlace = countPlace + 1
 
--- the most bytes that a header has: with forty holidays
+-- a header has at most so many bytes: with forty holidays
 abbrev pub customerHeadMost : ℕ
 customerHeadMost = 159
 
--- the sheet, its year, and the customer's option
+-- the bytes of the sheet, its year, and whether the customer has the option
 abbrev pub sheetPart : List ℕ → List ℕ
 sheetPart b = part b sheetPlace sheetSize
 
@@ -50,14 +49,16 @@ customerYear b = twoAt b (sheetPlace + yearAt)
 abbrev pub optionOf : List ℕ → Bool
 optionOf b = eqb (getD b optionPlace 0) 1
 
--- the holidays; a count above 40 is refused itself
+-- how many holidays there are (a number above 40 is refused itself, and never more than 40 are read), and the holidays,
+-- days of the year from 1
 abbrev pub holidayCount : List ℕ → ℕ
 holidayCount b = min holidaysMost (getD b countPlace 0)
 
 abbrev pub holidaysOf : List ℕ → List ℕ
 holidaysOf b = table (λ j. twoAt b (holidaysPlace + 2 * j)) (holidayCount b)
 
--- "the low row's capacity price and energy price, then the high row's"
+-- the prices, four bytes each: the low row's for capacity, the low row's for energy, then both of the high row (Rule
+-- 10.3)
 abbrev pub pricesPlace : List ℕ → ℕ
 pricesPlace b = holidaysPlace + 2 * holidayCount b
 
@@ -71,11 +72,12 @@ pricesIn b =
       high = record { capacity = priceOf b 2; energy = priceOf b 3 };
     }
 
--- a season of the sheet: more than 40 set bits are 12
+-- a season of the sheet, 12 bytes: more than 40 set bits are 12
 unfoldable pub seasonField : List ℕ → Field
 seasonField b = record { width = seasonBytes; refusedAt = λ i. numberIf (seasonFull b i) 12 }
 
--- "option byte (0 or 1, else 12)"; a count above 40 is 3, and so is a holiday that breaks the list's row
+-- the option, one byte: above 1 it is 12. The number of holidays, one byte: above 40 it is 3. Holiday j, two bytes: 3
+-- where it breaks Rule 2.6.
 unfoldable pub optionField : List ℕ → Field
 optionField b = record { width = 1; refusedAt = λ i. numberIf (ltb 1 (getD b i 0)) 12 }
 
@@ -88,14 +90,15 @@ holidayOut b j = badEntry (customerYear b) (holidaysOf b) j
 unfoldable pub holidayField : List ℕ → ℕ → Field
 holidayField b j = record { width = 2; refusedAt = λ i. numberIf (holidayOut b j) 3 }
 
--- a capacity price, and an energy price, above its limit is 6
+-- a capacity price and an energy price, four bytes each: above its limit it is 6
 unfoldable pub capacityField : List ℕ → Field
 capacityField b = record { width = 4; refusedAt = λ i. numberIf (capacityOut (fourAt b i)) 6 }
 
 unfoldable pub energyField : List ℕ → Field
 energyField b = record { width = 4; refusedAt = λ i. numberIf (energyOut (fourAt b i)) 6 }
 
--- the fields of the header, in order: mark and version, the sheet's fields, option and count; the holidays; the prices
+-- the fields of the header, in order: twelve first ones (mark and version, the sheet's eight, option, number of
+-- holidays), then the holidays, then the four prices
 abbrev pub firstFields : List ℕ → List Field
 firstFields b =
     markField customerMark b
@@ -121,7 +124,7 @@ customerFields b = firstFields b ++ (table (holidayField b) (holidayCount b) ++ 
 unfoldable pub customerLayout : List ℕ → Layout
 customerLayout b = layoutOf (customerFields b)
 
--- the basis that the header states, and the year that it opens
+-- what the header states for the decision, and the customer's year that it opens
 abbrev pub basisIn : List ℕ → Basis
 basisIn b = basis (sheetPart b) (holidaysOf b) (pricesIn b) (optionOf b)
 

@@ -1,6 +1,6 @@
-// The header of a customer file: where its fields stand, the number that refuses each, and the year that it opens, by
-// the bytes read so far. Document 01, Two programs: "CUS", version 1, a sheet, option, holidays, prices. Fields count
-// from 0. Behind the last byte there is 0, so that every call answers for any bytes.
+// The header of a customer file: where its fields stand, the number that refuses each, and the customer's year that it
+// opens, by the header's bytes. It meets specs/Header, and `fields`, specs/Layout. Fields and places count from 0.
+// Behind the last byte there is 0, so that every call answers for any bytes. Rules 10.3 and 10.4.
 ghost use mathlib.Core.Path.{_≡_};
 ghost use mathlib.Core.Bool.{not};
 ghost use Prim.Native.Nat.{_≤_, _<_, min};
@@ -15,8 +15,8 @@ use fields::Span;
 use tariff::Prices;
 use tariff::Row;
 
-// Fields before the holidays, and prices behind them; how wide the former are, where they
-// start, and the numbers that refuse them.
+// How many fields stand before the holidays, and how many prices behind them. Of the former, field 0 (the mark) first:
+// how many bytes each takes, where it starts, and the number that refuses it.
 const FIRST_FIELDS: usize = 12;
 
 const PRICE_FIELDS: usize = 4;
@@ -27,7 +27,7 @@ const STARTS: [usize; FIRST_FIELDS] = [0, 3, 5, 8, 10, 12, 13, 25, 37, 49, 61, 6
 
 const NUMBERS: [u8; FIRST_FIELDS] = [12, 12, 12, 12, 1, 2, 12, 12, 12, 12, 12, 3];
 
-// Where the version, the sheet with its fields, option, count and holidays stand.
+// The places, from 0, of the version, the sheet with its fields, the option, the number of holidays, and the holidays.
 const VERSION_AT: usize = 3;
 
 const SHEET_AT: usize = 5;
@@ -46,7 +46,7 @@ const COUNT_AT: usize = 62;
 
 const HOLIDAYS_AT: usize = 63;
 
-// Bytes of a holiday and of a price; of all prices; of a header with forty holidays.
+// How many bytes a holiday has, a price, all prices, and a header with forty holidays.
 const HOLIDAY_BYTES: usize = 2;
 
 const PRICE_BYTES: usize = 4;
@@ -55,13 +55,14 @@ const PRICES_SIZE: usize = 16;
 
 pub const HEAD_MOST: usize = 159;
 
+// The smaller of two numbers.
 fn least(a: usize, b: usize) -> usize
     ensures { λ r. ⌜ r ≡ min a b ⌝ }
 {
     if a < b { a } else { b }
 }
 
-// How many holidays come: a count above 40 is refused itself.
+// How many holidays there are, at most 40: a number above 40 is refused itself.
 fn count_of(head: &[u8]) -> usize
     ensures { λ r. ⌜ (r ≡ holidayCount (now (head .entry))) × (r ≤ 40) ⌝ }
 {
@@ -71,7 +72,7 @@ fn count_of(head: &[u8]) -> usize
     )
 }
 
-// Where field k stands; behind the last field it is no byte, at the header's end.
+// Where field k, from 0, stands; behind the last field this is no byte, at the header's end.
 pub fn span_of(head: &[u8], k: usize) -> Span
     ensures { λ r. ⌜ r ≡ fieldSpan (customerLayout (now (head .entry))) k ⌝ }
 {
@@ -102,7 +103,7 @@ pub fn span_of(head: &[u8], k: usize) -> Span
     }
 }
 
-// Is field k, one before the holidays, refused?
+// Is field k, from 0, one of the twelve before the holidays, refused?
 fn first_fails(head: &[u8], k: usize) -> bool
     requires { ⌜ k < 12 ⌝ }
     ensures { λ r. ⌜ r ≡ not (eqb (customerLayout (now (head .entry)) .refusal k) 0) ⌝ }
@@ -134,7 +135,7 @@ fn first_fails(head: &[u8], k: usize) -> bool
     answers::HOLIDAYS_MOST < encoding::byte_at(head, COUNT_AT, 0) as usize
 }
 
-// The holiday before holiday j; 0 before the first.
+// The holiday before holiday j, from 0; 0 before the first, so that the first may be any day from 1 on.
 fn holiday_before(head: &[u8], j: usize) -> u16
     requires { ⌜ j < holidayCount (now head) ⌝ }
     ensures { λ r. ⌜ r ≡ before (holidaysOf (now (head .entry))) j ⌝ }
@@ -145,6 +146,8 @@ fn holiday_before(head: &[u8], j: usize) -> u16
     encoding::two_at(head, HOLIDAYS_AT + HOLIDAY_BYTES * (j - 1))
 }
 
+// The number that refuses holiday j, from 0: 3 where it is not behind the one before it or not in the year (Rule 2.6),
+// else 0.
 fn holiday_no(head: &[u8], j: usize) -> u8
     requires { ⌜ j < holidayCount (now head) ⌝ }
     ensures { λ r. ⌜ r ≡ numberIf (holidayOut (now (head .entry)) j) 3 ⌝ }
@@ -157,7 +160,8 @@ fn holiday_no(head: &[u8], j: usize) -> u8
     )
 }
 
-// Price j, at place i: in each row the capacity price, then the energy price. Behind the last price there is none.
+// The number that refuses price j, from 0, at place i: 6 above its limit, else 0. In each row the capacity price comes
+// first, then the energy price. Behind the last price there is none.
 fn price_no(head: &[u8], i: usize, j: usize) -> u8
     ensures { λ r. ⌜ r ≡ fieldAt (priceFields (now (head .entry))) j .refusedAt i ⌝ }
 {
@@ -171,7 +175,7 @@ fn price_no(head: &[u8], i: usize, j: usize) -> u8
     fields::number_if(answers::energy_out(price), 6)
 }
 
-// The number that refuses field k; 0 where none does, and where there is no field.
+// The number that refuses field k, from 0; 0 where it passes, and where there is no such field.
 pub fn refusal(head: &[u8], k: usize) -> u8
     ensures { λ r. ⌜ r ≡ customerLayout (now (head .entry)) .refusal k ⌝ }
 {
@@ -185,6 +189,7 @@ pub fn refusal(head: &[u8], k: usize) -> u8
     price_no(head, span_of(head, k).start, k - FIRST_FIELDS - n)
 }
 
+// The holidays, with 0 behind the last.
 fn holidays_of(head: &[u8]) -> [u16; answers::HOLIDAYS_MOST]
     ensures { λ r. ⌜ take (holidayCount (now (head .entry))) r ≡ holidaysOf (now (head .entry)) ⌝ }
 {
@@ -195,7 +200,7 @@ fn holidays_of(head: &[u8]) -> [u16; answers::HOLIDAYS_MOST]
     out
 }
 
-// "The low row's capacity price and energy price, then the high row's."
+// The prices: the low row's for capacity, the low row's for energy, then both of the high row (Rule 10.3).
 fn prices_of(head: &[u8]) -> Prices
     ensures { λ r. ⌜ r ≡ pricesIn (now (head .entry)) ⌝ }
 {
@@ -211,7 +216,8 @@ fn prices_of(head: &[u8]) -> Prices
     Prices { low, high }
 }
 
-// The year that the header opens. One that ends inside its sheet opens none.
+// The customer's year that the header opens. Where its sheet (one that is cut off, too), its holidays or its prices are
+// refused, this is the fixed state of a refused opening (Rule 9.5).
 pub fn opened(head: &[u8]) -> Customer
     ensures { λ r. ⌜ r ≡ openedIn (now (head .entry)) ⌝ }
 {

@@ -1,5 +1,5 @@
--- Document 01, Two programs: the statement program prints one line, the number and its carried figures in the table's
--- order. That line of a file's bytes, and of the machine that reads them.
+-- What the statement program prints: one line, the number and its figures. Said of a file's bytes, and of the machine
+-- that reads them. Rule 10.7.
 use mathlib.Core.List.{List}
 use Prim.Native.Nat.{ℕ}
 use Rattle.lines.specs.Figures.{statementLine}

@@ -1,5 +1,5 @@
-// What the statement program prints once the machine of the customer file has ended: the number and its figures.
-// Document 01, Two programs.
+// What the statement program prints once the machine of room `customer_file` has ended: the number and its figures. It
+// meets specs/Text; `lines`, specs/Text, says how a text is put into a lent buffer. Rule 10.7.
 ghost use mathlib.Core.Path.{_≡_};
 ghost use Prim.Native.Nat.{_≤_};
 ghost use Rattle.answer_numbers.specs.Numbers.{numbersOf};
@@ -10,7 +10,7 @@ use answer_numbers::Numbers;
 use customer_file::CustomerFile;
 use fields::Stage;
 
-// What the file is answered; 13 while the machine goes on.
+// What the file is answered, as plain numbers; 13 while the machine goes on.
 fn answer(file: CustomerFile) -> Numbers
     ensures { λ r. ⌜ (r ≡ numbersOf (answerOf file)) × (r .count ≤ 7) ⌝ }
 {

@@ -1,6 +1,7 @@
-// Dates of document 01's calendar: leap years, weekdays, months and seasons.
-// Main theorem: the weekday by three divisions is the weekday by counting every day, each
-// 29 February with them, in every year.
+// Dates: leap years, weekdays, months and seasons (Rules 3.1 and 3.2). It meets specs/Dates. The days of a year count
+// from 1.
+// Main theorem: the weekday by three divisions is the weekday by counting every day, each 29 February with them, in
+// every year (`weekday-by-leaps`, proofs/Weekdays).
 ghost use mathlib.Core.Path.{_≡_};
 ghost use Prim.Native.Nat.{_<_};
 ghost use Rattle.dates.specs.Dates.{leap, leapDay, yearDays, daysTo, monthOf, weekdayOf, seasonOf, monthLeft};
@@ -8,33 +9,36 @@ ghost use Rattle.dates.specs.Dates.{leap, leapDay, yearDays, daysTo, mon
 // The most days that a year has.
 pub const MOST_DAYS: usize = 366;
 
-// The days before each month of a common year, and before the next year; each month's season.
+// The days before each month of a common year, and before the next year; each month's season, from 1. January is at
+// place 0.
 const DAYS_BEFORE: [u16; 13] = [0, 31, 59, 90, 120, 151, 181, 212, 243, 273, 304, 334, 365];
 
 const SEASONS: [u8; 12] = [1, 1, 2, 2, 2, 3, 3, 3, 4, 4, 4, 1];
 
 const MONTHS: usize = 12;
 
+// Has a year a 29 February?
 fn is_leap(year: u16) -> bool
     ensures { λ r. ⌜ r ≡ leap year ⌝ }
 {
     (year % 4 == 0) & ((year % 100 != 0) | (year % 400 == 0))
 }
 
+// How many it has: 1 or 0.
 fn leap_day(year: u16) -> u16
     ensures { λ r. ⌜ (r ≡ leapDay year) × (r < 2) ⌝ }
 {
     if is_leap(year) { 1 } else { 0 }
 }
 
-// The days of any year.
+// How many days any year has.
 pub fn year_days(year: u16) -> u16
     ensures { λ r. ⌜ r ≡ yearDays year ⌝ }
 {
     365 + leap_day(year)
 }
 
-// The days before a month, from 0 for January to 12 for the next.
+// The days before a month, which counts from 0 here: 0 is January, 12 is January of the next year.
 fn days_to(year: u16, month: usize) -> u16
     requires { ⌜ month < 13 ⌝ }
     ensures { λ r. ⌜ (r ≡ daysTo year month) × (r < 367) ⌝ }
@@ -58,7 +62,7 @@ fn month(year: u16, day: u16) -> usize
     MONTHS
 }
 
-// The season of any day of any year: 1 winter .. 4 autumn. Day 0 counts to January, a day past the year to December.
+// The season of any day of any year, 1 winter to 4 autumn. Day 0 counts to January, a day past the year to December.
 pub fn season(year: u16, day: u16) -> u8
     ensures { λ r. ⌜ r ≡ seasonOf year day ⌝ }
 {
@@ -66,7 +70,7 @@ pub fn season(year: u16, day: u16) -> u8
     SEASONS[m - 1]
 }
 
-// The days of its month that come after a day: they lie in its season, too. None past the year.
+// How many days of its month come after a day: they lie in its season, too. None past the year.
 pub fn month_left(year: u16, day: u16) -> u16
     ensures { λ r. ⌜ r ≡ monthLeft year day ⌝ }
 {
@@ -74,7 +78,7 @@ pub fn month_left(year: u16, day: u16) -> u16
     if end < day { 0 } else { end - day }
 }
 
-// The weekday of any day of any year: 0 Monday .. 6 Sunday. Years are not looped over: the leap days before a year are
+// The weekday of any day of any year, 0 Monday to 6 Sunday. Years are not looped over: the leap days before a year are
 // counted by three divisions.
 pub fn weekday(year: u16, day: u16) -> u8
     ensures { λ r. ⌜ r ≡ weekdayOf year day ⌝ }

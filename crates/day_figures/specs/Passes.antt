@@ -1,5 +1,5 @@
--- How the code works inside: a day in short passes, by masks of the quarters that count. Nothing of this is promised to
--- a caller.
+-- How the code works inside: a day in short passes over its readings, by masks of the quarters that count. Nothing of
+-- this is promised to a caller. Days d, positions p and quarters q count from 0.
 use mathlib.Core.Path.{_≡_}
 use mathlib.Core.Bool.{Bool, false}
 use mathlib.Core.List.{List}
@@ -16,20 +16,20 @@ use Rattle.tariff.specs.declared.Figures.{Figures}
 use Rattle.day_figures.specs.declared.Tops.{Tops}
 use Rattle.day_figures.specs.Day.{alone, dayMost}
 
--- four readings below this fit 32 bits together
+-- four readings below this, 2^30, have a sum that fits 32 bits
 abbrev pub fourEnd : ℕ
 fourEnd = 1073741824
 
--- a day's sum, which is at most what a day can add
+-- a day's sum, and that it is at most what a day can add
 pub record DaySum (day : List ℕ) (sum : ℕ) : Type 0 where
   pub is : sum ≡ sumOver (alone day) (length day)
   pub most : sum ≤ dayMost
 
--- the highest reading, and the sum
+-- the highest reading of a day, and its sum
 unfoldable pub topsOf : List ℕ → Tops
 topsOf day = record { peak = highestOf day; sum = sumOver (alone day) (length day) }
 
--- a row as masks of 32 bits, all ones where a quarter is set; does any of them leave something?
+-- a row as 96 masks of 32 bits, all ones where a quarter is set and 0 elsewhere; and whether some mask is not 0
 abbrev pub allOnes : ℕ
 allOnes = 4294967295
 
@@ -43,7 +43,7 @@ someLeft masks = anyOver (λ q. ltb 0 (getD masks q 0)) dayQuarters
 unfoldable pub maskedHigh : List ℕ → Run → ℕ → List ℕ → ℕ
 maskedHigh masks run d day = largestOver (λ p. bitAnd (alone day p) (getD masks (quarterOf run d p) 0)) (length day)
 
--- the figures with a day taken in whose in-window peak, if it has one, does not count
+-- the figures with a day's highest reading and sum taken in, H as it was
 abbrev pub plainly : Figures → Tops → Figures
 plainly f t =
     record {

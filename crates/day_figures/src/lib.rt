@@ -1,6 +1,7 @@
-// A day of a run, taken into the figures of the days before by the quarters that count, and a stretch of days at once:
-// short passes over the readings. Document 01, Customer's year and decision.
-// Main theorem: where the run has the day, the sum has room and the day is as long as the run says, its record is taken
+// Takes a day, or a stretch of days at once, into the figures of the days before: short passes over the readings, by
+// the quarters that count. It meets specs/Day; specs/Passes says what the steps inside do. Days d, positions p and
+// quarters q count from 0. Rules 6.3 to 6.5 and 8.2.
+// Main theorem: where the run has the day, the sum has room for it and it is as long as the run says, the day is taken
 // in (`day-fits`, proofs/Fits); else the answer is 13 or 4.
 ghost use mathlib.Core.Path.{_≡_};
 ghost use mathlib.Core.Bool.{false, _&&_};
@@ -17,7 +18,8 @@ ghost use Rattle.day_figures.specs.Passes.{fourEnd, allOnes, masksOf, so
 use readings::Run;
 use tariff::Figures;
 
-// What a day of at most 100 readings of 32 bits can add to a sum, and the highest sum of 64 bits.
+// No day adds more than this to a sum: 100 readings of 32 bits, all bits set (a day has 96). And the highest sum of 64
+// bits.
 const DAY_MOST: u64 = 429_496_729_500;
 
 const SUM_MOST: u64 = 18_446_744_073_709_551_615;
@@ -25,7 +27,7 @@ const SUM_MOST: u64 = 18_446_744_073_709_551_615;
 // A mask that leaves every bit.
 const ALL_ONES: u32 = 4_294_967_295;
 
-// Four readings below this fit 32 bits together.
+// Four readings below this, 2^30, have a sum that fits 32 bits.
 const FOUR_END: u32 = 1_073_741_824;
 
 // The highest reading of a day, and the sum.
@@ -41,6 +43,7 @@ pub enum Taking {
     DayOut,
 }
 
+// A reading as a number of 64 bits.
 fn wide(x: u32) -> u64
     ensures { λ r. ⌜ (r ≡ x) × (r ≤ 4294967295) ⌝ }
 {
@@ -81,7 +84,8 @@ fn sum_each(day: &[u32]) -> u64
     sum
 }
 
-// The sum of a day with this peak: legal readings are below 2^30.
+// The sum of a day with this highest reading. Below 2^30, as every legal reading is, a day that has four fourths is
+// added up by these.
 fn sum_of(day: &[u32], peak: u32) -> u64
     requires { ⌜ (length (now day) ≤ 100) × (peak ≡ highestOf (now day)) ⌝ }
     ensures { λ r. ⌜ DaySum (now (day .entry)) r ⌝ }
@@ -104,13 +108,14 @@ fn tops_of(day: &[u32]) -> Tops
     Tops { peak, sum }
 }
 
+// The mask of a quarter: all ones where it counts, else 0.
 fn mask_if(set: bool) -> u32
     ensures { λ r. ⌜ r ≡ numberIf set allOnes ⌝ }
 {
     if set { ALL_ONES } else { 0 }
 }
 
-// How many quarters a row says something about: no day has more than 96.
+// How many quarters a row says something about: at most 96, since a day has no more.
 fn row_end(row: &[bool]) -> usize
     ensures { λ r. ⌜ r ≡ min (length (now (row .entry))) dayQuarters ⌝ }
 {
@@ -121,7 +126,8 @@ fn row_end(row: &[bool]) -> usize
     }
 }
 
-// The row as masks of 32 bits, all ones where a quarter is set: no reading widens them then.
+// The row as 96 masks of 32 bits, all ones where a quarter counts: as wide as a reading, so that no mask has to be
+// widened for each reading.
 fn masks_of(row: &[bool]) -> [u32; answers::DAY_QUARTERS]
     ensures { λ r. ⌜ r ≡ masksOf (now (row .entry)) ⌝ }
 {
@@ -132,7 +138,7 @@ fn masks_of(row: &[bool]) -> [u32; answers::DAY_QUARTERS]
     out
 }
 
-// Does any mask leave something? No way out of the loop, so that it costs next to nothing.
+// Is some mask not 0? The loop has no way out before its end, so that it costs next to nothing.
 fn some_left(masks: &[u32; answers::DAY_QUARTERS]) -> bool
     ensures { λ r. ⌜ r ≡ someLeft (now (masks .entry)) ⌝ }
 {
@@ -162,15 +168,15 @@ fn masked_high(masks: &[u32; answers::DAY_QUARTERS], run: Run, d: u16, day: &[u3
     high
 }
 
-// Is a quarter set in a row? None is behind its end.
+// Is quarter q, from 0, set in a row? Behind the row's end nothing is set.
 fn is_in(row: &[bool], q: usize) -> bool
     ensures { λ r. ⌜ r ≡ getD (now (row .entry)) q false ⌝ }
 {
     if q < row.len() { row[q] } else { false }
 }
 
-// The first position of day d that counts and whose reading is `high`, or the day's length: searched only where H
-// moves.
+// The first position of day d, from 0, that counts and whose reading is `high`, or the day's length where none is. It
+// is looked for only where H moves.
 fn first_in(row: &[bool], run: Run, d: u16, day: &[u32], high: u32) -> usize
     ensures { λ r. ⌜ r ≡ firstOver (λ (p : ℕ). inRow run (now (row .entry)) d p && eqb (alone (now (day .entry)) p) high)
         (length (now (day .entry))) ⌝ }
@@ -183,7 +189,7 @@ fn first_in(row: &[bool], run: Run, d: u16, day: &[u32], high: u32) -> usize
     day.len()
 }
 
-// The figures with a day taken in whose in-window peak, if it has one, does not count.
+// The figures with a day's highest reading and sum taken in, H as it was.
 fn take_plain(f: Figures, t: Tops) -> Figures
     requires { ⌜ f .sum + t .sum < sumEnd ⌝ }
     ensures { λ r. ⌜ r ≡ plainly f t ⌝ }
@@ -206,7 +212,8 @@ fn plain_day(f: Figures, day: &[u32]) -> Figures
     take_plain(f, tops_of(day))
 }
 
-// The figures with day d taken in, of which some quarter may count; `next` has its highest reading and sum.
+// The figures with day d taken in, of which some quarter may count; `next` has the day's highest reading and sum in it
+// already.
 fn take_masked(
     f: Figures,
     next: Figures,
@@ -237,9 +244,9 @@ fn take_masked(
     }
 }
 
-// The figures with day d taken in, by the row where the flag is set. `next` has its highest reading and sum, and `some`
-// tells whether the masks leave anything: else nothing more is looked for. (The pass that finds these two is the
-// callers': this function is then small enough to be laid into both of them.)
+// The figures with day d taken in, by the row where the flag is set. `next` has the day's highest reading and sum in
+// it, and `some` tells whether a mask is not 0: otherwise there is nothing to look for. (`next` is made by the caller:
+// so this function is small enough to be laid into both callers.)
 fn take_fit(
     f: Figures,
     next: Figures,
@@ -260,7 +267,7 @@ fn take_fit(
     next
 }
 
-// 13: has the run no such days, or the sum no room for so many?
+// 13: does the run not have n days from day `from` on, or is the sum without room for so many?
 fn days_out(run: Run, from: u16, n: usize, sum: u64) -> bool
     ensures { λ r. ⌜ r ≡ daysOut run from n sum ⌝ }
 {
@@ -274,7 +281,8 @@ fn days_out(run: Run, from: u16, n: usize, sum: u64) -> bool
     SUM_MOST - DAY_MOST * (n as u64) < sum
 }
 
-// The figures with day d of a run, from 0, taken in: position p counts where the row has its quarter. Refuses 13, 4.
+// The figures with day d of a run, from 0, taken in: position p counts where its quarter is set in the row. Refuses 13,
+// 4 in this order.
 pub fn take_day(f: Figures, run: Run, d: u16, row: &[bool], day: &[u32]) -> Taking
     ensures { λ r. ⌜ r ≡ dayTaken f run d (now (row .entry)) (now (day .entry)) ⌝ }
 {
@@ -291,7 +299,7 @@ pub fn take_day(f: Figures, run: Run, d: u16, row: &[bool], day: &[u32]) -> Taki
 }
 
 // The figures with as many days of a whole series taken in as there are flags, from day `from` on: the row counts on
-// those whose flag is set. Refuses 13, 4. The masks are made once for all of them.
+// those whose flag is set. Refuses 13, 4 in this order. The masks are made once for all days.
 pub fn take_days(
     f: Figures,
     run: Run,

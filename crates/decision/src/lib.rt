@@ -1,6 +1,5 @@
-// The decision over a year's figures: document 01, Customer's year and decision, and Numbered answers (the order of the
-// refusals). May the customer have the reduced charge, what is it, and the two in a row.
-// What an answer says, and what follows of it, is told in the room below.
+// The decision over a year's figures: may the customer pay the reduced charge, what is it, and both together. It meets
+// `tariff`, specs/Decision and specs/Answers; what follows from an answer is proved there, too. Rules 7.6, 7.7 and 8.2.
 ghost use mathlib.Core.Path.{_≡_};
 ghost use Prim.Native.Nat.{_+_};
 ghost use lib.Dec.{ltb};
@@ -19,18 +18,18 @@ use tariff::Plain;
 use tariff::Rates;
 use tariff::TwoCharges;
 
-// The share that each level code, from 1, asks for, in percent: a constant table, as document 01 names it.
+// The share of M that each level asks for, in percent. Levels count from 1: level 1 has place 0. Rule 2.3.
 const SHARES: [u8; 7] = [5, 10, 10, 20, 20, 30, 30];
 
+// All of M, in percent.
 const WHOLE_SHARE: u64 = 100;
 
-// The least power moved out of the windows, W, and the least reduction, cent.
+// The least move, in W, and the least reduction, in cent (Rule 7.6).
 const LEAST_MOVE: u32 = 100_000;
 
 const LEAST_REDUCTION: u64 = 50_000;
 
-// M - H: what was moved out of the windows. Nothing where H is above M: no year has such figures, but every figure has
-// an answer.
+// M - H, in W. 0 where H is above M: no year has such figures, but all figures have an answer.
 fn moved_out(figures: Figures) -> u32
     ensures { λ r. ⌜ r ≡ moved figures ⌝ }
 {
@@ -40,6 +39,7 @@ fn moved_out(figures: Figures) -> u32
     figures.peak - figures.high
 }
 
+// The share that a level, from 1, asks for, in percent.
 fn share(level: u8) -> u8
     requires { ⌜ Level level ⌝ }
     ensures { λ r. ⌜ r ≡ shareOf level ⌝ }
@@ -48,6 +48,7 @@ fn share(level: u8) -> u8
     SHARES[i]
 }
 
+// Is the share missed (9)? Equality passes.
 fn share_short(figures: Figures, rates: Rates) -> bool
     requires { ⌜ Level (rates .level) ⌝ }
     ensures { λ r. ⌜ r ≡ shareShort figures rates ⌝ }
@@ -55,6 +56,7 @@ fn share_short(figures: Figures, rates: Rates) -> bool
     WHOLE_SHARE * (moved_out(figures) as u64) < share(rates.level) as u64 * (figures.peak as u64)
 }
 
+// The figures of 8: g, M and S.
 fn plain_of(figures: Figures, g: u64) -> Plain
     ensures { λ r. ⌜ r ≡ plainOf figures g ⌝ }
 {
@@ -65,6 +67,7 @@ fn plain_of(figures: Figures, g: u64) -> Plain
     }
 }
 
+// The figures of 9, 10 and 11: those of 8, then H and its place, the day from 1 and the quarter from 0.
 fn peaks_of(figures: Figures, g: u64) -> Peaks
     ensures { λ r. ⌜ r ≡ peaksOf figures g ⌝ }
 {
@@ -77,7 +80,8 @@ fn peaks_of(figures: Figures, g: u64) -> Peaks
     }
 }
 
-// Is the reduction below its least? Without a sum: charges of any size have an answer.
+// Is the reduction less than 500 euro (11)? There is no sum that could be too large: charges of any size have an
+// answer.
 fn reduction_short(charges: TwoCharges) -> bool
     ensures { λ r. ⌜ r ≡ ltb (charges .general) (charges .charge + leastReduction) ⌝ }
 {
@@ -123,7 +127,7 @@ fn charge_rules(figures: Figures, charges: TwoCharges) -> Decision
     })
 }
 
-// May the customer have the reduced charge? Refuses 2, 6, 8, 9, 10 in this order, else 0 with yes. Any figures have an
+// May the customer pay the reduced charge? Refuses 2, 6, 8, 9, 10 in this order, else 0 with yes. Any figures have an
 // answer.
 pub fn eligible(figures: Figures, rates: Rates) -> Decision
     ensures { λ r. ⌜ saidOf r ≡ eligibleAnswer figures rates ⌝ }
@@ -138,8 +142,8 @@ pub fn eligible(figures: Figures, rates: Rates) -> Decision
     eligible_rules(figures, rates, g)
 }
 
-// What an eligible customer is charged. Refuses 6, 8, 11 in this order, else 0 with the charge. Any figures have an
-// answer.
+// What a customer who may pay the reduced charge is charged. Refuses 6, 8, 11 in this order, else 0 with the charge.
+// Any figures have an answer.
 pub fn charge(figures: Figures, rates: Rates) -> Decision
     ensures { λ r. ⌜ saidOf r ≡ chargeAnswer figures rates ⌝ }
 {
@@ -151,8 +155,8 @@ pub fn charge(figures: Figures, rates: Rates) -> Decision
 }
 
 // The decision over a year's figures: the two halves in a row, by their rules, so that no rule is written twice, the
-// level and the prices are tested once and each charge is computed once. Refuses 2, 6, 8, 9, 10, 11 in this order, else
-// 0 with the charge. Any figures have an answer.
+// level and the prices are tested once and each charge is worked out once. Refuses 2, 6, 8, 9, 10, 11 in this order,
+// else 0 with the charge. Any figures have an answer.
 pub fn judge(figures: Figures, rates: Rates) -> Decision
     ensures { λ r. ⌜ saidOf r ≡ judgeAnswer figures rates ⌝ }
 {

@@ -1,4 +1,4 @@
--- Every answer of the decision carries at most seven figures, so a line is the number and all its figures.
+-- No answer of the decision has more than seven figures, so a line is the number and all its figures.
 -- Assumes nothing.
 use Prim.Native.Nat.{_<_}
 use native.Mathlib.Omega.{arith}
@@ -8,7 +8,7 @@ use Rattle.tariff.specs.declared.Decision.the-variants.{Accepted, Eligible, Tak
 use Rattle.tariff.specs.Answers.{saidOf}
 use Rattle.answer_numbers.specs.Numbers.{Few}
 
--- every answer of the decision carries at most seven figures, and its number fits a byte
+-- no answer of the decision has more than seven figures, and its number fits a byte
 abbrev Small : Said → Type 0
 Small s = Few (s .figures) × (s .number < 256)
 

@@ -1,7 +1,6 @@
-// A decision as a plain list of numbers: its number and the figures that document 01's table lists for it (Numbered
-// answers, "carries").
-// Main theorem: every decision carries at most seven figures (`decision-small`, proofs/Line), so its list says all of
-// them.
+// A decision as plain numbers: its number and the figures that follow it. It meets `answer_numbers`, specs/Numbers, and
+// `tariff`, specs/Answers. Rule 8.1.
+// Main theorem: no decision has more than seven figures (`decision-small`, proofs/Line), so its list says all of them.
 ghost use mathlib.Core.Path.{_≡_};
 ghost use Rattle.tariff.specs.Answers.{saidOf, withPlain, withPeaks, withCharge};
 ghost use Rattle.answer_numbers.specs.Numbers.{numbersOf};
@@ -11,6 +10,7 @@ use tariff::Decision;
 use tariff::Peaks;
 use tariff::Plain;
 
+// 8: g, M, S.
 fn with_plain(a: Plain) -> Numbers
     ensures { λ r. ⌜ r ≡ numbersOf (withPlain a) ⌝ }
 {
@@ -21,6 +21,7 @@ fn with_plain(a: Plain) -> Numbers
     }
 }
 
+// 9, 10 or 11: g, M, S, H and its place, the day from 1 and the quarter from 0.
 fn with_peaks(number: u64, a: Peaks) -> Numbers
     ensures { λ r. ⌜ r ≡ numbersOf (withPeaks number a) ⌝ }
 {
@@ -40,6 +41,7 @@ fn with_peaks(number: u64, a: Peaks) -> Numbers
     }
 }
 
+// 0: c, then the figures of 9, 10 and 11.
 fn with_charge(a: Charged) -> Numbers
     ensures { λ r. ⌜ r ≡ numbersOf (withCharge a) ⌝ }
 {
@@ -60,6 +62,7 @@ fn with_charge(a: Charged) -> Numbers
     }
 }
 
+// 0 with yes, which is 1.
 fn eligible() -> Numbers
     ensures { λ r. ⌜ r ≡ numbersOf (saidOf Decision.Eligible) ⌝ }
 {
@@ -70,7 +73,7 @@ fn eligible() -> Numbers
     }
 }
 
-// A decision's number and the figures that the table lists for it.
+// A decision's number and its figures, as the table of answers has them.
 pub fn of_decision(answer: Decision) -> Numbers
     ensures { λ r. ⌜ r ≡ numbersOf (saidOf answer) ⌝ }
 {

@@ -1,5 +1,5 @@
--- Two modules that meet the demands answer every input alike: the rows fix the number, the columns the figures, and the
--- first illegal reading is one.
+-- Two modules that meet the demands answer every input alike: the rows fix the number, the columns (specs/Refusals) the
+-- figures, and only one reading is the first illegal one.
 -- Assumes nothing.
 use mathlib.Core.Path.{_≡_, refl, sym, _∙_}
 use mathlib.Core.Logic.{_↔_}

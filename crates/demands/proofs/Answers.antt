@@ -1,4 +1,5 @@
--- Demand 2, cited from the rooms below; and what a reader of the bytes has that an accepted series leaves.
+-- What is answered is what the rules say (specs/Answers), taken from the crates below; and what a reader of the bytes
+-- has that an accepted series leaves.
 -- Assumes nothing.
 use mathlib.Core.Path.{_≡_, refl, sym, ap, _∙_}
 use mathlib.Core.Bool.{Bool, true, false, cond}
@@ -87,7 +88,7 @@ otherwise : (t : Bool) (n : ℕ) (a : Said) → (n ≡ 0 → ⊥) → cond t (on
 otherwise true n a r z = absurd (r z)
 otherwise false n a r z = refl
 
--- the curve of a season, by the definition and out of the flat curves
+-- the curve of a season, by the definition and out of the four curves that stand one after the other
 abbrev curveIn : ℕ → List ℕ → ℕ → List ℕ
 curveIn y xs s = table (curveAt y xs (periodDays y) s) dayQuarters
 

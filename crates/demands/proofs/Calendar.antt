@@ -1,4 +1,4 @@
--- The calendar's tests say in plain orders what they are called by.
+-- The calendar's tests say what specs/Calendar says without tests.
 -- Assumes nothing.
 use mathlib.Core.Path.{_≡_, refl, sym, ap, _∙_}
 use mathlib.Core.Bool.{Bool, true, false, not, _&&_, _||_}
@@ -126,7 +126,7 @@ module _ (y : ℕ) (hs : List ℕ) where
           let f = none (fridayCandidate y (listed hs) d && not (mondayCandidate y (listed hs) (d - 4))) (friday-is d .0) (w .no-friday) in
           simp (lt-leb saturday (weekdayOf y d) (omega (arith, o .week)), o .unlisted, away d .1 (o .new-year, o .christmas), m, f)
 
--- what 0 carries
+-- the figure of an answer 0
 pub bit-one : (b : Bool) → (bit b ∷ [] ≡ 1 ∷ []) ↔ (b ≡ true)
 bit-one true = ((λ e. refl), (λ e. refl))
 bit-one false = ((λ e. absurd (omega (arith, ap (λ (x : List ℕ). getD x 0 0) e))), (λ e. absurd (clash e refl)))

@@ -1,4 +1,4 @@
--- Demand 1: each number carries what the table lists, and 5 names the first illegal reading.
+-- Each number has the figures of Rule 8.1 (specs/Refusals), and 5 names the first illegal reading.
 -- Assumes nothing.
 use mathlib.Core.Path.{_≡_, refl, sym, ap, _∙_}
 use mathlib.Core.Bool.{Bool, true, false, cond, not}

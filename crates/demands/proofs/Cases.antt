@@ -1,4 +1,4 @@
--- The starred cases 1 to 12 of document 01: every case of the list holds, computed by the checker; case 10, for every
+-- The cases with a star, 1 to 12 (Rule 11.1): every case of the list holds, computed by the checker; case 10, for every
 -- peak, by the law of equal values.
 -- Assumes nothing.
 use mathlib.Core.Path.{_≡_, refl}

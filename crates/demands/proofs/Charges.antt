@@ -1,4 +1,4 @@
--- The charges of the definitions are those of the plain orders.
+-- The charges of the definitions are those of specs/Charges.
 -- Assumes nothing.
 use mathlib.Core.Path.{_≡_, refl}
 use mathlib.Core.Bool.{true, false}

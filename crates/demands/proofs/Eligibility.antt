@@ -94,7 +94,7 @@ module _ (k : Basis) (xs : List ℕ) where
     eight-when : (decideAnswer k xs .number ≡ 8) ↔ ((d p : ℕ) → d < basisDays k → p < dayLen (basisRun k) d → inWindow k d p ≡ false)
     eight-when = (λ e. in-none (eight-none (told 8 .0 e) refl), λ none. told 8 .1 (eight (legal-basis k xs l) (none-in none)))
 
-  -- H's place by the sheet and the calendar, and not by the table of days
+  -- H's place by the sheet and the calendar, and not by the array of the year's days that carry windows
   by-calendar :
       FirstPlace (basisRun k) (counts terms) xs (basisDays k) (basisFigures k xs)
       → FirstPlace (basisRun k) (inWindow k) xs (basisDays k) (basisFigures k xs)

@@ -1,4 +1,5 @@
--- Series of any run that differ in their last reading alone: all others are 0. What a machine of days must tell apart.
+-- Series of any run that differ in their last reading alone: all others are 0. Whoever takes in days must tell them
+-- apart.
 -- Assumes nothing.
 use mathlib.Core.Path.{_≡_, sym, ap, _∙_}
 use mathlib.Core.List.{List, [], _∷_, _++_}
@@ -88,7 +89,7 @@ module _ (run : Run) (many : 1 < runDays run) where
   unfolding daysOf
   days-same v w = table-cong _ _ last (λ d h. part-same v w d h)
 
-  -- a wrong machine comes to the same state, so the whole series would be answered the same
+  -- a wrong way to take in days comes to the same state, so the whole series would be answered the same
   module _ (limit : ℕ) (one : 1 ≤ limit) where
     legal-0 : LegalSeries run limit (ends 0)
     legal-0 = ends-legal 0 limit (omega arith)

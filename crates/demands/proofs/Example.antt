@@ -1,5 +1,5 @@
--- The printed example's sheet: that it is read, its year and its share; and with no holidays which of the first days of
--- 2025 carry windows.
+-- The sheet of the example of Rule 10.6: that it is read, its year and its share; and with no holidays which of the
+-- first days of 2025 carry windows.
 -- Assumes nothing.
 use mathlib.Core.Path.{_≡_, refl}
 use mathlib.Core.Bool.{true, false}
@@ -21,7 +21,7 @@ use Rattle.sheet.specs.Answers.{readAnswer}
 use Rattle.year_figures.specs.Counts.{setOn}
 use Rattle.demands.specs.Cases.{exampleSheet}
 
--- the printed example's sheet
+-- the example's sheet
 unfoldable pub example : List ℕ
 example = exampleSheet
 
@@ -37,7 +37,8 @@ pub example-share : shareOf (sheetIn example .level) ≡ 20
 unfolding example shareOf
 example-share = refl
 
--- with no holidays 1 January 2025 carries no windows and 2 January does; at quarter 72 it has one
+-- with no holidays 1 January 2025, day 1, carries no windows and 2 January does; its quarter 72, from 0, is one.
+-- (`setOn` counts days from 0.)
 pub new-year : carries 2025 [] 1 ≡ false
 unfolding leap leapDay daysTo weekdayOf listed christmas free candidate bridge kindBy anyOver sumOver joined
 new-year = refl
@@ -54,7 +55,7 @@ pub no-holidays : badHolidays (sheetIn example .year) [] ≡ false
 unfolding badHolidays anyOver joined
 no-holidays = refl
 
--- a day that carries windows, by the table
+-- whether a day carries windows, by the array of the year's days, from 0, and by the calendar, from 1
 pub carrying : (d : ℕ) → d < mostDays → getD (windowDays (sheetIn example .year) []) d false ≡ carries 2025 [] (d + 1)
 unfolding windowDays
 carrying d l = rw example-year (getD-table (λ j. carries 2025 [] (j + 1)) mostDays d false l)

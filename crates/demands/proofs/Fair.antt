@@ -1,4 +1,4 @@
--- Demand 3, cited from the customer's room; and that an accepted answer carries a charge.
+-- Rule 12.3, taken from `customer`; and that an accepted answer has a charge.
 -- Assumes nothing.
 use mathlib.Core.Path.{_≡_, refl, sym, ap, _∙_}
 use mathlib.Core.Logic.{_⊎_, inl, inr}

@@ -1,5 +1,5 @@
--- States that our calls handed back: those of a refused opening stay the fixed one; those of an accepted one hold the
--- taken readings.
+-- The states that calls hand back: after a refused opening always the fixed one; after an accepted one a state that
+-- holds the taken readings.
 -- Assumes nothing.
 use mathlib.Core.Path.{_≡_, refl, sym, ap, _∙_}
 use mathlib.Core.Logic.{_⊎_, inl, inr}
@@ -48,7 +48,7 @@ use Rattle.demands.proofs.Refusals.{left-as-before, fixed-state}
 use Rattle.demands.proofs.Carried.{carried, said-is}
 use Rattle.demands.proofs.Fair.{legal-opening}
 
--- an answer that carries nothing
+-- an answer without figures
 bare-zero : {a : Said} → a .number ≡ 0 → a .figures ≡ zeroAlone [] (a .number) → a ≡ only 0
 bare-zero {a} z l = said-is a (zeroAlone []) 0 (record { listed = l }) z
 

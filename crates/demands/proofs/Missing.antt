@@ -1,4 +1,4 @@
--- A missing reading is above both limits, so no row of an accepted series or day holds.
+-- A lost reading is above both limits, so no row of an accepted series or day holds.
 -- Assumes nothing.
 use mathlib.Core.Path.{_≡_, refl}
 use mathlib.Core.Logic.{_⊎_, ⊎-elim}

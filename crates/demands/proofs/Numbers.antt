@@ -1,4 +1,4 @@
--- Document 01's numbers and dates are those of the definitions.
+-- The numbers and dates of the rules (specs/Numbers) are those of the definitions.
 -- Assumes nothing.
 use mathlib.Core.Path.{_≡_, refl, sym, ap, _∙_}
 use mathlib.Core.Bool.{and-false, or-true}
@@ -53,7 +53,7 @@ common-days : (y : ℕ) → (y % 4 ≡ 0 → ⊥) ⊎ ((y % 100 ≡ 0) × (y % 4
 unfolding leapDay leap
 common-days y = ⊎-elim (λ n. simp (ne-eqb _ _ n)) (λ h. simp (eq-eqb _ _ (h .0), ne-eqb _ _ (h .1), and-false))
 
--- the j-th of month m lies in the month
+-- the j-th of month m lies in the month; j and m count from 1
 module _ (y m j : ℕ) (h : Within 1 12 m) (w : Within 1 (monthDays y m) j) where
   in-month : dayOf y m j ≤ daysTo y m
   unfolding daysTo

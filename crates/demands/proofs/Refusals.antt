@@ -1,4 +1,4 @@
--- Demand 1: a refusal leaves state and buffer, and a refused opening hands back the fixed state.
+-- A refusal leaves state and buffer as they were, and a refused opening hands back the fixed state.
 -- Assumes nothing.
 use mathlib.Core.Path.{_≡_, sym}
 use borrow.Author.Tests.{ne-eqb}

@@ -58,7 +58,7 @@ second-january : calendarAnswer 2025 [] 2 .number ≡ 0
 unfolding calendarAnswer yearOut badHolidays dayOut leapDay leap anyOver joined
 second-january = refl
 
--- the printed example's sheet can be read, so it can be written
+-- the sheet of the example of Rule 10.6 can be read, so it can be written
 abbrev sheet : Sheet
 sheet = sheetIn example
 

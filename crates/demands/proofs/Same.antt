@@ -37,7 +37,7 @@ by-number P zero eight nine ten eleven n = ⊎-elim (λ e. rw e zero) (λ w. go 
     go w (no a) (no b) (yes e) = rw e ten
     go w (no a) (no b) (no c) = let e : n ≡ 11 = omega (arith, w .from, w .to) in rw e eleven
 
--- the peak and the sum that it carries, whatever the number is
+-- the peak and the sum among its figures, whatever the number is
 abbrev pub peakSaid : Said → ℕ
 peakSaid a = getD (a .figures) (cond (eqb (a .number) 0) 2 1) 0
 

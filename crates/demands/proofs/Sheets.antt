@@ -1,4 +1,4 @@
--- What is read from a sheet's bytes, or written into them, stands where document 01 puts it; and it reads back.
+-- What is read from a sheet's bytes, or written into them, stands where Rules 5.1 and 5.2 put it; and it reads back.
 -- Assumes nothing.
 use mathlib.Core.Path.{_≡_, refl, sym, ap, _∙_}
 use mathlib.Core.Bool.{true}

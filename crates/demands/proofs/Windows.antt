@@ -1,4 +1,4 @@
--- The peak, the curves and the kept quarters of the definitions are those of the plain orders.
+-- The peak, the curves and the kept quarters of the definitions are those of specs/Windows.
 -- Assumes nothing.
 use mathlib.Core.Path.{_≡_, refl, sym, ap}
 use mathlib.Core.Bool.{Bool, true, false, cond, _&&_, _||_, or-false}
@@ -67,7 +67,7 @@ module _ (y : ℕ) (xs : List ℕ) where
   pub curve-one : (s : ℕ) (c : ℕ → ℕ) → IsCurve y xs s c → (q : ℕ) → q < 96 → c q ≡ curve s q
   curve-one s c i q m = le-antisymm (i .least q m (curve s q) (curve-plain s .bound q m)) (curve-plain s .least q m (c q) (i .bound q m))
 
--- kept quarters: the test of the definition, and the plain orders, of values that are the same
+-- kept quarters: the test of the definition, and what specs/Windows says, of values that are the same
 module _ (peak : ℕ) (c : ℕ → ℕ) (values : List ℕ) (same : (q : ℕ) → q < 96 → c q ≡ getD values q 0) where
   line-same : (p : ℕ) → p < 96 → aboveLine peak (getD values p 0) ≡ ltb (19 * peak) (20 * c p)
   unfolding aboveLine

@@ -1,4 +1,4 @@
--- What document 01 names as shut out is shut out: for each wrong module an input on which it breaks a demand.
+-- What specs/Wrong names is shut out: for each wrong module an input on which it breaks a demand.
 -- Assumes nothing.
 use native.Mathlib.Omega.{arith}
 use Rattle.answers.specs.Ruling.{Level}

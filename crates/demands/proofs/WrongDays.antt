@@ -1,5 +1,5 @@
--- Machines of days that a module which meets the demands does not have: on series that differ in the last reading alone
--- the whole calls answer differently; and a day taken twice shows in S.
+-- Wrong ways to take in days, which a module that meets the demands does not have: on series that differ in the last
+-- reading alone the whole calls answer differently; and a day taken twice shows in S.
 -- Assumes nothing.
 use mathlib.Core.Path.{_≡_, refl, ap, _∙_}
 use mathlib.Core.List.{List, []}
@@ -156,7 +156,7 @@ module _ (m : Module) (d : Demands m) (twice : DayTwice m) where
         sum-above (λ e. sumOver (reading run series e) (dayLen run e)) (runDays run) 0 (some-days 100 (omega arith) (omega arith)),
       )
 
-  -- closing carries the state's sum
+  -- closing answers with the state's sum
   closed : m .customerClose (at (runDays run)) ≡ m .decide k series
   closed = as-whole .all-days series (lawful .series)
 

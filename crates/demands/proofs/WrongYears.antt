@@ -1,5 +1,5 @@
--- Decisions that always refuse, give one fixed charge or a made-up S do not meet document 01's definition: a year that
--- is accepted at every capacity price.
+-- A module that gives one fixed charge or makes up S does not meet the demands: shown by a year that is accepted at
+-- every legal capacity price of 100 cent or more, and whose charge goes with the price.
 -- Assumes nothing.
 use mathlib.Core.Path.{_≡_, refl, sym, _∙_}
 use mathlib.Core.Bool.{Bool, true, false}

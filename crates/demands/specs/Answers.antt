@@ -1,6 +1,8 @@
--- Demand 2: "Windows, eligibility and charge are those of document 01, to the quarter-hour and the cent." For every
--- input; a row (`DayRow`, ..) is the table's, in plain orders, with the numbers before it excluded, in the specs/Rows
--- of its room.
+-- What is answered is exactly what the rules say, for every input: each call's number, the windows of a written sheet,
+-- which quarters are in-window with M, S and H, and that days close as the whole series does. A row (`DayRow`, ..) says
+-- when a call gives a number, by ≤, < and ≡ and not by the tests that the definitions compute with: what Rule 8.1 says
+-- of the number holds, and nothing that the call tests before it. Rows stand in the specs/Rows of their crates, a
+-- calendar day's in calendar, specs/Answer. Rules 2.2, 4.2 to 4.6, 6.2 to 6.5, 8.1, 8.2, 9.2, 9.4 and 12.2.
 use mathlib.Core.Path.{_≡_}
 use mathlib.Core.Bool.{true, false}
 use mathlib.Core.Logic.{_↔_, _⊎_}
@@ -39,10 +41,10 @@ use Rattle.customer.specs.Demand.{basisRun, basisDays, inWindow, LegalYear, bas
 use Rattle.demands.specs.Windows.{IsPeak, IsCurve, Kept}
 use Rattle.demands.specs.Module.{Module, gridEnd, gridWhole}
 
--- Numbered answers, "given exactly when": each call gives a number n exactly when its row holds and no number before it
--- in the call's order is given
+-- Rules 8.1 and 8.2: each call gives a number n exactly when the row of n holds. Above each call stand the numbers that
+-- it can give.
 pub record ExactlyWhen (m : Module) : Type 0 where
-  -- 0, 1, 3, 13
+  -- 0, 1, 3, 13; the day d counts from 1
   pub calendar : (y : ℕ) (hs : List ℕ) (d n : ℕ) → (m .calendar y hs d .number ≡ n) ↔ DayRow y hs d n
   -- 0, 1, 2, 12
   pub read : (b : List ℕ) (n : ℕ) → (m .read b .number ≡ n) ↔ ReadRow b n
@@ -52,11 +54,12 @@ pub record ExactlyWhen (m : Module) : Type 0 where
   pub windows :
       (y level : ℕ) (xs buffer : List ℕ) (n : ℕ)
       → (m .windows y level xs (length buffer) .number ≡ n) ↔ WindowsRow y level xs (length buffer) n
-  -- 0, 1, 2; 0, 4, 5, 13; 0, 7, 13, 14, and 1 or 2 only on a state that no opening handed back
+  -- opening 0, 1, 2; a day 0, 4, 5, 13; closing 0, 7, 13, 14, and 1 or 2 only on a state that no call handed back (Rule
+  -- 9.6)
   pub grid-open : (y level n : ℕ) → (m .gridOpen y level .number ≡ n) ↔ OpenRow y level n
   pub grid-day : (g : Grid) (day : List ℕ) (n : ℕ) → (m .gridDay g day .number ≡ n) ↔ NextRow (Period (g .year)) gridMost (g .seen) day n
   pub grid-close : (g : Grid) (buffer : List ℕ) (n : ℕ) → (m .gridClose g (length buffer) .number ≡ n) ↔ CloseRow g (length buffer) n
-  -- 0, 2, 6, 8, 9, 10; 0, 6, 8, 11; 0, 2, 6, 8, 9, 10, 11
+  -- may the customer pay less: 0, 2, 6, 8, 9, 10; what is the charge: 0, 6, 8, 11; both: 0, 2, 6, 8, 9, 10, 11
   pub eligible : (f : Figures) (r : Rates) (n : ℕ) → (m .eligible f r .number ≡ n) ↔ EligibleRow f r n
   pub charge : (f : Figures) (r : Rates) (n : ℕ) → (m .charge f r .number ≡ n) ↔ ChargeRow f r n
   pub judge : (f : Figures) (r : Rates) (n : ℕ) → (m .judge f r .number ≡ n) ↔ JudgeRow f r n
@@ -64,13 +67,15 @@ pub record ExactlyWhen (m : Module) : Type 0 where
   pub decide :
       (k : Basis) (xs : List ℕ) (n : ℕ)
       → (m .decide k xs .number ≡ n) ↔ DecideRow k xs n
-  -- 0, 1, 2, 3, 6, 12; 0, 4, 5, 13; 0, 8 to 11, 13, and 2 or 6 only on a state that no opening handed back
+  -- opening 0, 1, 2, 3, 6, 12; a day 0, 4, 5, 13; closing 0, 8 to 11, 13, and 2 or 6 only on a state that no call
+  -- handed back (Rule 9.6)
   pub customer-open : (k : Basis) (n : ℕ) → (m .customerOpen k .number ≡ n) ↔ CustomerOpenRow k n
   pub customer-day : (c : Customer) (day : List ℕ) (n : ℕ) → (m .customerDay c day .number ≡ n) ↔ CustomerDayRow c day n
   pub customer-close : (c : Customer) (n : ℕ) → (m .customerClose c .number ≡ n) ↔ CustomerCloseRow c n
 
--- Numbers: a missing reading is never legal. A whole series that has one is not accepted, for windows neither found to
--- be without a peak (7), for a year not decided on (0 or 8 to 11); a day that has one is refused.
+-- Rule 2.2: a lost reading is illegal. A grid's series that has one is answered neither 0 nor 7, so no peak is looked
+-- at; a customer's is answered neither 0 nor 8 to 11, so nothing is decided; a day that has one is refused. Days d and
+-- positions p in a day count from 0.
 pub record NeverLegal (m : Module) : Type 0 where
   pub grid :
       (y level : ℕ) (xs buffer : List ℕ) (d p : ℕ)
@@ -89,9 +94,9 @@ pub record NeverLegal (m : Module) : Type 0 where
       → ⊥
   pub customer-day : (c : Customer) (day : List ℕ) (p : ℕ) → p < length day → getD day p 0 ≡ missing → m .customerDay c day .number ≡ 0 → ⊥
 
--- Numbered answers: "one day's ninety-six readings are handed out as a part of the year the caller lent .. for day 0,
--- or a day the run doesn't wholly hold, the part is empty". Day d, from 0, begins behind the 96 readings of each day
--- before it, in every run.
+-- Rule 9.2: of a lent series one day is handed out. In `part` and in `empty` days count from 1; d, one less, and the
+-- position p count from 0, so day d begins behind the 96 readings of each of the d days before it, in every run. The
+-- part is empty for day 0, and where the series does not have all readings of the day.
 pub record HandedOut (m : Module) : Type 0 where
   pub long : (run : Run) (xs : List ℕ) (d : ℕ) → 96 * (d + 1) ≤ length xs → length (m .part run xs (d + 1)) ≡ 96
   pub each :
@@ -101,9 +106,9 @@ pub record HandedOut (m : Module) : Type 0 where
       → getD (m .part run xs (d + 1)) p 0 ≡ getD xs (96 * d + p) 0
   pub empty : (run : Run) (xs : List ℕ) (day : ℕ) → (day ≡ 0) ⊎ (length xs < 96 * day) → m .part run xs day ≡ []
 
--- "Windows .. are those of document 01, to the quarter-hour": the sheet that a reader of the first 56 bytes has which a
--- series leaves in the buffer. Each quarter of each season is a window exactly when it is kept of the season's curve,
--- in plain orders (specs/Windows).
+-- The windows, to the quarter. `sheetShown` is the sheet that a reader of the buffer's first 56 bytes has after the
+-- call. It is the one that was asked for: year, level, and quarter q, from 0, of season s, from 1, is a window exactly
+-- when it is kept of the season's curve (`Kept`, specs/Windows). The bytes behind it stay. Rules 4.2 to 4.6 and 8.3.
 module _ (m : Module) where
   abbrev pub sheetShown : ℕ → ℕ → List ℕ → List ℕ → Sheet
   sheetShown y level xs buffer = m .sheetRead (take sheetSize (m .windowsLaid y level xs buffer))
@@ -125,11 +130,13 @@ module _ (m : Module) where
   abbrev pub ToTheQuarterHour : Type 0
   ToTheQuarterHour = (y level : ℕ) (xs buffer : List ℕ) → m .windows y level xs (length buffer) .number ≡ 0 → SheetLaid y level xs buffer
 
--- "eligibility": a complete legal year on an accepted basis is answered 8 exactly when no quarter is what demand 3
--- calls in-window; where one is, H is the highest reading of these quarters, and its place the first that has it
+-- Rules 6.2 to 6.5, for a complete legal year on an accepted basis (sheet, holidays, prices and option that an opening
+-- takes): it is answered 8 exactly when no quarter is in-window; where one is, H is the highest reading of these
+-- quarters, and its place the first that has it. Days d and positions p in a day count from 0.
 pub record Eligibility (m : Module) : Type 0 where
-  -- what demand 3 calls in-window is what the calendar and the sheet say: position p of day d, from 0, counts exactly
-  -- when the calendar carries yes for the day and the quarter is a window of the day's season
+  -- what Rule 12.3 calls in-window (customer, specs/Demand) is what the calendar and the sheet say: position p of day d
+  -- counts exactly when the calendar says yes (1) for the day, which is its day d + 1 from 1, and the quarter is a
+  -- window of the day's season
   pub in-window :
       (k : Basis) (d p : ℕ)
       → m .customerOpen k ≡ only 0
@@ -137,7 +144,7 @@ pub record Eligibility (m : Module) : Type 0 where
       → (inWindow k d p ≡ true)
       ↔ ((m .calendar (basisYear k) (k .holidays) (d + 1) .figures ≡ 1 ∷ [])
       × (isSet (m .sheetRead (k .sheet) .windows) (seasonOf (basisYear k) (d + 1)) (quarterOf (basisRun k) d p) ≡ true))
-  -- M is the highest reading and S the sum of all readings
+  -- M is at most b exactly when no reading is above b, so it is the highest reading; S is the sum of all readings
   pub peak :
       (k : Basis) (xs : List ℕ) (b : ℕ)
       → (basisFigures k xs .peak ≤ b) ↔ ((d p : ℕ) → d < basisDays k → p < dayLen (basisRun k) d → reading (basisRun k) xs d p ≤ b)
@@ -154,8 +161,8 @@ pub record Eligibility (m : Module) : Type 0 where
       → inWindow k d p ≡ true
       → FirstPlace (basisRun k) (inWindow k) xs (basisDays k) (basisFigures k xs)
 
--- Numbered answers: "Closing after all days answers as the whole series does." By what the caller sees (`AsWhole`,
--- readings, specs/Days): answer and buffer for the grid, the answer for a customer
+-- Rule 9.4: once every day was taken, closing gives what the whole series gives. By what the caller sees (`AsWhole`,
+-- readings, specs/Days): answer and buffer for the grid, the answer for a customer.
 pub record DaysAsWhole (m : Module) : Type 0 where
   pub grid :
       (y level : ℕ) (buffer : List ℕ)
@@ -165,7 +172,8 @@ pub record DaysAsWhole (m : Module) : Type 0 where
       (k : Basis)
       → m .customerOpen k ≡ only 0
       → AsWhole (basisRun k) customerMost (m .customerDay) (m .customerNext) (m .customerOpened k) (m .customerClose) (m .decide k)
-  -- where the whole series is answered 5, the days before are taken, and that day answers the same place
+  -- where the whole series is answered 5, the days before are taken, and that day answers the same place; d and q count
+  -- from 0, the answer's day from 1
   pub grid-place :
       (y level : ℕ) (xs buffer : List ℕ) (d q : ℕ)
       → m .windows y level xs (length buffer) ≡ badPlace (record { day = d + 1; position = q })

@@ -1,5 +1,5 @@
--- Demand 2, the calendar in plain orders: which days carry windows. Weekdays are 0 (Monday) to 6; year y, the listed
--- days hs, day d from 1.
+-- Which days carry windows, said by ≤, < and ≡ and not by the tests that the calendar computes with. Weekdays count
+-- from 0 (Monday) to 6 (Sunday); year y, the listed days hs, day d, from 1. Rules 3.3 to 3.5.
 use mathlib.Core.Path.{_≡_}
 use mathlib.Core.Bool.{true, false}
 use mathlib.Core.Logic.{_↔_}
@@ -9,16 +9,16 @@ use Rattle.dates.specs.Dates.{yearDays, weekdayOf}
 use Rattle.holidays.specs.Holidays.{listed}
 use Rattle.demands.specs.Module.{Module}
 
--- no rule frees it that speaks of no bridge day: it is Monday to Friday, not listed, after 1 January, and more than
--- seven days before the year's end, so before 24 December
+-- free by none of the first three lines of Rule 3.3: one of Monday to Friday, not listed, after 1 January, and more
+-- than seven days before the year's last day, so before 24 December
 pub record Working (y : ℕ) (hs : List ℕ) (d : ℕ) : Type 0 where
   pub week : weekdayOf y d ≤ 4
   pub unlisted : listed hs d ≡ false
   pub new-year : 1 < d
   pub christmas : d + 7 < yearDays y
 
--- a bridge day: a Monday whose Tuesday is listed; or a Friday whose Thursday is listed, where the Monday of its week is
--- none
+-- a bridge day (Rule 3.4): a working Monday before a listed Tuesday; or a working Friday after a listed Thursday, where
+-- the Monday of its week, four days before, is no bridge day
 pub record MondayBridge (y : ℕ) (hs : List ℕ) (d : ℕ) : Type 0 where
   pub monday : weekdayOf y d ≡ 0
   pub tuesday : listed hs (d + 1) ≡ true
@@ -30,12 +30,13 @@ pub record FridayBridge (y : ℕ) (hs : List ℕ) (d : ℕ) : Type 0 where
   pub working : Working y hs d
   pub first : MondayBridge y hs (d - 4) → ⊥
 
+-- a working day that is no bridge day
 pub record CarriesWindows (y : ℕ) (hs : List ℕ) (d : ℕ) : Type 0 where
   pub working : Working y hs d
   pub no-monday : MondayBridge y hs d → ⊥
   pub no-friday : FridayBridge y hs d → ⊥
 
--- where the calendar answers 0, it carries yes (1) exactly when the day carries windows, else no (0)
+-- where the calendar answers 0, its figure is 1 (yes) exactly when the day carries windows, else 0 (no)
 pub record Calendar (m : Module) : Type 0 where
   pub yes : (y : ℕ) (hs : List ℕ) (d : ℕ) → m .calendar y hs d .number ≡ 0 → (m .calendar y hs d .figures ≡ 1 ∷ []) ↔ CarriesWindows y hs d
   pub no : (y : ℕ) (hs : List ℕ) (d : ℕ) → m .calendar y hs d .number ≡ 0 → (m .calendar y hs d .figures ≡ 0 ∷ []) ↔ (CarriesWindows y hs d → ⊥)

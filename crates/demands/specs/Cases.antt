@@ -1,5 +1,5 @@
--- Document 01, Figures on each side: "Cases with * are proved of the definitions by one statement over one list". The
--- list is `cases`, the statement `AllHold`. "Prices unless said: low row 2,000 and 4,000, high row 10,000 and 800."
+-- The cases with a star, 1 to 12: what the definitions compute is what the case wants. All of them are one list,
+-- `cases`, and one statement, `AllHold`. Rule 11.1.
 use mathlib.Core.Path.{_≡_}
 use mathlib.Core.Bool.{Bool, true, false}
 use mathlib.Core.List.{List, [], _∷_, _++_}
@@ -21,7 +21,7 @@ use Rattle.tariff.specs.Charges.{fewHours, rowOf, general, reduced}
 use Rattle.tariff.specs.Answers.{withPeaks, withCharge, peaksOf, chargedOf}
 use Rattle.tariff.specs.Decision.{judgeAnswer}
 
--- what the definitions compute, and what the paper says: an answer, a number, a row of prices, a yes or no, a season's
+-- what the definitions compute, and what Rule 11.1 wants: an answer, a number, a row of prices, a yes or no, a season's
 -- quarters, a sheet's bytes
 pub data Case : Type 0 where
   answer : Said → Said → Case
@@ -45,7 +45,7 @@ abbrev pub Hold : List Case → Type 0
 Hold [] = Unit {0}
 Hold (c ∷ cs) = Holds c × Hold cs
 
--- a row of prices, and the price lists of the cases: capacity price, energy price
+-- a row of prices, capacity before energy; and the prices of Rule 11.1, with another high row where a case has one
 abbrev pub priced : ℕ → ℕ → Row
 priced capacity energy = record { capacity = capacity; energy = energy }
 
@@ -65,15 +65,17 @@ prices = withHigh highRow
 abbrev pub thursday : ℕ
 thursday = 3
 
--- the printed example: its curves, and its sheet
+-- the example of Rule 10.6: its four curves, 96 values each, one after the other, so that place 72, from 0, is quarter
+-- 72 of season 1; and its sheet
 abbrev pub exampleCurves : List ℕ
 exampleCurves = replicate 72 1000 ++ (2000 ∷ replicate 311 1000)
 
 abbrev pub exampleSheet : List ℕ
 exampleSheet = (0x48 ∷ 0x4c ∷ 0x5a ∷ 0x00 ∷ 0x01 ∷ 0x07 ∷ 0xe9 ∷ 0x05 ∷ []) ++ (replicate 9 0x00 ++ (0x80 ∷ replicate 38 0x00))
 
--- what the cases leave open, so that they hold whatever it is: where H first occurs; the charge year; the option, where
--- hours of use are 2,500 and more; H and the level in case 4; the peak in case 10, which is not zero
+-- what the cases leave open, so that they hold whatever it is: where H is first reached (day from 1, quarter from 0);
+-- the charge year; the option, where hours of use are 2,500 and more; H and the level in case 4; the peak in case 10,
+-- which is not zero
 pub record Unsaid : Type 0 where
   pub day : ℕ
   pub quarter : ℕ
@@ -85,7 +87,7 @@ pub record Unsaid : Type 0 where
   pub positive : 0 < peak
 
 module _ (u : Unsaid) where
-  -- a year with M, H and S
+  -- a year whose M is m, H is h and S is s
   abbrev pub year : ℕ → ℕ → ℕ → Figures
   year m h s = record { peak = m; sum = s; any = true; high = h; day = u .day; quarter = u .quarter }
 
@@ -93,7 +95,7 @@ module _ (u : Unsaid) where
   abbrev pub rates : ℕ → Prices → Bool → Rates
   rates level p option = record { year = u .chargeYear; level = level; option = option; prices = p }
 
-  -- a year f is answered 0 with g and c; or a refusal with g
+  -- a year f is answered 0 with g and c; or it is refused with number n and g
   abbrev pub charged : Figures → Rates → ℕ → ℕ → Case
   charged f r g c = answer (judgeAnswer f r) (withCharge (chargedOf f g c))
 
@@ -102,44 +104,42 @@ module _ (u : Unsaid) where
 
   abbrev pub cases : List Case
   cases =
-      -- 1. M 1,000,000, H 800,000, S 12,000,000,000, level 5: g 12,400,000, c 10,400,000.
+      -- Case 1: g and c of M 1,000,000, H 800,000, S 12,000,000,000 at level 5
       charged (year 1000000 800000 12000000000) (rates 5 prices (u .option)) 12400000 10400000
-      -- 2. The same, H 800,001: 9.
+      -- Case 2: one W more in the windows misses the share, 9
       ∷ refused (year 1000000 800001 12000000000) (rates 5 prices (u .option)) 9 12400000
-      -- 3. The same, H 0: r 2,400,000, c 2,480,000.
+      -- Case 3: with H 0, r is 2,400,000, below a fifth of g, so c is 2,480,000
       ∷ number (reduced (year 1000000 0 12000000000) (rates 5 prices (u .option))) 2400000
       ∷ charged (year 1000000 0 12000000000) (rates 5 prices (u .option)) 12400000 2480000
-      -- 4. M 1,000,000, S 10,000,000,000: high row, g 12,000,000. S one less: low row. (Its g is the same to the cent,
-      -- so the row is stated.)
+      -- Case 4: where S is 10,000 M, the high row, and g 12,000,000; where S is lower by 1, the low row. (Its g is the
+      -- same to the cent, so the row is stated.)
       ∷ row (rowOf prices (fewHours (year 1000000 (u .high) 10000000000))) highRow
       ∷ number (general (year 1000000 (u .high) 10000000000) (rates (u .level) prices (u .option))) 12000000
       ∷ row (rowOf prices (fewHours (year 1000000 (u .high) 9999999999))) lowRow
-      -- 5. M 1,000,000, H 100,000, S 4,000,000,000, level 5: g 6,000,000; c 4,200,000, with the option 1,800,000.
+      -- Case 5: fewer than 2,500 hours of use, without the option and with it
       ∷ charged (year 1000000 100000 4000000000) (rates 5 prices false) 6000000 4200000
       ∷ charged (year 1000000 100000 4000000000) (rates 5 prices true) 6000000 1800000
-      -- 6. As 5 with the option, H 800,000: r 8,800,000, so 11 with g 6,000,000.
+      -- Case 6: the option makes r 8,800,000, more than g, so 11
       ∷ number (reduced (year 1000000 800000 4000000000) (rates 5 prices true)) 8800000
       ∷ refused (year 1000000 800000 4000000000) (rates 5 prices true) 11 6000000
-      -- 7. M 300,000, H 200,000, S 3,600,000,000, level 1, high row 500 and 800: g 870,000, c 820,000. Capacity price
-      -- 499: 11.
+      -- Case 7: a reduction of 50,000 cent passes; with 499 for 500 it is 49,900, so 11
       ∷ charged (year 300000 200000 3600000000) (rates 1 (withHigh (priced 500 800)) (u .option)) 870000 820000
       ∷ refused (year 300000 200000 3600000000) (rates 1 (withHigh (priced 499 800)) (u .option)) 11 869700
-      -- 8. As 7, H 200,001: 10.
+      -- Case 8: a move of 99,999 W, so 10
       ∷ refused (year 300000 200001 3600000000) (rates 1 (withHigh (priced 500 800)) (u .option)) 10 870000
-      -- 9. Grid peak 2,000: curve 1,900 is not above, 1,901 is.
+      -- Case 9: 1,900 is on the line of the peak 2,000 and so not above it, 1,901 is above
       ∷ test (aboveLine 2000 1900) false
       ∷ test (aboveLine 2000 1901) true
-      -- 10. All 96 curve values equal the peak: quarters 0 to 39.
+      -- Case 10: a curve with the peak in every quarter keeps the first 40
       ∷ quarters (keptOf (u .peak) (replicate dayQuarters (u .peak))) (replicate 40 true ++ replicate 56 false)
-      -- 11. 2 March 2024 is a Saturday; 1 May 2025 a Thursday, so with it listed 2 May is a bridge day.
+      -- Case 11: the weekdays of 2 March 2024 and of 1 May 2025; and 2 May 2025 is a bridge day if 1 May is listed
       ∷ number (weekdayOf 2024 (dayOf 2024 3 2)) saturday
       ∷ number (weekdayOf 2025 (dayOf 2025 5 1)) thursday
       ∷ test (bridge 2025 (listed (dayOf 2025 5 1 ∷ [])) (dayOf 2025 5 2)) true
-      -- 12. The printed example's sheet: 48 4C 5A 00 01 07 E9 05, nine 00, 80, then thirty-eight 00. Its four curves
-      -- are 1,000, but 2,000 in season 1 at quarter 72.
+      -- Case 12: the sheet of the example. Its four curves are 1,000, but 2,000 in season 1 at quarter 72.
       ∷ bytes (sheetBytes (sheetOf 2025 5 exampleCurves)) exampleSheet
       ∷ []
 
--- every case of the list holds
+-- whatever the cases leave open, every case of the list holds
 abbrev pub AllHold : Type 0
 AllHold = (u : Unsaid) → Hold (cases u)

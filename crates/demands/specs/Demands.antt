@@ -1,4 +1,4 @@
--- The three demands, of any module: what it is held to, one record for each part.
+-- The three demands, of any module: what it is held to, one record for each part. Rules 12.1 to 12.3.
 use mathlib.Core.Path.{_≡_}
 use mathlib.Core.List.{List}
 use Prim.Native.Nat.{ℕ}
@@ -19,12 +19,12 @@ use Rattle.demands.specs.Sheets.{Sheets}
 use Rattle.demands.specs.Fair.{Fairness}
 
 pub record Demands (m : Module) : Type 0 where
-  -- demand 1
+  -- demand 1: every input is answered, and a refusal changes nothing (Rule 12.1)
   pub left-as-before : LeftAsBefore m
   pub fixed-state : FixedState m
   pub handed-back : HandedBack m
   pub carried : Carried m
-  -- demand 2
+  -- demand 2: what is answered is what the rules say (Rule 12.2)
   pub numbers : Numbers
   pub dates : Dates
   pub exactly-when : ExactlyWhen m
@@ -36,11 +36,11 @@ pub record Demands (m : Module) : Type 0 where
   pub eligibility : Eligibility m
   pub days-as-whole : DaysAsWhole m
   pub sheets : Sheets m
-  -- demand 3
+  -- demand 3: fairness between two years (Rule 12.3)
   pub fairness : Fairness m
 
--- What the demands leave open is no answer: two modules that meet them answer every input alike, number and figures,
--- forged states included.
+-- The demands leave no answer open (Rule 13.1): two modules that meet them answer every input alike, number and
+-- figures, also on a state that no call handed back.
 pub record AnswersAlike (m n : Module) : Type 0 where
   pub calendar : (y : ℕ) (hs : List ℕ) (d : ℕ) → m .calendar y hs d ≡ n .calendar y hs d
   pub read : (b : List ℕ) → m .read b ≡ n .read b

@@ -1,6 +1,7 @@
--- Demand 3, over demand 2's definitions (document 01, How far a contract goes). What it speaks of stands in customer,
--- specs/Demand: `Basis` (one sheet, holiday list, price list and option), `LegalYear`, `Agree` and `NoneHigher` (the
--- in-window quarters of two years, each with the same quarter of the other).
+-- What two years with the same M and S have in common, and what an accepted customer pays. `Basis` (terms, specs/Basis)
+-- is what a year is decided on: sheet, holidays, prices and option. The years that are spoken of, `LegalYear`, `Alike`,
+-- `Agree` and `NoneHigher`, stand in customer, specs/Demand; `Agree` and `NoneHigher` compare each in-window quarter of
+-- one year with the same quarter of the other. Rule 12.3.
 use mathlib.Core.Path.{_≡_}
 use mathlib.Core.Bool.{cond}
 use mathlib.Core.Logic.{_⊎_}
@@ -18,8 +19,8 @@ use Rattle.customer.specs.Demand.{basisDays, LegalYear, Alike, Agree, NoneHighe
 use Rattle.demands.specs.Module.{Module, customerAfter}
 
 module _ (m : Module) where
-  -- what a year is answered: whole; or by days, once as many were answered 0 as the year has, refused ones among the
-  -- offered or not
+  -- what a year is answered: whole; or by days, once as many were answered 0 as the year has, whether others were
+  -- refused in between or not
   pub data Given (k : Basis) (xs : List ℕ) : Said → Type 0 where
     whole : Given k xs (m .decide k xs)
     days :
@@ -28,8 +29,8 @@ module _ (m : Module) where
         → length (takenDays (m .customerDay) (m .customerNext) (m .customerOpened k) ds) ≡ basisDays k
         → Given k xs (m .customerClose (customerAfter m k ds))
 
-  -- "Two complete legal years under one sheet, holiday list, price list and option, with equal peak and energy", each
-  -- with its answer, whole or by days
+  -- two complete years with legal readings on one basis, with the same M and the same S, each with its answer, whole or
+  -- by days
   pub record TwoYears (k : Basis) (xs ys : List ℕ) (a b : Said) : Type 0 where
     pub first : LegalYear k xs
     pub second : LegalYear k ys
@@ -37,8 +38,8 @@ module _ (m : Module) where
     pub first-given : Given k xs a
     pub second-given : Given k ys b
 
--- an accepted answer: it carries c and g first, and five times c are at least g, and g is 500 euro of 100 cent or more
--- above c
+-- an accepted answer: its figures begin with c and g, five times c are at least g, and g is at least 500 euro, of 100
+-- cent each, above c
 pub record FairCharge (a : Said) : Type 0 where
   pub c : ℕ
   pub g : ℕ
@@ -48,24 +49,23 @@ pub record FairCharge (a : Said) : Type 0 where
   pub below : c + 500 * 100 ≤ g
 
 pub record Fairness (m : Module) : Type 0 where
-  -- "if they agree in every in-window quarter, the whole answer is the same, whole or by days"
+  -- equal readings in all in-window quarters: equal answers, number and figures
   pub same-answer : (k : Basis) (xs ys : List ℕ) (a b : Said) → TwoYears m k xs ys a b → Agree k xs ys → b ≡ a
-  -- "if no in-window reading of the second exceeds the first's in the same quarter, the second never pays more"
+  -- in each in-window quarter at most the first year's reading: the second customer pays at most what the first does
   pub no-more : (k : Basis) (xs ys : List ℕ) (a b : Said) → TwoYears m k xs ys a b → NoneHigher k xs ys → payable b ≤ payable a
-  -- "and an acceptance stays one"
+  -- and is accepted if the first is
   pub stays-accepted :
       (k : Basis) (xs ys : List ℕ) (a b : Said)
       → TwoYears m k xs ys a b
       → NoneHigher k xs ys
       → a .number ≡ 0
       → b .number ≡ 0
-  -- "(a refused customer pays the general charge)": a legal year is answered 0 or 8 to 11, and what is payable is c for
-  -- 0, g for 8 to 11
+  -- Rule 7.7: a legal year is answered 0 or 8 to 11, and what is paid is c for 0, g for 8 to 11
   pub answered : (k : Basis) (xs : List ℕ) (a : Said) → LegalYear k xs → Given m k xs a → (a .number ≡ 0) ⊎ Within 8 11 (a .number)
   pub pays :
       (k : Basis) (xs : List ℕ) (a : Said)
       → LegalYear k xs
       → Given m k xs a
       → payable a ≡ cond (eqb (a .number) 0) (charge (basisFigures k xs) (basisRates k)) (general (basisFigures k xs) (basisRates k))
-  -- "An accepted charge is at least a fifth of the general charge and at least 500 euro below it."
+  -- who is accepted pays a fifth of g or more, and at least 500 euro less than g
   pub accepted-fair : (k : Basis) (xs : List ℕ) (a : Said) → LegalYear k xs → Given m k xs a → a .number ≡ 0 → FairCharge a

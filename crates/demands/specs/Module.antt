@@ -1,6 +1,6 @@
 -- A module as its callers see it: what each call answers, and what it leaves in a state or in a lent buffer. The
--- demands are said of any such module, so that what is wrong can be said of any, too. `ours` is the one that is proved
--- here: each of our calls promises the definition that stands beside its name (docs/PROMISES.md).
+-- demands are said of any such module, so that wrong ones can be spoken of, too (specs/Wrong). `ours` is the one that
+-- is proved here: each of our calls promises the definition that stands beside its name (docs/PROMISES.md).
 use mathlib.Core.Path.{_≡_}
 use mathlib.Core.List.{List}
 use Prim.Native.Nat.{ℕ}
@@ -25,9 +25,10 @@ use Rattle.customer.specs.Answers.{decideAnswer}
 use Rattle.customer_days.specs.Days.{customerDayAnswer, dayCustomer, customerCloseAnswer, openCustomer}
 
 pub record Module : Type 0 where
-  -- a calendar day: year, holiday list, day
+  -- a calendar day: year, holiday list, and the day; days count from 1
   pub calendar : ℕ → List ℕ → ℕ → Said
-  -- a day that is handed out as a part of a lent series: the run, the series, and the day from 1
+  -- one day of a lent series, as a part of that series: the run (a year's days or a reference period's), the series,
+  -- and the day from 1
   pub part : Run → List ℕ → ℕ → List ℕ
   -- a sheet that is read from bytes: the answer, and the sheet beside it
   pub read : List ℕ → Said
@@ -45,7 +46,8 @@ pub record Module : Type 0 where
   pub gridNext : Grid → List ℕ → Grid
   pub gridClose : Grid → ℕ → Said
   pub gridLaid : Grid → List ℕ → List ℕ
-  -- the rules over figures, by the rates that they are judged by
+  -- over a year's figures and its rates (year, level, option and prices): may the customer pay less, what the charge
+  -- is, and both
   pub eligible : Figures → Rates → Said
   pub charge : Figures → Rates → Said
   pub judge : Figures → Rates → Said
@@ -85,14 +87,15 @@ ours =
       customerClose = customerCloseAnswer;
     }
 
--- the state after days that are offered to an opening, refused ones among them
+-- the state after an opening and days that are offered to it, refused ones among them
 abbrev pub gridAfter : Module → ℕ → ℕ → List (List ℕ) → Grid
 gridAfter m y level days = offered (m .gridNext) (m .gridOpened y level) days
 
 abbrev pub customerAfter : Module → Basis → List (List ℕ) → Customer
 customerAfter m k days = offered (m .customerNext) (m .customerOpened k) days
 
--- what a grid series ends in, by closing a state or by the call for whole series: the answer, and the lent buffer then
+-- what a grid's series ends in, by closing a state or by the call for whole series: the answer, and the lent buffer
+-- then
 abbrev pub gridEnd : Module → List ℕ → Grid → Said × List ℕ
 gridEnd m buffer g = (m .gridClose g (length buffer), m .gridLaid g buffer)
 

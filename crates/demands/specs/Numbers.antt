@@ -1,6 +1,6 @@
--- Document 01's numbers and dates, written out: the limits and shares that the rows name, and what a weekday, a season
--- and the reference period are. The line, the forty quarters, the hours of use, the floor and the least reduction stand
--- in specs/Windows, Charges and Fair.
+-- The numbers and dates of the rules, written out: the limits and shares that the rows of specs/Answers name, and what
+-- a weekday, a season and the reference period are. The line, the forty quarters, the hours of use, the floor and the
+-- least reduction stand in specs/Windows, Charges and Fair. Rules 2.1 to 2.4, 2.6, 3.1, 3.2, 4.1, 4.5 and 7.6.
 use mathlib.Core.Path.{_≡_}
 use mathlib.Core.Logic.{_↔_, _⊎_}
 use Prim.Native.Nat.{ℕ, suc, _+_, _-_, _*_, _%_, _≤_, _<_}
@@ -12,17 +12,18 @@ use Rattle.periods.specs.Period.{periodDays, periodDate, periodSeason}
 pub record Numbers : Type 0 where
   pub years : (y : ℕ) → ChargeYear y ↔ ((2014 ≤ y) × (y ≤ 2028))
   pub levels : (l : ℕ) → Level l ↔ ((1 ≤ l) × (l ≤ 7))
-  -- kW of the grid, W of a customer
+  -- the highest legal readings, in kW of the grid and in W of a customer, and what is sent for a lost one
   pub grid-limit : gridMost ≡ 200000000
   pub customer-limit : customerMost ≡ 1000000000
   pub missing-is : missing ≡ 4294967295
-  -- cent per kW and year, thousandths of a cent per kWh
+  -- the highest prices: cent for one kW a year, thousandths of a cent for one kWh
   pub capacity-limit : capacityMost ≡ 100000
   pub energy-limit : energyMost ≡ 50000
+  -- how many holidays a list has at most, quarters a day, and windows a season
   pub holidays-limit : holidaysMost ≡ 40
   pub quarters : dayQuarters ≡ 96
   pub windows-limit : windowsMost ≡ 40
-  -- in percent, for levels 1 to 7
+  -- the share of each level, 1 to 7, in percent
   pub share-1 : shareOf 1 ≡ 5
   pub share-2 : shareOf 2 ≡ 10
   pub share-3 : shareOf 3 ≡ 10
@@ -30,25 +31,26 @@ pub record Numbers : Type 0 where
   pub share-5 : shareOf 5 ≡ 20
   pub share-6 : shareOf 6 ≡ 30
   pub share-7 : shareOf 7 ≡ 30
-  -- 100 kW
+  -- the least move in W: 100 kW
   pub move : leastMove ≡ 100 * 1000
 
 pub record Dates : Type 0 where
   -- every fourth year has 366 days; of the hundreds, every fourth
   pub leap : (y : ℕ) → y % 4 ≡ 0 → (y % 100 ≡ 0 → ⊥) ⊎ (y % 400 ≡ 0) → yearDays y ≡ 366
   pub common : (y : ℕ) → (y % 4 ≡ 0 → ⊥) ⊎ ((y % 100 ≡ 0) × (y % 400 ≡ 0 → ⊥)) → yearDays y ≡ 365
-  -- 1 January 2014 is a Wednesday (2); the next day has the next weekday, over the turn of a year, too
+  -- 1 January 2014 is a Wednesday; the next day has the next weekday, over the turn of a year, too. Weekdays count from
+  -- 0 (Monday), days of a year from 1.
   pub anchor : weekdayOf 2014 1 ≡ 2
   pub next-day : (y d : ℕ) → weekdayOf y (d + 1) ≡ (weekdayOf y d + 1) % 7
   pub new-year : (y : ℕ) → weekdayOf (suc y) 1 ≡ (weekdayOf y (yearDays y) + 1) % 7
-  -- the season of the j-th of month m: 1 in December, January and February, 2 from March, 3 from June, 4 from September
-  -- on
+  -- the season of the j-th of month m, all three from 1: 1 in December, January and February, 2 from March, 3 from
+  -- June, 4 from September on
   pub winter : (y m j : ℕ) → Within 1 2 m ⊎ (m ≡ 12) → Within 1 (monthDays y m) j → seasonOf y (dayOf y m j) ≡ 1
   pub spring : (y m j : ℕ) → Within 3 5 m → Within 1 (monthDays y m) j → seasonOf y (dayOf y m j) ≡ 2
   pub summer : (y m j : ℕ) → Within 6 8 m → Within 1 (monthDays y m) j → seasonOf y (dayOf y m j) ≡ 3
   pub autumn : (y m j : ℕ) → Within 9 11 m → Within 1 (monthDays y m) j → seasonOf y (dayOf y m j) ≡ 4
-  -- the reference period: 122 days from 1 September of the year before the last on, then the days of the last to 31
-  -- August
+  -- the k-th day of the reference period of year y, from 1: the first 122 begin with 1 September of y - 2, the others
+  -- with 1 January of y - 1, and the last is its 31 August
   pub period-autumn : (y k : ℕ) → k ≤ 122 → (periodDate y k .year ≡ y - 2) × (periodDate y k .day ≡ dayOf (y - 2) 9 k)
   pub period-rest : (y k : ℕ) → 122 < k → (periodDate y k .year ≡ y - 1) × (periodDate y k .day ≡ k - 122)
   pub period-last : (y : ℕ) → periodDate y (periodDays y) .day ≡ dayOf (y - 1) 8 31

@@ -1,8 +1,8 @@
--- Demand 1: "No input stops the module or makes it read past a series. Every call tests its own input. A refusal
--- carries its number and the figures listed for it, and writes nothing into a lent buffer." The first two sentences are
--- what the contract of each call says: it has no `requires`, and its promise is an equation for every input
--- (docs/PROMISES.md). What is left is a property of the answers, for every input: what a refusal leaves, what a refused
--- opening hands back, what is never answered, and what each number carries.
+-- What a refusal leaves and what it tells. That no input stops the module, that nothing is read behind a series and
+-- that each call tests its input is what the contract of each call says: it has no `requires`, and its promise is an
+-- equation for every input (docs/PROMISES.md). What is left is a property of the answers, for every input: what a
+-- refusal leaves as it was, what a refused opening hands back, what is never answered, and which figures each number
+-- has. Rules 8.1, 8.3, 8.4, 9.3, 9.5 and 12.1.
 use mathlib.Core.Path.{_≡_}
 use mathlib.Core.Bool.{cond, _||_}
 use mathlib.Core.Logic.{_⊎_}
@@ -32,8 +32,8 @@ use Rattle.customer_days.specs.Days.{shutCustomer, sumMost}
 use Rattle.customer.specs.Demand.{basisRun, basisDays, basisFigures}
 use Rattle.demands.specs.Module.{Module, gridAfter, customerAfter, Refused}
 
--- "and writes nothing into a lent buffer"; Numbered answers: "like all refusals, leave every state and buffer as
--- before". (A closing has no state beside its answer: it hands back none.)
+-- Rule 8.3: a refusal changes no state and no byte of a lent buffer. (A closing has no state beside its answer: it
+-- hands back none.)
 pub record LeftAsBefore (m : Module) : Type 0 where
   pub write : (s : Sheet) (buffer : List ℕ) → Refused (m .write s (length buffer)) → m .written s buffer ≡ buffer
   pub windows :
@@ -44,10 +44,10 @@ pub record LeftAsBefore (m : Module) : Type 0 where
   pub grid-close : (g : Grid) (buffer : List ℕ) → Refused (m .gridClose g (length buffer)) → m .gridLaid g buffer ≡ buffer
   pub customer-day : (c : Customer) (day : List ℕ) → Refused (m .customerDay c day) → m .customerNext c day ≡ c
 
--- "A refused opening hands back one fixed state, on which every day and every closing is 13 (14 still first for a short
--- buffer)."
+-- Rule 9.5: the state of a refused opening is always the same (`shutGrid`, `shutCustomer`). To it every day is 13, and
+-- so is closing, but a short buffer is 14.
 pub record FixedState (m : Module) : Type 0 where
-  -- beside a refused sheet stands one fixed sheet
+  -- the sheet beside a refused reading is always the same, too
   pub read : (b : List ℕ) → Refused (m .read b) → m .sheetRead b ≡ blank
   pub grid-open : (y level : ℕ) → Refused (m .gridOpen y level) → m .gridOpened y level ≡ shutGrid
   pub grid-day : (day : List ℕ) → m .gridDay shutGrid day ≡ only 13
@@ -57,9 +57,10 @@ pub record FixedState (m : Module) : Type 0 where
   pub customer-day : (day : List ℕ) → m .customerDay shutCustomer day ≡ only 13
   pub customer-close : m .customerClose shutCustomer ≡ only 13
 
--- Some rows can hold only for a state that no call handed back: on what an opening, accepted or not, and days after it
--- handed back, a day is answered 13 only where the opening was refused or all days are in, since a sum that no days
--- have (customer, specs/Rows) does not come; and closing never answers 1 or 2 for the grid, 2 or 6 for a customer.
+-- Some rows can hold only for a state that no call handed back (Rule 9.6). On a state that an opening, accepted or not,
+-- and days after it handed back, a day is answered 13 only where the opening was refused or all days are in: there the
+-- sum is never above `sumMost` (customer, specs/Answers), which would be 13, too. And closing never answers 1 or 2 for
+-- the grid, 2 or 6 for a customer.
 pub record HandedBack (m : Module) : Type 0 where
   pub grid-thirteen :
       (y level : ℕ) (days : List (List ℕ)) (day : List ℕ)
@@ -79,29 +80,30 @@ pub record HandedBack (m : Module) : Type 0 where
       → let n = m .customerClose (customerAfter m k days) .number in
       (n ≡ 2 → ⊥) × (n ≡ 6 → ⊥)
 
--- The table's column "carries", for number n. 0 carries what the call is asked for, and most refusals nothing.
+-- The figures of Rule 8.1, as a list for each number n, which is called a column here. 0 has what the call is asked
+-- for, and most refusals have none.
 abbrev pub zeroAlone : List ℕ → ℕ → List ℕ
 zeroAlone done n = cond (eqb n 0) done []
 
--- a year with the figures f and the general charge g. 8: "g, M, S"; 9, and 10 and 11 "as 9": "g, M, S, H with its
--- place"
+-- a year with the figures f and the general charge g: 8 has g, M and S; 9, 10 and 11 have H with its day, from 1, and
+-- its quarter, from 0, behind these; other numbers have what `others` lists
 abbrev pub withFigures : Figures → ℕ → (ℕ → List ℕ) → ℕ → List ℕ
 withFigures f g others n =
     cond (eqb n 8) (g ∷ f .peak ∷ f .sum ∷ [])
     (cond (eqb n 9 || (eqb n 10 || eqb n 11)) (g ∷ f .peak ∷ f .sum ∷ f .high ∷ f .day ∷ f .quarter ∷ [])
     (others n))
 
--- the decision over figures. 0: "c, g, M, S, H with its place"
+-- the decision over figures: 0 has c in front of these
 abbrev pub yearColumn : Figures → Rates → ℕ → List ℕ
 yearColumn f r n =
     withFigures f (general f r) (zeroAlone (charge f r ∷ general f r ∷ f .peak ∷ f .sum ∷ f .high ∷ f .day ∷ f .quarter ∷ [])) n
 
--- the answer a carries what a column lists for its number
+-- the figures of the answer a are those that a column lists for its number
 pub record Carries (a : Said) (column : ℕ → List ℕ) : Type 0 where
   pub listed : a .figures ≡ column (a .number)
 
--- 5: "day from 1, quarter from 0, of the first one"; `First d q` says that the first illegal reading is the one at
--- position q of day d, from 0. Every other number carries what a column lists.
+-- 5 names a reading by its day, from 1, and its position in the day, from 0, and it is the first illegal one (Rule
+-- 8.4): `First d q` says that of position q of day d, both from 0. Every other number has what a column lists.
 pub record NamesFirst (a : Said) (First : ℕ → ℕ → Type 0) : Type 0 where
   pub on : ℕ
   pub at : ℕ
@@ -112,12 +114,12 @@ pub record CarriesPlace (a : Said) (First : ℕ → ℕ → Type 0) (column : �
   pub listed : (a .number ≡ 5 → ⊥) → Carries a column
   pub place : a .number ≡ 5 → NamesFirst a First
 
--- in a day that is given alone where n days are taken
+-- in a day that is given alone where n days are taken: it is day n, from 0
 pub record FirstToday (limit n : ℕ) (day : List ℕ) (d q : ℕ) : Type 0 where
   pub today : d ≡ n
   pub first : FirstIllegal limit day q
 
--- "A refusal carries its number and the figures listed for it"
+-- Rule 8.1, of each call: its number has the figures that the table lists for it
 pub record Carried (m : Module) : Type 0 where
   pub calendar : (y : ℕ) (hs : List ℕ) (d : ℕ) → Carries (m .calendar y hs d) (zeroAlone (bit (carries y hs d) ∷ []))
   pub read : (b : List ℕ) → Carries (m .read b) (zeroAlone [])

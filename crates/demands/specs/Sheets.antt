@@ -1,5 +1,5 @@
--- Demand 2: "A sheet that we write reads back as the same windows; two sheets with one meaning have the same bytes."
--- And where a sheet's meaning stands in its bytes, written out: the mark, version, year, level and each bit.
+-- A sheet and its bytes: where each part of its meaning stands, that a written sheet reads back as the same windows,
+-- and that one meaning has one list of bytes. Rules 5.1, 5.2, 5.4 and 12.2.
 use mathlib.Core.Path.{_≡_}
 use mathlib.Core.Bool.{true}
 use mathlib.Core.Logic.{_↔_}
@@ -13,8 +13,9 @@ use Rattle.sheet.specs.Windows.{windowPlaces, isSet}
 use Rattle.sheet.specs.Bytes.{AreBytes}
 use Rattle.demands.specs.Module.{Module}
 
--- the bytes b are those of sheet s: "HLZ", version 1, year and level, high bytes first; then bit 7 - q % 8 (7 is the
--- top bit) of byte 8 + 12 (n - 1) + q / 8 is set exactly when quarter q of season n is a window
+-- the bytes b, from place 0, are those of sheet s: the mark HLZ, version 1, year and level, high bytes first; then bit
+-- 7 - q % 8 (7 is the top bit) of byte 8 + 12 (n - 1) + q / 8 is set exactly when quarter q, from 0, of season n, from
+-- 1, is a window
 pub record LaidOut (b : List ℕ) (s : Sheet) : Type 0 where
   pub size : length b ≡ 56
   pub h : getD b 0 0 ≡ 72
@@ -29,10 +30,10 @@ pub record LaidOut (b : List ℕ) (s : Sheet) : Type 0 where
       → q < 96
       → (getD b (8 + 12 * (n - 1) + q / 8) 0 / 2 ^ (7 - q % 8) % 2 ≡ 1) ↔ (isSet (s .windows) n q ≡ true)
 
--- A sheet's array of windows has 384 places, and a lent slice is of bytes: `AreBytes` says that each entry is below
--- 256.
+-- A sheet's array of windows has 384 places, 96 for each season, and a lent slice is of bytes: `AreBytes` says that
+-- each entry is below 256.
 pub record Sheets (m : Module) : Type 0 where
-  -- an accepted sheet stands in the first 56 bytes; "all further bytes stay"
+  -- an accepted sheet stands in the first 56 bytes, and the others stay as they were (Rule 8.3)
   pub written-so :
       (s : Sheet) (buffer : List ℕ)
       → length (s .windows) ≡ windowPlaces

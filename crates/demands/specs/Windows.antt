@@ -1,5 +1,6 @@
--- Demand 2, the windows of a season in plain orders: the highest readings of all days of the reference period, weekends
--- too, and which quarters are kept. Year y, the series xs; seasons s from 1, days d, positions p and quarters q from 0.
+-- The windows of a season, said by ≤ and <: the highest readings of all days of the reference period, free or not, and
+-- which quarters are kept. Year y, the series xs; seasons s count from 1, days d, positions p in a day and quarters q
+-- from 0. Rules 4.2 to 4.5.
 use mathlib.Core.Path.{_≡_}
 use mathlib.Core.Bool.{Bool, _&&_, _||_}
 use mathlib.Core.List.{List}
@@ -24,7 +25,7 @@ module _ (y : ℕ) (xs : List ℕ) where
       → quarterOf (Period y) d p ≡ q
       → reading (Period y) xs d p ≤ b
 
-  -- the peak, and the curve of season s: the least numbers of that kind, so the highest readings
+  -- the peak (Rule 4.3), and the curve of season s (Rule 4.2): the least numbers of that kind, so the highest readings
   pub record IsPeak (peak : ℕ) : Type 0 where
     pub bound : NoneAbove peak
     pub least : (b : ℕ) → NoneAbove b → peak ≤ b
@@ -33,8 +34,8 @@ module _ (y : ℕ) (xs : List ℕ) where
     pub bound : (q : ℕ) → q < 96 → NoneAboveIn s q (curve q)
     pub least : (q : ℕ) → q < 96 → (b : ℕ) → NoneAboveIn s q b → curve q ≤ b
 
--- quarter q is kept: 20 times its value exceeds 19 times the peak, and of the quarters of which that is true fewer than
--- 40 are higher, or equal and earlier
+-- quarter q is kept (Rules 4.4 and 4.5): it is above the line, and of the quarters above the line fewer than 40 go
+-- before it, because they are higher, or equal and earlier. `ahead q p`: quarter p goes before quarter q.
 module _ (peak : ℕ) (curve : ℕ → ℕ) where
   abbrev pub ahead : ℕ → ℕ → Bool
   ahead q p = ltb (19 * peak) (20 * curve p) && (ltb (curve q) (curve p) || (eqb (curve p) (curve q) && ltb p q))

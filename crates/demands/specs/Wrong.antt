@@ -1,8 +1,6 @@
--- Document 01, How far a contract goes: "Refusing always, or answering one fixed sheet or charge, is shut out by demand
--- 2, since each number is given exactly when its row says. So is doing nothing. A day-by-day machine that works on the
--- first day and then only moves its day number is shut out by equality with the whole series. A made-up S is shut out
--- by demand 2 too, since S is the sum." What is wrong is said of any module; `ShutOut` says that no module is so that
--- meets the demands.
+-- Modules that would get away with less, and that the demands shut out: one that refuses everything, does nothing,
+-- always gives one sheet or one charge, makes up S, takes in only the first day or all but the last, or takes a day
+-- twice. What is wrong is said of any module; `ShutOut` says that no module that meets the demands is so. Rule 13.2.
 use mathlib.Core.Path.{_≡_}
 use mathlib.Core.Bool.{Bool, cond}
 use mathlib.Core.List.{List}
@@ -31,7 +29,7 @@ use Rattle.demands.specs.Module.{Module, Refused}
 use Rattle.demands.specs.Answers.{sheetShown}
 use Rattle.demands.specs.Demands.{Demands}
 
--- "Refusing always", by whatever numbers: one of the calls
+-- one of the calls refuses every input, by whatever numbers
 pub data RefusesAlways (m : Module) : Type 0 where
   calendar : ((y : ℕ) (hs : List ℕ) (d : ℕ) → Refused (m .calendar y hs d)) → RefusesAlways m
   read : ((b : List ℕ) → Refused (m .read b)) → RefusesAlways m
@@ -48,8 +46,7 @@ pub data RefusesAlways (m : Module) : Type 0 where
   customer-day : ((c : Customer) (day : List ℕ) → Refused (m .customerDay c day)) → RefusesAlways m
   customer-close : ((c : Customer) → Refused (m .customerClose c)) → RefusesAlways m
 
--- "doing nothing": a call that leaves the buffer or the state as it was, and an opening that hands back the same state
--- whatever it opens
+-- a call leaves the buffer or the state as it was, or an opening hands back the same state whatever it opens
 pub data DoesNothing (m : Module) : Type 0 where
   write : ((s : Sheet) (buffer : List ℕ) → m .written s buffer ≡ buffer) → DoesNothing m
   windows : ((y level : ℕ) (xs buffer : List ℕ) → m .windowsLaid y level xs buffer ≡ buffer) → DoesNothing m
@@ -59,7 +56,7 @@ pub data DoesNothing (m : Module) : Type 0 where
   customer-open : (c : Customer) → ((k : Basis) → m .customerOpened k ≡ c) → DoesNothing m
   customer-day : ((c : Customer) (day : List ℕ) → m .customerNext c day ≡ c) → DoesNothing m
 
--- "answering one fixed sheet": the windows that a reader of the bytes has are the same whatever the series is
+-- one sheet: the windows that a reader of the bytes has are the same whatever the series is
 pub record OneSheet (m : Module) : Type 0 where
   pub windows : List Bool
   pub fixed :
@@ -67,13 +64,13 @@ pub record OneSheet (m : Module) : Type 0 where
       → m .windows y level xs (length buffer) .number ≡ 0
       → sheetShown m y level xs buffer .windows ≡ windows
 
--- "or charge"
+-- one charge: whoever is accepted pays the same
 pub record OneCharge (m : Module) : Type 0 where
   pub charge : ℕ
   pub fixed : (k : Basis) (xs : List ℕ) → m .decide k xs .number ≡ 0 → payable (m .decide k xs) ≡ charge
 
--- "A made-up S": for some legal year the S that the answer carries, behind c, g, M or behind g, M, is not the sum of
--- the year's readings
+-- S is made up: for some legal year the S of the answer is not the sum of the year's readings. It is figure 3, from 0,
+-- of an answer 0 (behind c, g and M), and figure 2 of another (behind g and M).
 abbrev pub sumSaid : Said → ℕ
 sumSaid a = getD (a .figures) (cond (eqb (a .number) 0) 3 2) 0
 
@@ -83,9 +80,10 @@ pub record MadeUpSum (m : Module) : Type 0 where
   pub legal : LegalYear basis series
   pub made-up : sumSaid (m .decide basis series) ≡ sumOf (basisRun basis) series (basisDays basis) → ⊥
 
--- Wrong machines of days, seen from outside: complete legal series are offered day by day.
+-- Wrong ways to take in days, seen from outside: complete legal series are offered day by day. `step` is the state
+-- after a day.
 pub data WrongDays {S : Type 0} (run : Run) (limit : ℕ) (step : S → List ℕ → S) (start : S) : Type 0 where
-  -- "works on the first day and then only moves its day number": series with the same first day lead to the same state
+  -- only the first day matters: series with the same first day, day 1, lead to the same state
   first-day :
       ((xs ys : List ℕ)
       → LegalSeries run limit xs
@@ -115,7 +113,7 @@ pub record ShutOut : Type 0 where
   pub one-sheet : (m : Module) → Demands m → OneSheet m → ⊥
   pub one-charge : (m : Module) → Demands m → OneCharge m → ⊥
   pub made-up-sum : (m : Module) → Demands m → MadeUpSum m → ⊥
-  -- in no year and at no level, on no basis
+  -- whatever the year and the level, or the basis
   pub wrong-grid-days :
       (m : Module) (y level : ℕ)
       → Demands m

@@ -1,4 +1,4 @@
--- Laws of a file's bytes: the part that a machine is handed, a buffer that holds the header so far, and the
+-- Laws of a file's bytes: the part that a machine is handed, a buffer with the header's bytes that came, and the
 -- numbers and readings in bytes.
 -- Assumes nothing.
 use mathlib.Core.Path.{_≡_, sym, ap, _∙_}

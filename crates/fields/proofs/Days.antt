@@ -136,9 +136,9 @@ module _ (run : Run) (h : ℕ) (bytes : List ℕ) where
   unfolding wholeDays
   all-whole = first-le cut (runDays run)
 
-  -- the cases of what the days are answered, where the first d days have no bad reading
+  -- the cases of what the days are answered, where the first d days have no illegal reading
   module _ (limit : ℕ) (done : Said) (d : ℕ) (c : Passed (badIn run limit xs) d) where
-    -- a bad reading in a whole day
+    -- an illegal reading in a day of which all bytes are there
     pub days-bad :
         d < runDays run
         → dayAt run h (d + 1) ≤ length bytes

@@ -73,7 +73,7 @@ module _ {S X : Type 0} (wanted : S → ℕ) (fed : S → List ℕ → S) (said 
           ∙ ap (λ (k : ℕ). driven wanted fed n t (drop k bytes)) f)
           ∙ h
 
-    -- the header: what a machine whose state after k fields is `inHead k` does with field k
+    -- the header: what a machine whose state after k fields is `inHead k` does with field k, from 0
     module _ (l : Layout) (inHead : ℕ → S) where
       abbrev field : ℕ → S
       field k = fed (inHead k) (part bytes (startOf l k) (l .width k))
@@ -129,8 +129,8 @@ module _ {S X : Type 0} (wanted : S → ℕ) (fed : S → List ℕ → S) (said 
                   (goes-on (m + n) (inHead k) (startOf l k) (l .width k) (t .size) (t .taken (omega arith) d) (sym (field-more l k))
                   (ih (field-passed l bytes k h (omega arith) d)))
 
-    -- the days after h bytes: what a machine whose state after d days is `inDays d` does with day d, and
-    -- with what comes after the last one
+    -- the days behind h bytes: what a machine whose state after d days is `inDays d` does with day d, from 0, and with
+    -- what comes after the last one
     module _ (run : Run) (limit h : ℕ) (inDays : ℕ → S) where
       abbrev bad : ℕ → Bool
       bad d = badIn run limit (seriesIn bytes h) d

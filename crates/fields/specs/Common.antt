@@ -1,6 +1,6 @@
--- Document 01, Two programs: the fields that the headers of both files have, "widths as in the sheet", each with
--- the number that refuses it. b is the file's bytes, i the place where a field starts. The tests are those of the
--- sheet and of the ruling's numbers.
+-- The fields that the headers of both files have, each with its width in bytes and the number that refuses it. b are
+-- the file's bytes, i is the place, from 0, where a field starts. The widths and the tests are those of a window sheet.
+-- Rules 10.2 to 10.4.
 use mathlib.Core.List.{List}
 use Prim.Native.Nat.{ℕ}
 use lib.ListN.{getD}
@@ -9,7 +9,8 @@ use Rattle.answers.specs.Ruling.{yearOut, levelOut}
 use Rattle.encoding.specs.Bytes.{markSize, versionSize, yearSize, levelSize, otherMark, twoAt, versionOut}
 use Rattle.fields.specs.Layout.{Field}
 
--- a mark; version 1, 16 bits; the year, 16 bits; the level, 8 bits
+-- the mark: three bytes, else 12; version 1: two bytes, else 12; the year: two bytes, else 1; the level: one byte, else
+-- 2
 unfoldable pub markField : List ℕ → List ℕ → Field
 markField mark b = record { width = markSize; refusedAt = λ i. numberIf (otherMark mark b i) 12 }
 

@@ -1,5 +1,5 @@
--- Document 01, Two programs: a file begins with its header, fields one after the other, and both programs "test each
--- field, then each day, as soon as it is read". A layout lists the fields of one file, in order; fields k count from 0.
+-- The header of a file: fields one behind the other, each tested once all its bytes are there. A layout lists the
+-- fields of one file, in order; fields k and places in the file count from 0. Rule 10.4.
 use mathlib.Core.Bool.{Bool, cond, not, _||_}
 use mathlib.Core.List.{List}
 use Prim.Native.Nat.{ℕ, _+_}
@@ -9,18 +9,18 @@ use Rattle.ranges.specs.Ranges.{sumOver, firstOver}
 use Rattle.answers.specs.Said.{Said, only}
 use Rattle.fields.specs.declared.Span.{Span}
 
--- a field: the bytes that it takes, and the number that refuses it where it starts at a place, 0 where none does
+-- a field: the bytes that it takes, and the number that refuses it where it starts at a given place, 0 where it passes
 pub record Field : Type 0 where
   pub width : ℕ
   pub refusedAt : ℕ → ℕ
 
--- how many fields; the bytes that each takes; the number that refuses it, 0 where none does
+-- how many fields there are; the bytes that field k takes; the number that refuses it, 0 where it passes
 pub record Layout : Type 0 where
   pub count : ℕ
   pub width : ℕ → ℕ
   pub refusal : ℕ → ℕ
 
--- the layout that lists these fields, one after the other
+-- the layout that lists these fields, one behind the other; behind the last stand fields of no bytes
 abbrev pub noField : Field
 noField = record { width = 0; refusedAt = λ i. 0 }
 
@@ -38,29 +38,31 @@ layoutOf fs =
       refusal = λ k. fieldAt fs k .refusedAt (sumOver (widthAt fs) k);
     }
 
--- a field starts where the ones before it end
+-- field k starts where the ones before it end
 unfoldable pub startOf : Layout → ℕ → ℕ
 startOf l k = sumOver (l .width) k
 
--- where field k stands; behind the last field it is no byte, at the header's end
+-- where field k stands; behind the last field this is no byte, at the header's end
 abbrev pub fieldSpan : Layout → ℕ → Span
 fieldSpan l k = record { start = startOf l k; width = l .width k }
 
+-- the bytes of the whole header
 abbrev pub headSize : Layout → ℕ
 headSize l = startOf l (l .count)
 
--- a field that the file's end cuts off was not read
+-- field k is cut off: the file ends before all its bytes are there
 abbrev pub cutOff : Layout → List ℕ → ℕ → Bool
 cutOff l bytes k = ltb (length bytes) (startOf l (k + 1))
 
--- the first field that is cut off or refused; as many as there are where none is
+-- the first field, from 0, that is cut off or refused; the number of fields where none is
 abbrev pub stops : Layout → List ℕ → ℕ → Bool
 stops l bytes k = cutOff l bytes k || not (eqb (l .refusal k) 0)
 
 unfoldable pub firstStop : Layout → List ℕ → ℕ
 firstStop l bytes = firstOver (stops l bytes) (l .count)
 
--- "one that ends inside the header is 12, unless a field read before is refused"
+-- the header's answer: 12 where the first such field is cut off, else the number that refuses it; 0 where there is none
+-- (Rule 10.4)
 unfoldable pub headAnswer : Layout → List ℕ → Said
 headAnswer l bytes =
     cond (ltb (firstStop l bytes) (l .count))

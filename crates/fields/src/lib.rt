@@ -1,6 +1,7 @@
-// A file that is read field by field and day by day, whatever its header: document 01, Two programs. What any file is
-// answered by its bytes, that a machine which is handed them piece by piece computes it (proofs/Driven), and the small
-// steps that such machines share.
+// A file that is read field by field and day by day, whatever its header. The specs say what any file is answered by
+// its bytes (specs/Layout, specs/Common, specs/Series, specs/File), and what a machine does that is handed these bytes
+// piece by piece (specs/Machine); that the one computes the other is proved in proofs/Driven. The code has the small
+// steps that such machines share. It meets specs/Series and specs/Stages. Rules 10.1, 10.4 and 10.5.
 ghost use mathlib.Core.Path.{_≡_};
 ghost use Prim.Native.Nat.{ℕ, _*_};
 ghost use Rattle.ranges.specs.Ranges.{numberIf, table};
@@ -10,17 +11,17 @@ ghost use Rattle.fields.specs.Series.{readingBytes};
 ghost use Rattle.fields.specs.Stages.{going};
 use answers::Place;
 
-// The bytes of a reading.
+// How many bytes a reading has.
 pub const READING_BYTES: usize = 4;
 
-// Where a field of a header starts, and how many bytes it takes.
+// Where a field of a header starts, from 0, and how many bytes it takes.
 pub struct Span {
     pub start: usize,
     pub width: usize,
 }
 
-// Where a machine stands: it goes on; it has ended with a number that carries nothing, or with 5; it
-// has all days and no byte is left.
+// Where a machine stands: it goes on; it has ended with a number that has no figures, or with 5 and its place; it has
+// all days and no byte is left.
 pub enum Stage {
     Going,
     Refused(u8),
@@ -28,6 +29,7 @@ pub enum Stage {
     Complete,
 }
 
+// Does the machine go on?
 pub fn is_going(stage: Stage) -> bool
     ensures { λ r. ⌜ r ≡ going stage ⌝ }
 {
@@ -46,7 +48,7 @@ pub fn number_if(fails: bool, number: u8) -> u8
     if fails { number } else { 0 }
 }
 
-// The readings in a day's bytes, 0 behind the last.
+// The readings in a day's bytes, the first at place 0; 0 behind the last.
 pub fn readings_in(b: &[u8]) -> [u32; readings::MOST_READINGS]
     ensures { λ r. ⌜ r ≡ table (λ (i : ℕ). fourAt (now (b .entry)) (readingBytes * i)) mostReadings ⌝ }
 {

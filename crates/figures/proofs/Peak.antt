@@ -1,4 +1,4 @@
--- H and its place are what the paper says: the highest in-window reading, and the first day and quarter that have it.
+-- H and its place are what Rule 6.5 says: the highest in-window reading, and the first day and quarter that have it.
 -- Assumes nothing.
 use mathlib.Core.Path.{_≡_, _∙_}
 use mathlib.Core.Bool.{Bool, true, false}

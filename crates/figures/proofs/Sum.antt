@@ -1,4 +1,4 @@
--- S, which goes by days, is the sum of the series' readings, one after the other.
+-- S, which is defined day by day, is the sum of the series' readings, one after the other.
 -- Assumes nothing.
 use mathlib.Core.Path.{_≡_, sym, ap, _∙_}
 use mathlib.Core.List.{List}

@@ -16,7 +16,7 @@ use Rattle.readings.specs.Legal.{dayPeak, peakOf}
 use Rattle.tariff.specs.declared.Figures.{Figures}
 use Rattle.figures.specs.Figures.{noFigures, sumOf, anyOn, highOn, quarterOn, highIn, highDay, figuresOf, DayRecord, recordOf, better, takenIn}
 
--- one place more: the largest value then, and a figure g of its first place, 0 where no place passes
+-- one place more, n from 0: the largest value then, and a figure g of its first place, 0 where no place passes
 module _ (p : ℕ → Bool) (f : ℕ → ℕ) (n : ℕ) where
   value-more : cond (newer p f n) (f n) (largestIn p f n) ≡ largestIn p f (n + 1)
   value-more = go (placed p f n)
@@ -86,7 +86,7 @@ module _ (run : Run) (inWindow : ℕ → ℕ → Bool) where
     unfolding figuresOf highIn
     high-more = value-more (anyOn run inWindow) on n
 
-    -- a law of its own, so that another definition of the day is refused here and not searched for in the two below
+    -- a law of its own, so that a changed definition of the day is refused here and not in the two laws below
     where-is : (m : ℕ) → highDay run inWindow xs m ≡ placeIn (anyOn run inWindow) on m
     unfolding highDay
     where-is m = refl

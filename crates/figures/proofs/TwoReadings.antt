@@ -1,5 +1,5 @@
--- A customer's year that is 0 everywhere but at two places, on two days, of which the earlier alone is in a window: M,
--- S, and H with its place.
+-- A customer's year that is 0 everywhere but at two places, on two days, of which the earlier alone is in-window: M, S,
+-- and H with its place. The example of Rule 10.7 has such a year.
 -- Assumes nothing.
 use mathlib.Core.Path.{_≡_, refl, sym, ap, ap₂, _∙_}
 use mathlib.Core.Bool.{Bool, true, false}
@@ -50,7 +50,7 @@ sum-two f n i j o l h =
     )
 
 -- the first n days of a series: v at position `at` of day `on`, w at position `to` of the later day `late`, and 0
--- everywhere else
+-- everywhere else; days and positions count from 0
 pub record TwoOthers (run : Run) (xs : List ℕ) (n on at v late to w : ℕ) : Type 0 where
   pub order : on < late
   pub late-in : late < n

@@ -1,6 +1,7 @@
--- Document 01, Customer's year and decision: "Annual peak M: highest reading. In-window peak H: highest in-window
--- reading, with the day and quarter where it first occurs. S: sum of all readings". `inWindow d p` says whether
--- position p of day d is in a window; days d and positions p count from 0. A year goes by days, a day by positions.
+-- The figures of a customer's year: M, the annual peak; S, the sum of its readings; H, the in-window peak, and the day
+-- and quarter in which it is first reached. `inWindow d p` says whether position p of day d is in-window; days d and
+-- positions p count from 0, and position p is quarter p (`quarterOf`, room `readings`). A year goes by days, a day by
+-- positions. Rules 6.3 to 6.5.
 use mathlib.Core.Path.{_≡_}
 use mathlib.Core.Bool.{Bool, true, false, cond, not, _&&_, _||_}
 use mathlib.Core.List.{List}
@@ -12,31 +13,32 @@ use Rattle.readings.specs.Runs.{dayLen, quarterOf, reading}
 use Rattle.readings.specs.Legal.{peakOf}
 use Rattle.tariff.specs.declared.Figures.{Figures}
 
--- S of the first n days
+-- S, over the first n days (Rule 6.4)
 unfoldable pub sumOf : Run → List ℕ → ℕ → ℕ
 sumOf run xs n = sumOver (λ d. sumOver (reading run xs d) (dayLen run d)) n
 
 module _ (run : Run) (inWindow : ℕ → ℕ → Bool) where
-  -- does day d have an in-window quarter?
+  -- does day d, from 0, have an in-window quarter?
   unfoldable pub anyOn : ℕ → Bool
   anyOn d = anyOver (inWindow d) (dayLen run d)
 
-  -- the highest in-window reading of day d, whose reading at position p is f p, and the quarter where it first occurs
+  -- the highest in-window reading of day d, whose reading at position p is f p, and the quarter, from 0, where it is
+  -- first reached
   unfoldable pub highOn : ℕ → (ℕ → ℕ) → ℕ
   highOn d f = largestIn (inWindow d) f (dayLen run d)
 
   unfoldable pub quarterOn : ℕ → (ℕ → ℕ) → ℕ
   quarterOn d f = quarterOf run d (placeIn (inWindow d) f (dayLen run d))
 
-  -- the first n days of a series: H, and the first day that has it
+  -- over the first n days of a series: H, and the first day, from 0, that reaches it; n where no quarter is in-window
   unfoldable pub highIn : List ℕ → ℕ → ℕ
   highIn xs n = largestIn anyOn (λ d. highOn d (reading run xs d)) n
 
   unfoldable pub highDay : List ℕ → ℕ → ℕ
   highDay xs n = placeIn anyOn (λ d. highOn d (reading run xs d)) n
 
-  -- the figures of the first n days: M, S, and H with the day, from 1, and the quarter where it first occurs; 0 where
-  -- no quarter is in a window
+  -- the figures of the first n days: M, S, and H with its place, the day from 1 and the quarter from 0. Where no
+  -- quarter is in-window, H, day and quarter are 0.
   unfoldable pub figuresOf : List ℕ → ℕ → Figures
   figuresOf xs n =
       record {
@@ -52,8 +54,8 @@ module _ (run : Run) (inWindow : ℕ → ℕ → Bool) where
 abbrev pub noFigures : Figures
 noFigures = record { peak = 0; sum = 0; any = false; high = 0; day = 0; quarter = 0 }
 
--- a day's record: highest reading, sum, whether a quarter is in a window, and the highest such reading with its first
--- quarter
+-- one day's part of the figures: its highest reading, its sum, whether it has an in-window quarter, and the day's
+-- in-window peak with the quarter, from 0, where it is first reached
 pub record DayRecord : Type 0 where
   pub peak : ℕ
   pub sum : ℕ
@@ -71,11 +73,12 @@ recordOf run inWindow d f =
       quarter = quarterOn run inWindow d f;
     }
 
--- a day's in-window peak counts where it is the year's first, or higher than all before
+-- a day's in-window peak becomes H where no day before has an in-window quarter, or where it is higher than all before:
+-- on a tie the earlier day keeps the place (Rule 6.5)
 abbrev pub better : Figures → DayRecord → Bool
 better f r = r .any && (not (f .any) || ltb (f .high) (r .high))
 
--- a year's figures with the record of the next day, day d from 1, taken in
+-- the figures of the days before, f, with the record of the next day, day d from 1, taken in
 unfoldable pub takenIn : Figures → ℕ → DayRecord → Figures
 takenIn f d r =
     record {
@@ -87,8 +90,8 @@ takenIn f d r =
       quarter = cond (better f r) (r .quarter) (f .quarter);
     }
 
--- what H's place is, in plain orders: an in-window quarter that has H, no in-window reading being above it, and every
--- earlier one below
+-- what H's place is, in plain inequalities: position `at` of day `on`, both from 0, is in-window and has H, no
+-- in-window reading is above H, and every earlier one is below it
 pub record FirstPlace (run : Run) (inWindow : ℕ → ℕ → Bool) (xs : List ℕ) (n : ℕ) (f : Figures) : Type 0 where
   pub on : ℕ
   pub at : ℕ

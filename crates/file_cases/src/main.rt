@@ -1,15 +1,16 @@
 // Reads each file that the arguments name as the two programs read their input, and prints its name in a line and then
 // its text. A file whose name begins with g goes to the window program's machine, any other one to the statement
-// program's; nothing here is decided or proved of them.
-// tests/file_cases.py makes the files, and what must come of them from document 01.
+// program's; nothing here is decided or proved of them. What they print is specified in grid_text and customer_text,
+// specs/Text.
+// tests/file_cases.py makes the files, and what must come of them by docs/RULES.md.
 use customer_file::CustomerFile;
 use grid_file::GridFile;
 use libc::STDOUT_FILENO;
 
-// Bytes that a field or a day has at most.
+// No field and no day has more bytes.
 const PART_MOST: usize = 400;
 
-// Parts that any file has at most: 16 fields, 40 holidays, 366 days, and what is left over after them.
+// Parts that a file has at most: 16 fields, 40 holidays, 366 days, and what is left over after them.
 const PARTS: u32 = 423;
 
 // Hands the machine what came: fewer bytes than the part has where the file ends.
@@ -81,7 +82,7 @@ fn print_file(kind: u8, fd: i32) {
     }
 }
 
-// Argument i: a file that cannot be opened is told on standard error, and its lines are missing.
+// Argument i, from 1: a file that cannot be opened is told on standard error, and its lines are missing.
 fn one(i: usize) {
     let mut name = io::buffer();
     let n = os::arg(i, &mut name);

@@ -1,5 +1,6 @@
-// The four curves of a grid series: for each season and quarter the highest reading, over all days. Document 01,
-// High-load windows.
+// The four curves of a grid's series: the highest reading of a season in a quarter, over all days (Rule 4.2). It meets
+// specs/Curves; how it takes four days at once is in specs/Four. The curves are one array, one after the other: quarter
+// q, from 0, of season s, from 1, at place 96 (s - 1) + q.
 // Main theorem: the highest value of the curves is the period's peak, since every reading goes into one of them
 // (`peak-curves`, proofs/Curves).
 ghost use mathlib.Core.Path.{_≡_};
@@ -12,21 +13,23 @@ ghost use Rattle.grid_curves.specs.Curves.{flatCurves, merged, LaidTo};
 ghost use Rattle.grid_curves.specs.Four.{fourDays, overlaid};
 use readings::Run;
 
-// The readings of four days.
+// How many readings four days have.
 const FOUR_DAYS: usize = 384;
 
 // The last day number that 16 bits hold.
 const LAST_DAY: u16 = 65535;
 
+// The number of winter; seasons count from 1.
 const WINTER: u8 = 1;
 
+// The smaller of two numbers.
 fn smaller(a: usize, b: usize) -> usize
     ensures { λ r. ⌜ r ≡ min a b ⌝ }
 {
     if a < b { a } else { b }
 }
 
-// The season of day d, from 0. Past every period the days lie in winter.
+// The season, from 1, of day d, from 0, of a period. Days behind every period lie in winter.
 fn season_of(year: u16, d: u16) -> u8
     ensures { λ r. ⌜ r ≡ periodSeason year (d + 1) ⌝ }
 {
@@ -36,7 +39,7 @@ fn season_of(year: u16, d: u16) -> u8
     WINTER
 }
 
-// Lays the readings of day d, from 0, over the curve of its season: every day counts, weekends too.
+// Lays the readings of day d, from 0, over the curve of its season, from 1: every day counts, free or not.
 fn lay(curves: &mut [u32; sheet::WINDOW_PLACES], year: u16, d: u16, season: u8, day: &[u32])
     requires { ⌜ (length (now day) ≤ dayLen (Period year) d) × (season ≡ periodSeason year (d + 1)) ⌝ }
     ensures { λ r. ⌜ now (curves .exit) ≡ merged year (now (curves .entry)) d (now (day .entry)) ⌝ }
@@ -56,8 +59,8 @@ pub fn lay_day(curves: &mut [u32; sheet::WINDOW_PLACES], year: u16, d: u16, day:
     lay(&mut *curves, year, d, season_of(year, d), &day[..n]);
 }
 
-// Lays four days of one season, which stand one after the other, over the curves: a curve's value is read and written
-// once for all four.
+// Lays four days of one season, from 1, which stand one after the other, over the curves: a curve's value is read and
+// written once for all four.
 fn lay_four(curves: &mut [u32; sheet::WINDOW_PLACES], season: u8, four: &[u32])
     requires { ⌜ (length (now four) ≡ fourDays) × (1 ≤ season) × (season ≤ 4) ⌝ }
     ensures { λ r. ⌜ now (curves .exit) ≡ overlaid season (now (curves .entry)) (now (four .entry)) ⌝ }
@@ -74,8 +77,8 @@ fn lay_four(curves: &mut [u32; sheet::WINDOW_PLACES], season: u8, four: &[u32])
     }
 }
 
-// Lays the next four of a season's days up to `end` over the curves, or the next one where there are no four, or no
-// readings for them: the number of days that are laid then.
+// Lays the next four of a season's days up to `end` over the curves, day d, from 0, being the first of them, or that
+// day alone where there are no four, or no readings for them. Hands back how many days of the period are laid then.
 fn lay_next(
     curves: &mut [u32; sheet::WINDOW_PLACES],
     year: u16,
@@ -102,8 +105,8 @@ fn lay_next(
     d + 1
 }
 
-// Lays the days from day d on to the end of their month over the curves: they lie in one season. The number of days
-// that are laid then.
+// Lays the days from day `from`, from 0, to the end of their month over the curves: they lie in one season. Hands back
+// how many days of the period are laid then.
 fn lay_month(curves: &mut [u32; sheet::WINDOW_PLACES], year: u16, from: u16, series: &[u32]) -> u16
     requires { ⌜ (from < periodDays year) × (now curves ≡ flatCurves year (now series) from) ⌝ }
     ensures { λ r. ⌜ LaidTo year (now (series .entry)) from (periodDays year) r (now (curves .exit)) ⌝ }

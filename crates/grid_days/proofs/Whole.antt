@@ -95,8 +95,7 @@ module _ (y level : ℕ) (o : gridOpenAnswer y level ≡ only 0) where
             let c = close-finish whole out (omega arith) refl (refl, refl) in
             whole-finish y level xs out (omega arith) (sym o) legal refl (sym (c .0), sym (c .1))
 
-  -- Document 01: "Closing after all days answers as the whole series does." The same answer, and every byte of the
-  -- buffer.
+  -- Rule 9.4: the same answer, and every byte of the buffer
   module _ (out : List ℕ) where
     abbrev closed : Grid → Said × List ℕ
     closed g = (gridCloseAnswer g (length out), gridCloseBuffer g out)

@@ -1,5 +1,5 @@
--- A grid series day by day: opening, a day, closing, and the state between them. Rules 8.2 and 9.3 to 9.5. The days
--- taken count from 0. The sheet's buffer is lent at closing.
+-- A grid series day by day: opening, a day, closing, and the state between them. Rules 8.2 and 9.3 to 9.6. Days count
+-- from 0: the next day is day `seen`. The buffer for the sheet comes with the closing.
 use mathlib.Core.Bool.{cond, not}
 use mathlib.Core.List.{List}
 use Prim.Native.Nat.{ℕ, _+_}

@@ -1,6 +1,6 @@
--- What each number is given for at closing, in plain orders, where no number before it in the order is given (Rule 8.2).
--- The state g, and the room of the lent buffer. The opening's rows are `OpenRow` (grid, Rows), a day's those of its run
--- (readings, Rows).
+-- What each number is given for at closing, by ≤ and < and ≡, where no number before it in the order is given (Rule
+-- 8.2). The state g, and the room of the lent buffer. The opening's rows are `OpenRow` (grid, Rows), a day's those of
+-- its run (readings, Rows).
 use mathlib.Core.Path.{_≡_}
 use Prim.Native.Nat.{ℕ, _≤_, _<_}
 use Rattle.answers.specs.Ruling.{ChargeYear, Level}

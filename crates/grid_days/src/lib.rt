@@ -1,5 +1,5 @@
-// A grid series that is given day by day: opening, one day after the other, closing. It meets specs/Days. Rules 9.1 to
-// 9.6.
+// A grid series that is given day by day: opening, one day after the other, closing. It meets specs/Days. Rules 9.3 to
+// 9.6. The days taken count from 0, the day that 5 names from 1.
 // Main theorem: days given one by one, refused ones among them, close as the whole series of the taken days, sheet
 // bytes included (`days-whole`, proofs/Whole).
 ghost use mathlib.Core.Path.{_≡_};
@@ -67,8 +67,8 @@ pub fn take_day(
 }
 
 impl Grid {
-    // Opens a series that comes day by day. Refuses 1, 2; a refusal hands back one fixed state, on which every day and
-    // every closing is 13.
+    // Opens a series that comes day by day. Refuses 1, 2; beside a refusal stands one fixed state, which takes no day
+    // and never closes (Rule 9.5).
     pub fn open(year: u16, level: u8) -> Stepped
         ensures { λ r. ⌜ Gives (r .answer) (gridOpenAnswer year level) (r .grid) (openGrid year level) ⌝ }
     {

@@ -1,5 +1,5 @@
 -- What the machine that reads a grid file is after a day: the grid's series hands back itself where it refuses the day,
--- and only 5 carries its place on.
+-- and only 5 hands its place on.
 -- Assumes nothing.
 use mathlib.Core.Path.{_≡_, refl}
 use mathlib.Core.Bool.{false}

@@ -1,5 +1,5 @@
 -- What a grid file is answered, by the file's bytes b: its header (room `grid_head`), then the readings of the
--- reference period, 32 bits each. Document 01, Two programs.
+-- reference period, four bytes each. Rules 10.2, 10.4 and 10.5.
 use mathlib.Core.List.{List}
 use Prim.Native.Nat.{ℕ}
 use lib.ListN.{replicate}
@@ -13,18 +13,20 @@ use Rattle.fields.specs.Series.{seriesIn}
 use Rattle.fields.specs.File.{fileAnswer}
 use Rattle.grid_head.specs.Header.{gridLayout, gridYear, gridLevel}
 
--- 0 carries the sheet: what a call answers that lays one into a lent buffer, with the bytes there
+-- a buffer of 56 zeros; and the answer of a call that writes a sheet into a buffer, where 0 has the sheet's bytes as
+-- its figures (Rule 8.1)
 abbrev pub blankSheet : List ℕ
 blankSheet = replicate sheetSize 0
 
 abbrev pub withSheet : Said → List ℕ → Said
 withSheet answer bytes = after answer (record { number = 0; figures = bytes }) answer
 
--- what a series is answered whole
+-- what the whole series of year y is answered
 abbrev pub wholeGrid : ℕ → ℕ → List ℕ → Said
 wholeGrid y level xs = withSheet (windowsAnswer y level xs sheetSize) (windowsBuffer y level xs blankSheet)
 
--- what a grid file is answered: its header, then its days, then what its whole series is
+-- what a grid file is answered: for its header, then for its days, and without a fault there, what its whole series is
+-- answered
 unfoldable pub gridAnswer : List ℕ → Said
 gridAnswer b =
     fileAnswer (gridLayout b) (Period (gridYear b)) gridMost

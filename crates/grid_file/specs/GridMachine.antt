@@ -1,5 +1,5 @@
--- The machine that the window program drives, as a reader of a file (fields, Machine): what it holds, the names of its
--- steps, and what closing it answers.
+-- The machine that the window program drives, as a reader of a file (room `fields`, specs/Machine): what it holds, its
+-- steps, and what closing it answers. Rules 10.4 to 10.6.
 use mathlib.Core.List.{List}
 use Prim.Native.Nat.{ℕ, _+_}
 use lib.ListN.{replicate}
@@ -16,17 +16,18 @@ use Rattle.grid_file.specs.declared.GridFile.{GridFile}
 use Rattle.grid_head.specs.Header.{gridLayout, gridHeadMost, openedGrid}
 use Rattle.grid_file.specs.Grid.{blankSheet, withSheet}
 
--- the header that holds these bytes, after k fields
+-- the state in the header: k fields are taken, and these are the header's bytes; and the state before the first byte
 abbrev pub gridHead : ℕ → List ℕ → GridFile
 gridHead k head = record { field = k; head = head; grid = openedGrid head; stage = Going }
 
 abbrev pub gridStart : GridFile
 gridStart = gridHead 0 (replicate gridHeadMost 0)
 
+-- the state that has ended at a stage
 abbrev pub gridEnded : GridFile → Stage → GridFile
 gridEnded s stage = record { field = s .field; head = s .head; grid = s .grid; stage = stage }
 
--- the days are those of the reference period, and the grid's series takes them
+-- its days are those of the reference period, and the grid's series takes them in; `seen` is how many are taken
 abbrev pub gridReader : Reader GridFile
 gridReader =
     record {
@@ -43,12 +44,13 @@ gridReader =
       added = λ s day. record { field = s .field; head = s .head; grid = dayGrid (s .grid) day; stage = Going };
     }
 
+-- how many bytes it wants, and what it does with those that came
 abbrev pub gridWants : GridFile → ℕ
 gridWants s = wants gridReader s
 
 abbrev pub gridFed : GridFile → List ℕ → GridFile
 gridFed s b = fed gridReader s b
 
--- closing: 0 carries the sheet
+-- closing: 0 has the sheet's bytes as its figures
 abbrev pub closedGrid : Grid → Said
 closedGrid g = withSheet (gridCloseAnswer g sheetSize) (gridCloseBuffer g blankSheet)

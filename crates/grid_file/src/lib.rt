@@ -1,8 +1,9 @@
-// The grid file: its header (room `grid_head`), then the readings of the reference period. Document 01, Two programs.
-// A machine that the window program drives: `want` says how many bytes come next, and `feed` takes them, fewer where
-// the file has ended. Each field and each day is tested as soon as it is fed. What the program prints then stands in
-// the room above.
-// Main theorem: driven over any bytes, the machine prints what the file's bytes are answered (room `printed`).
+// The grid file: its header (room `grid_head`), then the readings of the reference period. A machine that the window
+// program drives: `want` says how many bytes come next, and `feed` takes them, fewer where the file has ended. Each
+// field and each day is tested once all its bytes are there. It meets specs/GridMachine, and `fields`, specs/Machine;
+// room `grid_text` makes the text that is printed. Rules 10.2, 10.4 and 10.5.
+// Main theorem: driven over any bytes, the machine gives what the file's bytes are answered, and that is printed (room
+// `printed_proofs`, specs/Printed).
 ghost use mathlib.Core.Path.{_≡_};
 ghost use Prim.Native.Nat.{_≤_, _<_};
 ghost use Rattle.fields.specs.Layout.{fieldSpan};
@@ -17,7 +18,8 @@ use grid::GridAnswer;
 use grid_days::Grid;
 use readings::Run;
 
-// A grid file that is read: the fields taken so far, the header's bytes, the days taken so far, and where it stands.
+// A grid file that is being read: how many fields are taken, the header's bytes, the grid's series with the days taken,
+// and where the machine stands.
 pub struct GridFile {
     pub field: usize,
     pub head: [u8; grid_head::HEAD_MOST],
@@ -25,7 +27,7 @@ pub struct GridFile {
     pub stage: Stage,
 }
 
-// Where a machine stands after a day.
+// Where the machine stands after a day: it goes on where the day is taken.
 fn stage_of(answer: GridAnswer) -> Stage
     ensures { λ r. ⌜ r ≡ dayStage (saidOfGrid answer) ⌝ }
 {
@@ -40,7 +42,7 @@ fn stage_of(answer: GridAnswer) -> Stage
 }
 
 impl GridFile {
-    // Before the first byte: a blank header opens no series.
+    // The state before the first byte: a header of zeros opens no series.
     pub fn start() -> GridFile
         ensures { λ r. ⌜ r ≡ gridStart ⌝ }
     {
@@ -53,6 +55,7 @@ impl GridFile {
         }
     }
 
+    // The machine that has ended, with everything else as it was.
     fn ended(self, stage: Stage) -> GridFile
         ensures { λ r. ⌜ r ≡ gridEnded self stage ⌝ }
     {
@@ -66,7 +69,8 @@ impl GridFile {
         }
     }
 
-    // How many bytes come next: a field's, a day's, or one, which should not be there; none once the machine has ended.
+    // How many bytes come next: those of a field, those of a day, or one that should not be there; none once the
+    // machine has ended. Never more than 400 (a day has 384).
     pub fn want(self) -> usize
         ensures { λ r. ⌜ (r ≡ gridWants self) × (r ≤ 400) ⌝ }
     {
@@ -87,7 +91,7 @@ impl GridFile {
         0
     }
 
-    // Takes its next field, which stands there.
+    // Takes the next field, which stands at this span of the header: 12 where the file ends before it is complete.
     fn take_field(self, span: Span, b: &[u8]) -> GridFile
         requires { ⌜ (span ≡ fieldSpan (gridLayout (self .head)) (self .field)) × (0 < span .width) ⌝ }
         ensures { λ r. ⌜ r ≡ fieldFed gridReader self (now (b .entry)) ⌝ }
@@ -110,7 +114,8 @@ impl GridFile {
         }
     }
 
-    // A day's readings are given to the grid's series, which hands back itself where it refuses them.
+    // Gives a day's readings to the grid's series, which stays as it is where it refuses them: 4 where the file ends in
+    // the day.
     fn take_day(self, b: &[u8]) -> GridFile
         ensures { λ r. ⌜ r ≡ dayFed gridReader self (now (b .entry)) ⌝ }
     {
@@ -131,7 +136,7 @@ impl GridFile {
         }
     }
 
-    // After the last day: a byte that is left over is 4.
+    // Behind the last day: a byte that is there is 4.
     fn take_end(self, b: &[u8]) -> GridFile
         ensures { λ r. ⌜ r ≡ endFed gridReader self (now (b .entry)) ⌝ }
     {

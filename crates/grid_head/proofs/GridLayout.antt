@@ -86,6 +86,6 @@ module _ (b : List ℕ) where
           fits-by grid-count (start-none k (omega arith)) (width-none k (omega arith)) (omega arith) (omega arith)
           (λ z. absurd (omega arith)) (λ z. omega arith)
 
--- the number of field k, which is field i
+-- the number that refuses field k, where k is i
 pub refusal-at : (b : List ℕ) (i : ℕ) {k : ℕ} → k ≡ i → i < 4 → fieldAt (gridFields b) i .refusedAt (getD gridStarts i 0) ≡ gridLayout b .refusal k
 refusal-at b i e l = grid-refusal b i l ∙ ap (gridLayout b .refusal) (sym e)

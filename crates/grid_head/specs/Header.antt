@@ -1,5 +1,5 @@
--- The header of a grid file, by the file's bytes b: mark, version, year and level, each as wide as in the sheet.
--- Document 01, Two programs.
+-- The header of a grid file, by the file's bytes b: mark, version, year and level, each as wide as in a window sheet.
+-- Places count from 0. Rule 10.2.
 use mathlib.Core.List.{List, [], _∷_}
 use Prim.Native.Nat.{ℕ, _+_}
 use lib.ListN.{getD}
@@ -9,28 +9,28 @@ use Rattle.grid_days.specs.Days.{openGrid}
 use Rattle.fields.specs.Layout.{Field, Layout, layoutOf}
 use Rattle.fields.specs.Common.{markField, versionField, yearField, levelField}
 
--- "GRD"
+-- the mark `GRD`, in ASCII
 abbrev pub gridMark : List ℕ
 gridMark = 71 ∷ 82 ∷ 68 ∷ []
 
--- the fields of the header, in order
+-- the fields of the header, in order, the first being field 0
 abbrev pub gridFields : List ℕ → List Field
 gridFields b = markField gridMark b ∷ versionField b ∷ yearField b ∷ levelField b ∷ []
 
 unfoldable pub gridLayout : List ℕ → Layout
 gridLayout b = layoutOf (gridFields b)
 
--- year and level, behind mark and version
+-- the year, and the level behind it (a code from 1)
 abbrev pub gridYear : List ℕ → ℕ
 gridYear b = twoAt b (markSize + versionSize)
 
 abbrev pub gridLevel : List ℕ → ℕ
 gridLevel b = getD b (markSize + versionSize + yearSize) 0
 
--- the header's bytes
+-- how many bytes the header has
 abbrev pub gridHeadMost : ℕ
 gridHeadMost = 8
 
--- the series that the header opens
+-- the grid's series that the header opens
 abbrev pub openedGrid : List ℕ → Grid
 openedGrid b = openGrid (gridYear b) (gridLevel b)

@@ -1,13 +1,14 @@
-// The header of a grid file: where its fields stand, the number that refuses each, and the series that it opens, by
-// the bytes read so far. Document 01, Two programs: "GRD", version 1, year, level. Fields count from 0. Behind the last
-// byte there is 0, so that every call answers for any bytes.
+// The header of a grid file: where its fields stand, the number that refuses each, and the series that it opens, by the
+// header's bytes. It meets specs/Header, and `fields`, specs/Layout. Fields and places count from 0. Behind the last
+// byte there is 0, so that every call answers for any bytes. Rules 10.2 and 10.4.
 ghost use mathlib.Core.Path.{_≡_};
 ghost use Rattle.fields.specs.Layout.{fieldSpan};
 ghost use Rattle.grid_head.specs.Header.{gridLayout, openedGrid};
 use fields::Span;
 use grid_days::Grid;
 
-// Fields of the header, counted from 0: where they start, and how wide they are. The header's bytes.
+// How many fields the header has; where each starts, and how many bytes it takes, field 0 (the mark) first; how many
+// bytes the header has.
 const FIELDS: usize = 4;
 
 const STARTS: [usize; FIELDS] = [0, 3, 5, 7];
@@ -16,14 +17,14 @@ const WIDTHS: [usize; FIELDS] = [3, 2, 2, 1];
 
 pub const HEAD_MOST: usize = 8;
 
-// Where version, year and level stand.
+// The places, from 0, of version, year and level.
 const VERSION_AT: usize = 3;
 
 const YEAR_AT: usize = 5;
 
 const LEVEL_AT: usize = 7;
 
-// Where field k stands; behind the last field it is no byte, at the header's end.
+// Where field k, from 0, stands; behind the last field this is no byte, at the header's end.
 pub fn span_of(head: &[u8], k: usize) -> Span
     ensures { λ r. ⌜ r ≡ fieldSpan (gridLayout (now (head .entry))) k ⌝ }
 {
@@ -39,7 +40,7 @@ pub fn span_of(head: &[u8], k: usize) -> Span
     }
 }
 
-// The number that refuses field k; 0 where none does, and where there is no field.
+// The number that refuses field k, from 0; 0 where it passes, and where there is no such field.
 pub fn refusal(head: &[u8], k: usize) -> u8
     ensures { λ r. ⌜ r ≡ gridLayout (now (head .entry)) .refusal k ⌝ }
 {
@@ -58,7 +59,7 @@ pub fn refusal(head: &[u8], k: usize) -> u8
     0
 }
 
-// The series that the header opens.
+// The series that the header opens; where year or level is refused, the fixed state of a refused opening (Rule 9.5).
 pub fn opened(head: &[u8]) -> Grid
     ensures { λ r. ⌜ r ≡ openedGrid (now (head .entry)) ⌝ }
 {

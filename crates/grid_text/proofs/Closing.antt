@@ -1,4 +1,4 @@
--- Closing refuses with a bare number, or 0 carries the sheet: the lines of either.
+-- Closing refuses with a number alone, or 0 has the sheet's bytes as its figures: the lines of either.
 -- Assumes nothing.
 use mathlib.Core.Path.{_≡_, refl, ap, _∙_}
 use mathlib.Core.Bool.{Bool, true, false, cond, not}
@@ -21,7 +21,7 @@ use Rattle.grid_file.specs.Grid.{blankSheet}
 use Rattle.grid_file.specs.GridMachine.{closedGrid}
 use Rattle.grid_text.specs.Text.{sheetText, windowLines}
 
--- an answer that carries nothing
+-- an answer without figures
 abbrev Bare : Said → Type 0
 Bare x = only (x .number) ≡ x
 

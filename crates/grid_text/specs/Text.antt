@@ -1,5 +1,5 @@
--- Document 01, Two programs: the window program prints the windows of the sheet that it finds, or `REFUSED` with the
--- number and, for 5, the place. These lines of a file's bytes, and of the machine that reads them.
+-- What the window program prints: the windows of the sheet that it finds, or `REFUSED` with the number and, for 5, the
+-- place. Said of a file's bytes, and of the machine that reads them. Rule 10.6.
 use mathlib.Core.Bool.{cond}
 use mathlib.Core.List.{List, [], _∷_}
 use Prim.Native.Nat.{ℕ}
@@ -16,7 +16,7 @@ use Rattle.grid_file.specs.declared.GridFile.{GridFile}
 use Rattle.grid_file.specs.Grid.{gridAnswer}
 use Rattle.grid_file.specs.GridMachine.{closedGrid}
 
--- the lines of an answer: the windows of the sheet that 0 carries, or the refusal
+-- the lines of an answer: the windows of the sheet whose bytes are the figures of 0, or the refusal
 abbrev pub sheetText : Sheet → List ℕ
 sheetText s = windowsText (s .year) (s .level) (s .windows)
 
@@ -27,7 +27,8 @@ windowLines said = cond (eqb (said .number) 0) (sheetText (readSheet (said .figu
 abbrev pub windowsPrinted : List ℕ → List ℕ
 windowsPrinted b = windowLines (gridAnswer b)
 
--- what the machine prints: the windows' lines can only come of closing
+-- what the machine prints, by where it stands: only closing can give the lines of windows. 13 while it goes on, as for
+-- closing before the last day (Rule 8.1).
 abbrev pub stageText : Stage → Grid → List ℕ
 stageText Going g = refusedLine (13 ∷ [])
 stageText (Refused n) g = refusedLine (n ∷ [])

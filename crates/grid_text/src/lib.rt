@@ -1,5 +1,5 @@
-// What the window program prints once the machine of the grid file has ended: the windows' lines, or a
-// refusal's. Document 01, Two programs.
+// What the window program prints once the machine of room `grid_file` has ended: the lines of the windows, or that of a
+// refusal. It meets specs/Text; `lines`, specs/Text, says how a text is put into a lent buffer. Rule 10.6.
 ghost use mathlib.Core.List.{[], _∷_};
 ghost use Rattle.answers.specs.Said.{badPlace};
 ghost use Rattle.lines.specs.Text.{Put};
@@ -11,7 +11,8 @@ use fields::Stage;
 use grid_days::Grid;
 use grid_file::GridFile;
 
-// A refusal's line: a number alone, or 5 with its place.
+// A refusal's line: a number alone; or 5 with its place, the day of the period from 1 and the position in the day from
+// 0.
 fn refused(number: u64, out: &mut [u8]) -> usize
     ensures { λ r. ⌜ Put 0 (refusedLine (number ∷ [])) (now (out .entry)) (now (out .exit)) r ⌝ }
 {
@@ -26,7 +27,7 @@ fn refused_at(place: Place, out: &mut [u8]) -> usize
     lines::refused_text(&figures, out)
 }
 
-// What is printed once all days are in: the windows' lines, or what closing refuses.
+// What is printed once all days are in: the lines of the windows, or what closing refuses.
 fn closed(grid: Grid, out: &mut [u8]) -> usize
     ensures { λ r. ⌜ Put 0 (windowLines (closedGrid grid)) (now (out .entry)) (now (out .exit)) r ⌝ }
 {

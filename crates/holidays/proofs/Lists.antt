@@ -1,4 +1,5 @@
--- Laws of the holiday list: what a search through it keeps, and that it is refused exactly when it breaks its row.
+-- Laws of the holiday list: what a search through it keeps, and that it is refused exactly when it is not legal (Rule
+-- 2.6).
 -- Assumes nothing.
 use mathlib.Core.Path.{_≡_, sym}
 use mathlib.Core.Bool.{Bool, true, false, or-true}
@@ -68,6 +69,6 @@ module _ (y : ℕ) (hs : List ℕ) where
       above zero l = h .from 0 l
       above (suc k) l = rw add-one at (h .rising k (omega arith))
 
-  -- a list is taken exactly when it keeps its row
+  -- a list is accepted exactly when it is legal
   pub legal-holidays : (badHolidays y hs ≡ false) ↔ LegalHolidays y hs
   legal-holidays = (taken-legal, legal-taken)

@@ -1,17 +1,19 @@
-// Holiday lists: document 01, Numbers. Which days carry windows by a list is said in the room above.
-// Main theorem: a list is taken exactly when it keeps its row (`legal-holidays`, proofs/Lists).
+// Holiday lists, and when they are legal (Rule 2.6). It meets specs/Holidays. Which days carry windows under a list is
+// said in crate `calendar`.
+// Main theorem: a list is accepted exactly when it is legal (`legal-holidays`, proofs/Lists).
 ghost use mathlib.Core.Path.{_≡_};
 ghost use Rattle.holidays.specs.Holidays.{badHoliday, badHolidays};
 
-// Does a listed day break its rule: it does not rise above the one before (0 before the first), or lies past the year's
-// end? Any day has an answer.
+// Is a day, from 1, no larger than the entry before it in the list (0 before the first), or behind 31 December? Any day
+// has an answer.
 pub fn bad_holiday(year: u16, last: u16, day: u16) -> bool
     ensures { λ r. ⌜ r ≡ badHoliday year last day ⌝ }
 {
     (day <= last) | (dates::year_days(year) < day)
 }
 
-// Does a holiday list break its row (answer 3): more than 40 days, a day that does not rise, a day outside the year?
+// Is a holiday list not legal (answer 3): more than 40 entries, an entry that is no larger than the one before it, or
+// one outside the year?
 pub fn bad_holidays(year: u16, holidays: &[u16]) -> bool
     ensures { λ r. ⌜ r ≡ badHolidays year (now (holidays .entry)) ⌝ }
 {

@@ -1,7 +1,7 @@
-// Legal readings of document 01: the highest of some readings, the first above a limit, and the first illegal reading
-// of a run.
-// Main theorem: the first illegal reading is found by day and then by position, in any series, and nothing is read past
-// its end.
+// Legal readings: the highest of some readings, the first above a limit, and the first illegal reading of a run (Rules
+// 2.1, 2.2 and 8.4). It meets `readings`, specs/Legal.
+// Main theorem: the first illegal reading is found by its day and then by its position, in any series, and nothing is
+// read past the series' end.
 ghost use mathlib.Core.Path.{_≡_};
 ghost use Prim.Native.Nat.{max};
 ghost use lib.ListN.{getD};
@@ -38,8 +38,8 @@ fn any_above(readings: &[u32], limit: u32) -> bool
     any
 }
 
-// The place of the first reading above a limit, or how many readings there are. It is searched for only where there is
-// one.
+// The place, from 0, of the first reading above a limit, or how many readings there are where none is. It is searched
+// for only where there is one.
 pub fn first_above(readings: &[u32], limit: u32) -> usize
     ensures { λ r. ⌜ r ≡ firstAbove limit (now (readings .entry)) ⌝ }
 {
@@ -54,14 +54,15 @@ pub fn first_above(readings: &[u32], limit: u32) -> usize
     readings.len()
 }
 
-// A reading of a series, and 0 past its end.
+// The reading at place i, from 0, of a series, and 0 past its end.
 fn reading_at(series: &[u32], i: usize) -> u32
     ensures { λ r. ⌜ r ≡ getD (now (series .entry)) i 0 ⌝ }
 {
     if i < series.len() { series[i] } else { 0 }
 }
 
-// The first reading of a run above a limit, by day and then by position.
+// The place of the first reading of a run above a limit: the earliest day, from 1, and on it the earliest position,
+// from 0; day 0 where there is none.
 pub fn first_illegal(run: Run, series: &[u32], limit: u32) -> Place
     ensures { λ r. ⌜ r ≡ firstIllegal run limit (now (series .entry)) ⌝ }
 {

@@ -1,5 +1,6 @@
--- Text as bytes, and text in a lent buffer. A text buffer that is too short has no number of its own (14 is the
--- sheet's): a call writes the whole text and answers its length, or writes nothing and answers 0.
+-- Text as bytes, and text in a lent buffer. A text buffer that is too short has no number of its own (14 is for the
+-- buffer of a sheet): a call writes the whole text and answers its length, or writes nothing and answers 0. Places in a
+-- buffer count from 0.
 use mathlib.Core.Path.{_≡_}
 use mathlib.Core.Bool.{cond}
 use mathlib.Core.List.{List, [], _++_}
@@ -8,26 +9,26 @@ use lib.Dec.{leb}
 use lib.ListN.{length, take, drop}
 use Rattle.ranges.specs.Ranges.{joined}
 
--- the texts f 0, .. , f (n - 1), one after the other
+-- the texts f 0, .. , f (n - 1), one behind the other
 unfoldable pub textOver : (ℕ → List ℕ) → ℕ → List ℕ
 textOver f n = joined _++_ [] f n
 
--- enough for every text that a program prints: the longest is that of windows, a head of at most 49 bytes, and 14 for
--- each quarter of the four seasons
+-- so many bytes are enough for every text that a program prints: that of windows has never more than 49 for its first
+-- line and 14 for each of the 384 quarters, and all others are shorter
 abbrev pub textMost : ℕ
 textMost = 5425
 
--- a text put into a buffer from a place on, all or nothing. What is answered: the place behind the text where the
--- buffer holds it, else the place itself
+-- a text put into a buffer from a place on, all or nothing. This is answered: the place behind the text where the
+-- buffer has room for it, else the place itself.
 unfoldable pub endIn : ℕ → List ℕ → List ℕ → ℕ
 endIn at text buffer = cond (leb (at + length text) (length buffer)) (at + length text) at
 
--- and the buffer then: the text there, all other bytes as before; or every byte as before
+-- and this is the buffer then: the text there, all other bytes as before; or every byte as before
 unfoldable pub putIn : ℕ → List ℕ → List ℕ → List ℕ
 putIn at text buffer = cond (leb (at + length text) (length buffer)) (take at buffer ++ (text ++ drop (at + length text) buffer)) buffer
 
--- so a call answers r, and the buffer d became e. Every text of a program is put at place 0: its length is answered,
--- or 0.
+-- a call answers r, and the buffer d became e. Every text of a program is put at place 0: so its length is answered, or
+-- 0.
 pub record Put (at : ℕ) (text d e : List ℕ) (r : ℕ) : Type 0 where
   pub end : r ≡ endIn at text d
   pub is : e ≡ putIn at text d

@@ -1,6 +1,6 @@
-// The lines of figures that the two programs print, as bytes: a statement, and a refusal. Document 01, Two programs.
-// Each public call writes its whole text at the start of a lent buffer and answers the text's length; all further bytes
-// stay. Where the buffer is too short it writes nothing and answers 0.
+// The lines of figures that the two programs print, as bytes: a statement, and a refusal. Each public call writes its
+// whole text at the start of a lent buffer and answers the text's length; the bytes behind it stay. Where the buffer is
+// too short, it writes nothing and answers 0. It meets specs/Figures and specs/Text. Rules 10.1, 10.6 and 10.7.
 ghost use mathlib.Core.Path.{_≡_};
 ghost use Prim.Native.Nat.{_+_, _≤_};
 ghost use lib.Dec.{leb};
@@ -8,15 +8,15 @@ ghost use lib.ListN.{length};
 ghost use Rattle.lines.specs.Text.{Put, Wrote};
 ghost use Rattle.lines.specs.Figures.{decimalOf, fieldOf, figuresLine, refusedLine};
 
-// Bytes of the word `REFUSED` and the space after it.
+// How many bytes the word `REFUSED` and the space behind it have.
 const REFUSED_SIZE: usize = 8;
 
-// Bytes that are enough for every text that a program prints. The longest is that of windows: a head of at most 49
-// bytes, and 14 for each quarter of the four seasons.
+// So many bytes are enough for every text that a program prints: that of windows has never more than 49 for its first
+// line and 14 for each of the 384 quarters, and all others are shorter.
 pub const TEXT_MOST: usize = 5425;
 
-// Each `add` writes behind what the buffer holds up to `at`, and answers the place after what it wrote. Bytes that do
-// not fit are not written, and the place itself is answered.
+// Each `add` writes from place `at` on, counted from 0, and answers the place behind what it wrote. Bytes that do not
+// fit are not written, and the place itself is answered.
 pub fn add_bytes(buf: &mut [u8], at: usize, bytes: &[u8]) -> usize
     ensures { λ r. ⌜ Put at (now (bytes .entry)) (now (buf .entry)) (now (buf .exit)) r ⌝ }
 {
@@ -30,7 +30,7 @@ pub fn add_bytes(buf: &mut [u8], at: usize, bytes: &[u8]) -> usize
     at + bytes.len()
 }
 
-// How many digits a number has.
+// How many decimal digits a number has.
 fn number_len(x: u64) -> usize
     ensures { λ r. ⌜ (r ≡ length (decimalOf x)) × (r ≤ 20) ⌝ }
 {
@@ -38,6 +38,7 @@ fn number_len(x: u64) -> usize
     io::decimal(x, &mut digits)
 }
 
+// A number in decimal.
 fn add_number(buf: &mut [u8], at: usize, x: u64) -> usize
     requires { ⌜ at + length (decimalOf x) ≤ length (now buf) ⌝ }
     ensures { λ r. ⌜ Wrote (now (buf .entry)) at (decimalOf x) (now (buf .exit)) r ⌝ }
@@ -47,7 +48,7 @@ fn add_number(buf: &mut [u8], at: usize, x: u64) -> usize
     add_bytes(buf, at, &digits[..k])
 }
 
-// Field i of a line: a space before it, unless it is the first.
+// How many bytes field i of a line has, from 0: with a space before it, unless it is the first.
 fn field_len(i: usize, x: u64) -> usize
     ensures { λ r. ⌜ r ≡ length (fieldOf i x) ⌝ }
 {
@@ -58,6 +59,7 @@ fn field_len(i: usize, x: u64) -> usize
     n + 1
 }
 
+// Field i of a line, from 0.
 fn add_field(buf: &mut [u8], at: usize, i: usize, x: u64) -> usize
     requires { ⌜ at + length (fieldOf i x) ≤ length (now buf) ⌝ }
     ensures { λ r. ⌜ Wrote (now (buf .entry)) at (fieldOf i x) (now (buf .exit)) r ⌝ }
@@ -69,8 +71,8 @@ fn add_field(buf: &mut [u8], at: usize, i: usize, x: u64) -> usize
     add_number(buf, n, x)
 }
 
-// Does the line of these figures fit into `room` bytes? It stops at the first field that does
-// not, so that nothing overflows.
+// Does the line of these figures fit into `room` bytes? It stops at the first field that does not, so that nothing
+// overflows.
 fn figures_fit(figures: &[u64], room: usize) -> bool
     ensures { λ r. ⌜ r ≡ leb (length (figuresLine (now (figures .entry)))) room ⌝ }
 {
@@ -85,6 +87,7 @@ fn figures_fit(figures: &[u64], room: usize) -> bool
     0 < left
 }
 
+// The line of these figures, the line feed with it.
 fn add_figures(buf: &mut [u8], at: usize, figures: &[u64]) -> usize
     requires { ⌜ at + length (figuresLine (now figures)) ≤ length (now buf) ⌝ }
     ensures { λ r. ⌜ Wrote (now (buf .entry)) at (figuresLine (now (figures .entry))) (now (buf .exit)) r ⌝ }

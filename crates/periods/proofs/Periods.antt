@@ -50,7 +50,7 @@ pub period-far : (y k : ℕ) → 500 < k → periodSeason y k ≡ winter
 period-far y k h =
     sym (period-season y k refl (period-late y k (y - 1) refl (omega arith))) ∙ past-winter (y - 1) (k - 122) (omega (arith, leap-small (y - 1)))
 
--- the period runs from 1 September of the year before the last to 31 August of the last
+-- the period's first day is 1 September of y - 2, its last 31 August of y - 1 (Rule 4.1)
 pub period-first : (y : ℕ) → periodDate y 1 ≡ record { year = y - 2; day = dayOf (y - 2) 9 1 }
 period-first y = sym (early-date y 1 (y - 2) (daysTo (y - 2) 8) refl refl (omega arith))
 

@@ -1,13 +1,15 @@
-// The reference period of a charge year: its days, their dates and seasons.
-// Main theorem: it runs from 1 September of the year before the last to 31 August of the last, in every year.
+// The reference period of a charge year: its days, their dates and seasons (Rule 4.1). It meets specs/Period. The
+// period's days k count from 1.
+// Main theorem: it begins with 1 September of the year two before the charge year, and ends with 31 August of the year
+// before, in every charge year (`period-first`, `period-last`, proofs/Periods).
 ghost use mathlib.Core.Path.{_≡_};
 ghost use Prim.Native.Nat.{_-_};
 ghost use Rattle.periods.specs.Period.{periodDays, periodDate, periodSeason, periodLeft};
 
-// September to December of any year.
+// How many days September to December have, in any year.
 const LATE_DAYS: u16 = 122;
 
-// A day of a year, from 1.
+// A day, from 1, of a year.
 struct Date {
     year: u16,
     day: u16,
@@ -20,14 +22,14 @@ fn years_back(year: u16, n: u16) -> u16
     if year < n { 0 } else { year - n }
 }
 
-// The days of the reference period of any charge year: as many as the year has in which it ends.
+// How many days the reference period of any charge year has: as many as the year in which it ends.
 pub fn period_days(year: u16) -> u16
     ensures { λ r. ⌜ r ≡ periodDays year ⌝ }
 {
     dates::year_days(years_back(year, 1))
 }
 
-// The date of a day of the reference period.
+// The date of day k, from 1, of the reference period.
 fn period_date(year: u16, k: u16) -> Date
     ensures { λ r. ⌜ r ≡ periodDate year k ⌝ }
 {
@@ -45,7 +47,7 @@ fn period_date(year: u16, k: u16) -> Date
     }
 }
 
-// The season of any day, from 1, of the reference period of any charge year.
+// The season, 1 to 4, of any day k, from 1, of the reference period of any charge year.
 pub fn period_season(year: u16, k: u16) -> u8
     ensures { λ r. ⌜ r ≡ periodSeason year k ⌝ }
 {
@@ -53,7 +55,7 @@ pub fn period_season(year: u16, k: u16) -> u8
     dates::season(date.year, date.day)
 }
 
-// The days of the reference period that come after a day in its month.
+// How many days of its month come after day k, from 1, of the reference period.
 pub fn period_left(year: u16, k: u16) -> u16
     ensures { λ r. ⌜ r ≡ periodLeft year k ⌝ }
 {

@@ -1,5 +1,5 @@
 -- What the statement program prints is what its file's bytes are answered: the machine of a customer file, driven over
--- any bytes, prints the line of the answer that document 01 gives for them.
+-- any bytes, prints the line that customer_text, specs/Text, gives for them.
 -- Assumes nothing.
 use mathlib.Core.Path.{_≡_, refl, sym, ap, _∙_}
 use mathlib.Core.Bool.{false}

@@ -1,5 +1,5 @@
--- A customer file's header as it is read: no field looks at a byte behind it, and
--- opening a year looks at the header only.
+-- A customer file's header as it is read: no field looks at a byte behind it, and opening a year looks at the header
+-- only.
 -- Assumes nothing.
 use mathlib.Core.Path.{_≡_, refl, sym, ap, _∙_}
 use mathlib.Core.Bool.{Bool}

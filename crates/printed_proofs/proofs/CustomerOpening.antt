@@ -47,7 +47,7 @@ module _ (bytes : List ℕ) where
   abbrev hs : List ℕ
   hs = holidaysOf bytes
 
-  -- the bytes of the sheet: byte k of what starts at its byte i
+  -- the bytes of the sheet: byte k of what starts at its byte i, both from 0
   byte : (i k : ℕ) → i + k < sheetSize → getD sheet (i + k) 0 ≡ getD bytes (sheetPlace + i + k) 0
   byte i k m =
       let e : sheetPlace + (i + k) ≡ sheetPlace + i + k = omega arith in

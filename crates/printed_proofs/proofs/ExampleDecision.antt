@@ -1,5 +1,5 @@
--- The statement program's example from the series: its M, S and H with its place, and so what
--- the decision over the year answers.
+-- The statement program's example (Rule 10.7) from the series: its M, S and H with its place, and so what the decision
+-- over the year answers.
 -- Assumes nothing.
 use mathlib.Core.Path.{_≡_, refl, sym, ap, ap₂, _∙_}
 use mathlib.Core.Bool.{Bool, true, false, cond}

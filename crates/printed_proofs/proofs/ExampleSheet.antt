@@ -1,5 +1,5 @@
--- Case 12 from the series: the grid's series of the printed example has the curves of case 12, so its sheet is the one
--- of case 12, in every buffer with room for it.
+-- Case 12 (Rule 11.1) from the series: the grid's series of the example of Rule 10.6 has the curves of case 12, so its
+-- sheet is the one of case 12, in every buffer with room for it.
 -- Assumes nothing.
 use mathlib.Core.Path.{_≡_, refl, sym, ap, _∙_}
 use mathlib.Core.Bool.{Bool, true, false, cond}
@@ -41,7 +41,7 @@ use Rattle.printed_proofs.specs.Examples.{isAt, gridRun, otherDay, gridR
 use Rattle.printed_proofs.proofs.Series.{at-there, at-other, series-long, series-reads}
 use Rattle.grid_curves.proofs.OneReading.{OneOther, other-peak, curve-there, curve-else}
 
--- the period has 366 days, and 15 January 2024 is the 137th
+-- the period has 366 days, and 15 January 2024 is the 137th, from 1
 day-is : otherDay ≡ 137
 unfolding otherDay daysTo leapDay leap sumOver joined
 day-is = refl

@@ -1,4 +1,4 @@
--- The printed examples of document 01 hold, from the series and from the file's bytes.
+-- The examples of Rules 10.6 and 10.7 hold, from the series and from the file's bytes.
 -- Assumes nothing.
 use Rattle.printed_proofs.specs.Examples.{Examples}
 use Rattle.printed_proofs.proofs.ExampleSheet.{sheet-laid}

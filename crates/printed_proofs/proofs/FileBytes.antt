@@ -38,7 +38,7 @@ unfolding seriesBytes
 bytes-long [] = refl
 bytes-long (x ∷ xs) = length-append (fourBytes x) (seriesBytes xs) ∙ omega (arith, length-four x, bytes-long xs)
 
--- byte k of reading i
+-- byte k of reading i, both from 0
 byte-at : (xs : List ℕ) (i k : ℕ) → i < length xs → k < 4 → getD (seriesBytes xs) (readingBytes * i + k) 0 ≡ digitOf 256 readingBytes (getD xs i 0) k
 unfolding seriesBytes fourBytes
 byte-at [] i k l m = absurd (not-suc-le-zero l)

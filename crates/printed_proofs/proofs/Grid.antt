@@ -1,5 +1,5 @@
--- The window program: its machine, driven over any bytes, prints what the file's bytes
--- are answered (grid_text, specs/Text).
+-- The window program: its machine, driven over any bytes, prints what the file's bytes are answered (grid_text,
+-- specs/Text).
 -- Assumes nothing.
 use mathlib.Core.Path.{_≡_, refl, sym, ap, _∙_}
 use mathlib.Core.Bool.{false}

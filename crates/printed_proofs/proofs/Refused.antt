@@ -1,7 +1,7 @@
--- Nothing is decided twice: where a field is refused, the opening would refuse the same bytes with the same
--- number. The opening does not see the fields that are the file's own: its mark and version, the option byte,
--- the count of the holidays. (A count above 40 is 3, as a list of more than 40 is to the opening: by
--- definition one limit and one number.)
+-- Nothing is decided twice: where a field is refused, the opening would refuse the same bytes with the same number. The
+-- opening does not see the fields that are the file's own: its mark and version, the option byte, the count of the
+-- holidays. (A count above 40 is 3, as a list of more than 40 is to the opening: by definition one limit and one
+-- number.)
 -- Assumes nothing.
 use mathlib.Core.Path.{_≡_, refl, sym, ap}
 use mathlib.Core.Bool.{true, not, or-true}
@@ -34,7 +34,7 @@ use Rattle.customer_head.proofs.CustomerLayout.{count-is}
 use Rattle.printed_proofs.proofs.Grid as GridFields
 use Rattle.printed_proofs.proofs.CustomerOpening.{mark-tested, version-tested, year-tested, level-tested, season-tested, holiday-tested, holidays-long, priceOut, price-tested, formed, year-in, level-in, sheet-in, holidays-in}
 
--- field k of a header is the first that is refused
+-- field k of a header, from 0, is the first that is refused
 pub record FirstRefused (l : Layout) (k : ℕ) : Type 0 where
   pub field : k < l .count
   pub before : (i : ℕ) → i < k → l .refusal i ≡ 0
@@ -44,7 +44,7 @@ pub record FirstRefused (l : Layout) (k : ℕ) : Type 0 where
 abbrev pub DecidedOnce : Said → Layout → ℕ → Type 0
 DecidedOnce opening l k = FirstRefused l k → opening ≡ only (l .refusal k)
 
--- a grid file: year and level
+-- a grid file: year and level, fields 2 and 3
 pub grid-once : (bytes : List ℕ) (k : ℕ) → 2 ≤ k → DecidedOnce (gridOpenAnswer (gridYear bytes) (gridLevel bytes)) (gridLayout bytes) k
 grid-once bytes zero m r = absurd (omega arith)
 grid-once bytes (suc zero) m r = absurd (omega arith)
@@ -53,7 +53,7 @@ grid-once bytes (suc (suc (suc zero))) m r =
     refused-as _ 1 (GridFields.level-tested bytes) (r .refused) (open-level _ _ (GridFields.year-legal bytes (r .before 2 (omega arith))))
 grid-once bytes (suc (suc (suc (suc k)))) m r = absurd (omega (arith, r .field, grid-count bytes))
 
--- the fields of a customer file that the opening sees: those of the sheet, the holidays and the prices
+-- the fields of a customer file that the opening sees: 2 to 9 are the sheet's, from 12 on the holidays and the prices
 pub data Seen (k : ℕ) : Type 0 where
   sheet : 2 ≤ k → k < 10 → Seen k
   lists : 12 ≤ k → Seen k

@@ -1,5 +1,5 @@
--- Laws of a run's series that is given by its readings: it is as long as its days, and it has these
--- readings. And of one quarter of one day.
+-- Laws of a run's series that is given by its readings: it is as long as its days, and it has these readings. And of
+-- one quarter of one day.
 -- Assumes nothing.
 use mathlib.Core.Path.{_≡_, sym, ap, _∙_}
 use mathlib.Core.Bool.{true, false, and-false}

@@ -1,5 +1,6 @@
--- Document 01, Two programs: the two printed examples, and Figures on each side, case 12: from the series, and from the
--- bytes of the file that holds it, to the sheet and to the printed lines. The statement is `Examples`.
+-- The two examples of Rules 10.6 and 10.7, and case 12 of Rule 11.1: from the series, and from the bytes of the file
+-- that holds it, to the sheet and to the printed lines. The statement is `Examples`. Rules 10.2, 10.3, 10.6, 10.7 and
+-- 11.1.
 use mathlib.Core.Path.{_≡_}
 use mathlib.Core.Bool.{Bool, false, cond, _&&_}
 use mathlib.Core.List.{List, [], _∷_, _++_}
@@ -29,12 +30,12 @@ use Rattle.printed_proofs.specs.Printed.{gridDriven, customerDriven}
 unfoldable pub seriesOf : Run → (ℕ → ℕ → ℕ) → ℕ → List ℕ
 seriesOf run f n = joined _++_ [] (λ d. table (f d) (dayLen run d)) n
 
--- position p of day d is this quarter of this day of the run, the day from 1
+-- position p of day d, both from 0, is this quarter, from 0, of this day of the run, from 1
 abbrev pub isAt : Run → ℕ → ℕ → ℕ → ℕ → Bool
 isAt run day quarter d p = eqb (d + 1) day && eqb (quarterOf run d p) quarter
 
 -- The window program's example: every reading of the period is 1,000 kW, but quarter 72 of 15 January 2024 has 2,000.
--- That day's number in the period counts the days of 2023 from 1 September on, then those of 2024.
+-- That day's number in the period, from 1, counts the days of 2023 from 1 September on, then those of 2024.
 abbrev pub gridRun : Run
 gridRun = Period 2025
 
@@ -48,7 +49,7 @@ unfoldable pub gridSeries : List ℕ
 gridSeries = seriesOf gridRun gridReading (runDays gridRun)
 
 -- The statement program's example: every reading of 2025 is 0, but quarter 0 of 4 January, a Saturday, has 1,000,000 W,
--- and quarter 72 of 2 January, a Thursday, has 500,000.
+-- and quarter 72 of 2 January, a Thursday, has 500,000. Days of the year count from 1.
 abbrev pub customerRun : Run
 customerRun = Year 2025
 
@@ -72,8 +73,8 @@ unfoldable pub seriesBytes : List ℕ → List ℕ
 seriesBytes [] = []
 seriesBytes (x ∷ xs) = fourBytes x ++ seriesBytes xs
 
--- the two files: mark and version 1; year 2025 and level 5, or the sheet of case 12, option 0, no
--- holidays and the four prices; the readings
+-- the two files (Rules 10.2 and 10.3): mark and version 1; year 2025 and level 5, or the sheet of case 12, no option,
+-- no holidays and the four prices; the readings
 abbrev pub gridHeader : List ℕ
 gridHeader = gridMark ++ (0x00 ∷ 0x01 ∷ 0x07 ∷ 0xe9 ∷ 0x05 ∷ [])
 
@@ -89,7 +90,7 @@ customerHeader = customerMark ++ ((0x00 ∷ 0x01 ∷ []) ++ (exampleSheet ++ ((0
 unfoldable pub customerBytes : List ℕ
 customerBytes = customerHeader ++ seriesBytes customerSeries
 
--- what the window program prints
+-- what the window program prints, as the bytes of its characters
 abbrev pub exampleWindows : List ℕ
 exampleWindows =
     -- `HLZ 2025 5`
@@ -107,7 +108,8 @@ exampleWindows =
 abbrev pub exampleBasis : Basis
 exampleBasis = basis exampleSheet [] prices false
 
--- what the year is answered, and the statement program's line: `0 1001500 2001500 1000000 1500000 500000 2 72`
+-- what the year is answered, and the statement program's line: `0 1001500 2001500 1000000 1500000 500000 2 72`, which
+-- are the number, c, g, M, S, H, and its day, from 1, and quarter, from 0
 abbrev pub customerSaid : Said
 customerSaid = record { number = 0; figures = 1001500 ∷ 2001500 ∷ 1000000 ∷ 1500000 ∷ 500000 ∷ 2 ∷ 72 ∷ [] }
 
@@ -120,14 +122,14 @@ exampleStatement =
     -- ` 500000 2 72`
     ++ (32 ∷ 53 ∷ 48 ∷ 48 ∷ 48 ∷ 48 ∷ 48 ∷ 32 ∷ 50 ∷ 32 ∷ 55 ∷ 50 ∷ 10 ∷ []))
 
--- the grid's series lays the sheet of case 12 into every buffer with room for it, and the bytes behind it stay
+-- the grid's series writes the sheet of case 12 into every buffer with room for it, and the bytes behind it stay
 pub record ExampleLaid (buffer : List ℕ) : Type 0 where
   pub accepted : windowsAnswer 2025 5 gridSeries (length buffer) ≡ only 0
   pub laid : windowsBuffer 2025 5 gridSeries buffer ≡ exampleSheet ++ drop sheetSize buffer
 
 -- a file has this text: what is printed of its bytes, and what the machine that a program drives over them prints, with
--- turns enough. For a grid file those are 371: 4 fields, at most 366 days, and the end. For a customer file they are
--- 423: at most 56 fields, 366 days, and the end.
+-- turns enough (specs/Printed). For a grid file those are 371: 4 fields, at most 366 days, and the end. For a customer
+-- file they are 423: at most 56 fields, 366 days, and the end.
 pub record Prints (printed : List ℕ) (machine : ℕ → List ℕ) (enough : ℕ) (text : List ℕ) : Type 0 where
   pub of-bytes : printed ≡ text
   pub of-machine : (turns : ℕ) → enough ≤ turns → machine turns ≡ text

@@ -1,7 +1,9 @@
--- Document 01, Two programs: what each prints, for every list of bytes on standard input. A program hands its machine,
--- turn by turn, as many bytes as the machine wants (`driven`); with turns enough for the header's fields, for the days
--- and for the end, the machine's text is what the file's bytes are answered. The window program's header has 4 fields;
--- the statement program's at most 56 with 40 holidays; a year or a period has at most 366 days.
+-- What each program prints, for every list of bytes on standard input. A program has a machine, a state that takes
+-- bytes (grid_file, specs/GridMachine; customer_file, specs/CustomerMachine), and hands it, turn by turn, as many as it
+-- wants (`driven`): a field, a day, or what comes behind the last day. With turns enough the machine's text is that of
+-- grid_text or customer_text, specs/Text, which goes by the file's bytes alone. The window program's header has 4
+-- fields; the statement program's at most 56, with 40 holidays; a year or a period has at most 366 days. Rules 10.4 to
+-- 10.7.
 use mathlib.Core.Path.{_≡_}
 use mathlib.Core.List.{List}
 use Prim.Native.Nat.{ℕ, _+_, _≤_}

@@ -1,5 +1,6 @@
 -- Values over a range: the places 0, 1, .. , n - 1, in this order. Every specification of the project speaks of a range
--- by these words. Each goes by the top, the way a loop goes: one place more is one step more.
+-- in these words; places count from 0, and n is how many there are. Each definition goes up to the last place, the way
+-- a loop goes: one place more is one step more.
 use mathlib.Core.Bool.{Bool, true, false, cond, _&&_, _||_}
 use mathlib.Core.List.{List, [], _∷_, _++_}
 use Prim.Native.Nat.{ℕ, zero, suc, _+_, _-_, _*_, _/_, _%_, _^_, max}
@@ -51,14 +52,14 @@ largestIn p f n = largestOver (λ k. numberIf (p k) (f k)) n
 unfoldable pub placeIn : (ℕ → Bool) → (ℕ → ℕ) → ℕ → ℕ
 placeIn p f n = firstOver (λ k. p k && eqb (f k) (largestIn p f n)) n
 
--- the list of f 0, .. , f (n - 1): how an array is named
+-- the list of f 0, .. , f (n - 1): how a specification names an array
 unfoldable pub table : {A : Type 0} → (ℕ → A) → ℕ → List A
 table f n = joined _++_ [] (λ k. f k ∷ []) n
 
--- the number that f 0, .. , f (n - 1) are the digits of, in a base, the first digit on top
+-- the number whose digits in a base are f 0, .. , f (n - 1), the highest digit first
 unfoldable pub inBase : ℕ → (ℕ → ℕ) → ℕ → ℕ
 inBase base f n = joined (λ a d. base * a + d) 0 f n
 
--- digit k of the n digits of a number x, the first on top
+-- digit k, from 0, of the n digits of a number x in a base, the highest digit first
 abbrev pub digitOf : ℕ → ℕ → ℕ → ℕ → ℕ
 digitOf base n x k = x / base ^ (n - 1 - k) % base

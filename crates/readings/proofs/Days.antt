@@ -1,5 +1,5 @@
--- Laws of series that are given whole or day by day: the cases of their answers, and readings with one more day after
--- them.
+-- Laws of series that are given whole or by their days: the cases of their answers, and readings with one more day
+-- after them.
 -- Assumes nothing.
 use mathlib.Core.Path.{_≡_, refl, sym, ap, _∙_}
 use mathlib.Core.Logic.{_↔_}
@@ -78,7 +78,7 @@ module _ (run : Run) (limit n : ℕ) (day : List ℕ) where
       unfolding nextAnswer
       next-taken v = simp (lt-leb _ _ h, eq-eqb _ _ l, le-ltb _ _ (highest-legal limit day v))
 
--- each number is given exactly when its row holds and no number before it is given
+-- each number is answered exactly when its row holds and none before it does
 module _ (run : Run) (limit n : ℕ) (day : List ℕ) where
   next-holds : NextRow run limit n day (nextAnswer run limit n day .number)
   next-holds = go (decLt n (runDays run)) (ℕ-discrete (length day) (dayLen run n)) (decLt limit (highestOf day))

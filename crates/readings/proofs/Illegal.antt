@@ -1,4 +1,5 @@
--- The highest reading tells in plain orders whether all are legal; and the search's end is the first that is not.
+-- The highest reading tells whether all are legal, as ≤ and < alone state it; and the search's end is the first that is
+-- not.
 -- Assumes nothing.
 use mathlib.Core.Path.{sym, _∙_}
 use mathlib.Core.Bool.{Bool}

@@ -1,6 +1,6 @@
 -- Machines of days, any of them: days that are offered one by one, refused ones among them, lead to the state that
--- holds the taken readings; and where the whole series has a bad reading, the days before it are taken and its day
--- answers the same place.
+-- holds the taken readings; and where the whole series has an illegal reading, the days before it are taken and its day
+-- is answered the same place.
 -- Assumes nothing.
 use mathlib.Core.Path.{_≡_, refl, sym, ap, _∙_}
 use mathlib.Core.Bool.{false}
@@ -229,7 +229,7 @@ module _
               let all : take (dayStart run (runDays run)) xs ≡ xs = take-all (dayStart run (runDays run)) xs (omega (arith, run-all run, s .long)) in
               ap closes (t .is ∙ ap (λ (ys : List ℕ). holding ys (runDays run)) all) ∙ same xs (sym (legal-series run limit xs .1 s))
 
-        -- Document 01: "Closing after all days answers as the whole series does."
+        -- Rule 9.4: once every day was taken, closing gives what the call for the whole series gives
         pub as-whole : (start : S) → start ≡ holding [] 0 → AsWhole run limit answer step start closes whole
         as-whole start e =
             record {
@@ -238,7 +238,7 @@ module _
               all-days = λ xs s. rw e (closed-all xs s);
             }
 
-    -- a series with a bad reading, given by its days
+    -- a series with an illegal reading, given by its days
     module _ (xs : List ℕ) (l : length xs ≡ runReadings run) (bad : limit < peakOf run xs (runDays run)) where
       abbrev there : ℕ
       there = badDay run limit xs
@@ -270,8 +270,8 @@ module _
           (sym (part-bad there found)))
           ∙ simp (lt-ltb there (runDays run) found)
 
-    -- where the whole series answers 5 at a day, from 1, and a position, the days before are
-    -- taken, and that day answers the same
+    -- where the whole series is answered 5 at a day, from 1, and a position, from 0, the days before are taken, and
+    -- that day is answered the same
     pub same-bad :
         (xs : List ℕ) (d q : ℕ)
         → seriesAnswer run limit xs ≡ badPlace (record { day = d + 1; position = q })

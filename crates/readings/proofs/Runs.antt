@@ -1,4 +1,4 @@
--- Laws of a run's layout: all that other proofs know of it. The sums follow from `dayLen`, so they stay where it moves.
+-- Laws of a run's layout: all that other proofs know of it. The sums hold whatever `dayLen` is.
 -- Assumes nothing.
 use mathlib.Core.Path.{_≡_, refl, sym, ap, _∙_}
 use Prim.Native.Nat.{ℕ, zero, suc, _+_, _*_, _≤_, _<_}
@@ -16,7 +16,7 @@ use Rattle.readings.specs.declared.Run.the-variants.{Year, Period}
 use Rattle.readings.specs.declared.DaySpan.{DaySpan}
 use Rattle.readings.specs.Runs.{runDays, dayLen, quarterOf, dayStart, runReadings, daySpan}
 
--- a day has from 92 to 100 readings, and a position stands for one of 96 quarters
+-- bounds that other proofs use: a day has from 92 to 100 readings, and a position stands for one of 96 quarters
 pub len-least : (run : Run) (d : ℕ) → 92 ≤ dayLen run d
 unfolding dayLen
 len-least run d = omega arith
@@ -32,7 +32,7 @@ pub quarter-in : (run : Run) (d p : ℕ) → p < dayLen run d → quarterOf run 
 unfolding dayLen quarterOf
 quarter-in run d p l = omega arith
 
--- the code's leaves
+-- the layout itself: a day has 96 readings, and position p stands for quarter p
 pub len-is : (run : Run) (d : ℕ) → dayQuarters ≡ dayLen run d
 unfolding dayLen
 len-is run d = refl
@@ -88,7 +88,7 @@ module _ (run : Run) where
           let e : d ≡ n = omega arith in
           rw e (omega (arith, start-suc n))
 
-  -- by the number of quarters: for the leaves alone
+  -- where a day starts and how many readings there are, by the 96 quarters of a day
   pub start-formula : (d : ℕ) → dayStart run d ≡ dayQuarters * d
   start-formula zero = omega (arith, start-none)
   start-formula (suc d) = omega (arith, start-formula d, start-suc d, len-is run d)

@@ -1,6 +1,5 @@
--- Document 01, Numbered answers, last paragraph: "Both series may be given whole or day by day." What readings alone
--- decide, for a run's whole series and for one day after the other; a machine of days is any state with its answer to a
--- day and its next state.
+-- What readings alone decide, for a run's whole series and for one day after the other. A machine of days is anything
+-- that takes days one by one: any state, with an answer to a day and a next state. Rules 8.2, 9.1, 9.3 and 9.4.
 use mathlib.Core.Path.{_≡_}
 use mathlib.Core.Bool.{cond, not}
 use mathlib.Core.List.{List, [], _∷_, _++_}
@@ -15,14 +14,15 @@ use Rattle.readings.specs.Legal.{firstAbove, firstIllegal}
 use Rattle.readings.specs.Illegal.{LegalSeries}
 use Rattle.readings.specs.Part.{dayPart}
 
--- a whole series: 4 for a wrong length, then 5 for the first illegal reading
+-- a whole series: 4 for a wrong number of readings, then 5 for the first illegal one
 unfoldable pub seriesAnswer : Run → ℕ → List ℕ → Said
 seriesAnswer run limit xs =
     cond (not (eqb (length xs) (runReadings run))) (only 4)
     (cond (ltb 0 (firstIllegal run limit xs .day)) (badPlace (firstIllegal run limit xs))
     (only 0))
 
--- a day where n days are taken: "A day past the end is 13, then a day of wrong length 4, then a bad reading 5"
+-- one day more, where n days are taken: 13 where the run has no day left, then 4 for a wrong number of readings, then 5
+-- for the first illegal one; the new day is day n from 0, and is named n + 1, since an answer counts days from 1
 unfoldable pub nextAnswer : Run → ℕ → ℕ → List ℕ → Said
 nextAnswer run limit n day =
     cond (leb (runDays run) n) (only 13)
@@ -30,7 +30,8 @@ nextAnswer run limit n day =
     (cond (ltb (firstAbove limit day) (length day)) (badPlace (record { day = n + 1; position = firstAbove limit day }))
     (only 0)))
 
--- the days that the state of a refused opening has taken: more than any run has
+-- the number of taken days in the state of a refused opening: more than any run has, so that it takes no day and never
+-- closes (Rule 9.5)
 abbrev pub shutDays : ℕ
 shutDays = 65535
 
@@ -39,7 +40,7 @@ unfoldable pub offered : {S : Type 0} → (S → List ℕ → S) → S → List 
 offered step s [] = s
 offered step s (day ∷ days) = offered step (step s day) days
 
--- the days among them that are answered 0, in their order, and their readings, one day after the other
+-- the days among them that are answered 0, in their order; and their readings, one day after the other
 unfoldable pub takenDays : {S : Type 0} → (S → List ℕ → Said) → (S → List ℕ → S) → S → List (List ℕ) → List (List ℕ)
 takenDays answer step s [] = []
 takenDays answer step s (day ∷ days) = after (answer s day) (day ∷ []) [] ++ takenDays answer step (step s day) days
@@ -51,12 +52,12 @@ oneAfterOther (day ∷ days) = day ++ oneAfterOther days
 abbrev pub takenReadings : {S : Type 0} → (S → List ℕ → Said) → (S → List ℕ → S) → S → List (List ℕ) → List ℕ
 takenReadings answer step s days = oneAfterOther (takenDays answer step s days)
 
--- the first n days of a series, each as it is handed out
+-- the first n days of a series, each as it is handed out: entry d of the list, from 0, is day d + 1
 unfoldable pub daysOf : Run → List ℕ → ℕ → List (List ℕ)
 daysOf run xs n = table (λ d. dayPart run xs (d + 1)) n
 
--- a series whose days are offered to a machine: those before day d, from 0, are taken, and day d answers 5 at
--- position q
+-- a series whose days are offered to a machine: those before day d, from 0, are taken, and day d is answered 5 at
+-- position q, from 0
 pub record BadThere
     {S : Type 0} (run : Run) (answer : S → List ℕ → Said) (step : S → List ℕ → S) (start : S)
     (xs : List ℕ) (d q : ℕ) : Type 0
@@ -64,9 +65,9 @@ pub record BadThere
     pub before : (n : ℕ) → n < d → answer (offered step start (daysOf run xs n)) (dayPart run xs (n + 1)) ≡ only 0
     pub there : answer (offered step start (daysOf run xs d)) (dayPart run xs (d + 1)) ≡ badPlace (record { day = d + 1; position = q })
 
--- Days from `start` on close as the whole series does: `closes` is what closing a state gives, `whole` what the call
--- for whole series gives. Said of what the caller sees, for any machine: its answers, and not a number that it keeps
--- itself.
+-- Days from `start` on close as the whole series does (Rule 9.4): `closes` is what closing a state gives, `whole` what
+-- the call for whole series gives. It is said of what the caller sees, for any machine: of its answers, and not of a
+-- number that it keeps itself.
 pub record AsWhole
     {S A : Type 0} (run : Run) (limit : ℕ) (answer : S → List ℕ → Said) (step : S → List ℕ → S) (start : S)
     (closes : S → A) (whole : List ℕ → A) : Type 0

@@ -1,5 +1,5 @@
--- Document 01, Numbered answers: "reading not legal" and "the first one", in plain orders. Of a day's readings that are
--- given alone, and of the days of a run's series; days d and positions p count from 0.
+-- Legal and illegal readings, and the first illegal one, stated by the orders ≤ and < alone: of a day's readings that
+-- are given alone, and of the days of a run's series. Days d and positions p count from 0. Rules 2.1 and 8.4.
 use Prim.Native.Nat.{ℕ, _≤_, _<_}
 use mathlib.Core.Path.{_≡_}
 use mathlib.Core.List.{List}
@@ -34,7 +34,7 @@ module _ (run : Run) (limit : ℕ) (xs : List ℕ) where
     pub at-in : at < dayLen run on
     pub above : limit < reading run xs on at
 
-  -- by day and then by position
+  -- the first: on an earlier day there is none, nor on the same day at an earlier position
   pub record FirstIllegalIn (d q : ℕ) : Type 0 where
     pub on-in : d < runDays run
     pub at-in : q < dayLen run d

@@ -1,6 +1,5 @@
--- Document 01, Numbered answers: "Whole, one day's ninety-six readings are handed out as a part of the year the caller
--- lent. That call refuses nothing: for day 0, or a day the run doesn't wholly hold, the part is empty." Days count from
--- 1.
+-- The part of a series xs that is handed out for one day, which counts from 1: its readings, or none for day 0 and for
+-- a day of which the series does not have all readings. Nothing is refused. Rule 9.2.
 use mathlib.Core.Bool.{cond, _||_}
 use mathlib.Core.List.{List, []}
 use Prim.Native.Nat.{ℕ, _-_}

@@ -1,5 +1,6 @@
--- Document 01, Numbered answers: what each number that a day is answered is given for, where n days of a run are taken
--- and no number before it in the order 13, 4, 5 is given. In plain orders.
+-- When each number is answered to a day, where n days of a run are taken, stated by equality, ≤ and < alone: its own
+-- condition holds, and that of no number before it in the order 13, 4, 5. That `nextAnswer` agrees is proved in
+-- proofs/Days. Rule 8.2.
 use mathlib.Core.Path.{_≡_}
 use mathlib.Core.List.{List}
 use Prim.Native.Nat.{ℕ, _≤_, _<_}
@@ -8,7 +9,7 @@ use Rattle.readings.specs.declared.Run.{Run}
 use Rattle.readings.specs.Runs.{runDays, dayLen}
 use Rattle.readings.specs.Illegal.{AllLegal, SomeIllegal}
 
--- a day is left, and the given one is as long as it
+-- the run has a day left, day n from 0, and the given one is as long as it
 pub record NextDay (run : Run) (n : ℕ) (day : List ℕ) : Type 0 where
   pub left : n < runDays run
   pub long : length day ≡ dayLen run n

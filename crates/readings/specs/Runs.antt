@@ -1,6 +1,7 @@
--- Document 01, Numbers: "Every day has quarters 0 to 95 (house rule)." A run is the days whose readings a series holds,
--- one day after the other: a charge year's, or those of its reference period. A run's days d and a day's positions p
--- count from 0. How a day is laid out in a series is said here alone, by `dayLen` and `quarterOf`.
+-- How days stand in a series. A run is the days whose readings a series holds, one day after the other: those of a
+-- charge year, or those of its reference period. A run's days d and a day's positions p count from 0. How a day is laid
+-- out is said here alone, by `dayLen` and `quarterOf`: each day has 96 readings, position p for quarter p. Rules 2.4,
+-- 4.1 and 6.1.
 use mathlib.Core.List.{List}
 use Prim.Native.Nat.{ℕ, _+_}
 use lib.ListN.{getD}
@@ -12,34 +13,35 @@ use Rattle.readings.specs.declared.Run.{Run}
 use Rattle.readings.specs.declared.Run.the-variants.{Year, Period}
 use Rattle.readings.specs.declared.DaySpan.{DaySpan}
 
--- the days of a run
+-- how many days a run has
 unfoldable pub runDays : Run → ℕ
 runDays (Year y) = yearDays y
 runDays (Period y) = periodDays y
 
--- how many readings a day has
+-- how many readings day d has
 unfoldable pub dayLen : Run → ℕ → ℕ
 dayLen run d = dayQuarters
 
--- no day has more: a day of 25 hours, the longest that there is, has 100 quarters
+-- a bound for the readings of any day, above the 96 that each has: a day of 25 hours would have 100 quarters
 abbrev pub mostReadings : ℕ
 mostReadings = 100
 
--- the quarter that a position of a day stands for
+-- the quarter, from 0, that position p of day d stands for
 unfoldable pub quarterOf : Run → ℕ → ℕ → ℕ
 quarterOf run d p = p
 
--- the readings before a day, and those of the whole run
+-- how many readings stand before day d, so the place, from 0, of its first
 unfoldable pub dayStart : Run → ℕ → ℕ
 dayStart run d = sumOver (dayLen run) d
 
--- where a day stands in a series
+-- where day d stands in a series
 abbrev pub daySpan : Run → ℕ → DaySpan
 daySpan run d = record { start = dayStart run d; len = dayLen run d }
 
+-- how many readings a whole run has
 unfoldable pub runReadings : Run → ℕ
 runReadings run = dayStart run (runDays run)
 
--- the reading at a position of a day of a series; 0 past the series' end
+-- the reading at position p of day d of a series; 0 past the series' end
 abbrev pub reading : Run → List ℕ → ℕ → ℕ → ℕ
 reading run xs d p = getD xs (dayStart run d + p) 0

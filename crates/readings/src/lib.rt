@@ -1,5 +1,7 @@
-// Readings of document 01: a lent series by days, and the part that is one day.
-// Main theorem: a series says the same whole and day by day (`Machine`, `as-whole`, `same-bad`, proofs/Machines).
+// Readings: where the days of a lent series stand, and the part of it that is one day (Rules 2.4, 9.1 and 9.2). It
+// meets specs/Runs and specs/Part.
+// Main theorem: a series is answered the same whole and day by day (Rule 9.4; `Machine`, `as-whole`, `same-bad`,
+// proofs/Machines).
 ghost use mathlib.Core.Path.{_≡_};
 ghost use Prim.Native.Nat.{_≤_};
 ghost use Rattle.readings.specs.Runs.{runDays, quarterOf, runReadings, daySpan};
@@ -17,11 +19,11 @@ pub struct DaySpan {
     pub len: usize,
 }
 
-// The most readings that a day has: no day is longer than 25 hours.
+// A bound for the readings of any day, above the 96 that each has: a day of 25 hours would have 100 quarters.
 pub const MOST_READINGS: usize = 100;
 
-// The days that the state of a refused opening has taken: more than any run has, so that it takes no day and never
-// closes.
+// The number of taken days in the state of a refused opening: more than any run has, so that it takes no day and never
+// closes (Rule 9.5).
 pub const SHUT_DAYS: u16 = 65535;
 
 // Days up to this number, 2^57, start within 64 bits; and no series in memory is so long that it holds one behind it.
@@ -37,8 +39,7 @@ pub fn run_days(run: Run) -> u16
     }
 }
 
-// The span of a day, from 0, as far as 64 bits reach. (Every day has as many readings, so far; the run is asked all the
-// same.)
+// Where a day, from 0, stands in its series, as far as 64 bits reach: every day of every run has 96 readings.
 fn span_at(run: Run, d: usize) -> DaySpan
     requires { ⌜ d ≤ 144115188075855872 ⌝ }
     ensures { λ r. ⌜ r ≡ daySpan run d ⌝ }
@@ -70,7 +71,8 @@ pub fn run_readings(run: Run) -> usize
     answers::DAY_QUARTERS * run_days(run) as usize
 }
 
-// The part of a series that is a day, from 1: empty for day 0 and for a day that the series does not wholly hold.
+// The part of a series that is a day, from 1: empty for day 0, and for a day of which the series does not have all
+// readings.
 pub fn day_part(run: Run, series: &[u32], day: usize) -> &[u32]
     ensures { λ r. ⌜ now r ≡ dayPart run (now (series .entry)) day ⌝ }
 {

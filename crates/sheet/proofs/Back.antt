@@ -1,5 +1,5 @@
--- Demand 2's theorems of the sheet: what is written reads back as the same meaning, what is read is written back as the
--- same bytes; so two accepted sheets with one meaning have the same bytes, and two meanings never share bytes.
+-- Rule 12.2 for the sheet: what is written reads back as the same meaning, what is read is written back as the same
+-- bytes; so two accepted sheets with one meaning have the same bytes, and two meanings never share bytes.
 -- Assumes nothing.
 use mathlib.Core.Path.{_≡_, refl, sym, ap, _∙_}
 use mathlib.Core.Bool.{Bool, false}
@@ -174,7 +174,7 @@ buffer-read s buffer long e = go (write-exactly s (length buffer) 0 .0 e)
         ap readOf (ap (take sheetSize) (sym (write-taken s buffer _ taken refl .1)) ∙ take-at (sheetBytes s) (drop sheetSize buffer) sheetSize bytes)
         ∙ read-written s (record { long = long; year = y; level = l; room = w })
 
--- an empty sheet is legal
+-- a sheet without a set bit is legal (Rule 5.3)
 empty-season : (s : ℕ) → Within 1 seasons s → setIn (replicate windowPlaces false) s ≡ 0
 unfolding setIn
 empty-season s r =

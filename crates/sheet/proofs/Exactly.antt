@@ -1,5 +1,5 @@
--- Each number is given exactly when its row holds and no number before it in the call's order is given; and nothing
--- else meets the promises of `read` and `write`.
+-- Each number is answered exactly when its row (specs/Rows) holds and none before it in the call's order does; and
+-- nothing else meets the promises of `read` and `write`.
 -- Assumes nothing.
 use mathlib.Core.Path.{_≡_, refl, sym, ap, _∙_}
 use mathlib.Core.Bool.{cond}
@@ -51,7 +51,7 @@ module _ (b : List ℕ) where
   pub read-exactly : (n : ℕ) → (readAnswer b .number ≡ n) ↔ ReadRow b n
   read-exactly n = (λ e. rw e at read-holds, read-given)
 
-  -- 0 carries nothing, and 14 is never given
+  -- 0 has no figures, and 14 is never given
   pub read-zero : readAnswer b .number ≡ 0 → only 0 ≡ readAnswer b
   read-zero e = go (read-exactly 0 .0 e)
     where
@@ -92,7 +92,7 @@ module _ (s : Sheet) (room : ℕ) where
   pub write-exactly : (n : ℕ) → (writeAnswer s room .number ≡ n) ↔ WriteRow s room n
   write-exactly n = (λ e. rw e at write-holds, write-given)
 
--- an answer, back from what it says: linear in the cases
+-- an answer, back from what it says: so two answers that say the same are equal, without a case for each pair
 abbrev answerBack : Said → SheetAnswer
 answerBack a =
     cond (eqb (a .number) 0) Accepted

@@ -1,6 +1,6 @@
--- Document 01, Numbered answers. Reading a sheet alone: "sheet length, mark, version (12), year (1), level
--- (2), set bits (12)". Writing one: 14 for a buffer shorter than 56 bytes, then 1, 2, 12. "An accepted sheet
--- fills 56 bytes; all further bytes stay."
+-- What reading and writing a sheet answer, and what they leave behind. Reading: 12 for length, mark or version, then 1,
+-- then 2, then 12 for too many set bits. Writing: 14 for a buffer of fewer than 56 bytes, then 1, 2 and 12; a sheet
+-- fills the first 56 bytes of the lent buffer, and the others stay. Rules 8.2 and 8.3.
 use mathlib.Core.Bool.{false, cond, not}
 use mathlib.Core.List.{List, _++_}
 use Prim.Native.Nat.{ℕ}
@@ -24,7 +24,7 @@ saidOfSheet YearOut = only 1
 saidOfSheet LevelOut = only 2
 saidOfSheet Malformed = only 12
 
--- reading: the answer, and the sheet beside it, which is one fixed sheet where the bytes are refused
+-- reading: what the bytes b are answered
 unfoldable pub readAnswer : List ℕ → Said
 readAnswer b =
     cond (not (eqb (length b) sheetSize)) (only 12)
@@ -35,15 +35,18 @@ readAnswer b =
     (cond (tooFull (windowsIn b)) (only 12)
     (only 0))))))
 
+-- one fixed sheet, which is handed back beside every refusal
 abbrev pub blank : Sheet
 blank = record { year = 0; level = 0; windows = replicate windowPlaces false }
 
 abbrev pub refusedSheet : SheetAnswer → SheetRead
 refusedSheet answer = record { answer = answer; sheet = blank }
 
+-- the sheet beside the answer
 unfoldable pub readSheet : List ℕ → Sheet
 readSheet b = after (readAnswer b) (sheetIn b) blank
 
+-- the answer and the sheet together: what reading code hands back, and what it must
 pub record ReadSaid : Type 0 where
   pub answer : Said
   pub sheet : Sheet
@@ -54,7 +57,7 @@ shownOf r = record { answer = saidOfSheet (r .answer); sheet = r .sheet }
 abbrev pub readOf : List ℕ → ReadSaid
 readOf b = record { answer = readAnswer b; sheet = readSheet b }
 
--- writing: the answer, and what the lent buffer then holds
+-- writing: what the sheet s is answered, where the lent buffer has `room` bytes, and what the buffer then holds
 unfoldable pub writeAnswer : Sheet → ℕ → Said
 writeAnswer s room =
     cond (ltb room sheetSize) (only 14)

@@ -1,5 +1,6 @@
--- Document 01, Numbered answers: what each number is given for, where no number before it in the call's order is given.
--- In plain orders; the bytes b, or the meaning s and the room of the lent buffer.
+-- When each number is answered, stated by equality, ≤ and < alone: its own condition holds, and that of no number
+-- before it in the call's order. b is the bytes that are read; s is the sheet that is written, and `room` says how many
+-- bytes the lent buffer has. That specs/Answers agrees is proved in proofs/Exactly. Rules 5.3 and 8.2.
 use mathlib.Core.Path.{_≡_}
 use mathlib.Core.List.{List}
 use Prim.Native.Nat.{ℕ, _≤_, _<_}
@@ -10,7 +11,7 @@ use Rattle.sheet.specs.Windows.{Roomy}
 use Rattle.encoding.specs.Bytes.{formatVersion, twoAt}
 use Rattle.sheet.specs.Bytes.{mark, versionAt, yearAt, levelAt, sheetSize, windowsIn}
 
--- "HLZ" stands at the start
+-- the three bytes of "HLZ" stand at the start
 abbrev pub Marked : List ℕ → Type 0
 Marked b = (k : ℕ) → k < versionAt → getD b k 0 ≡ getD mark k 0
 

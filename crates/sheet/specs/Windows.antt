@@ -1,6 +1,6 @@
--- Document 01, Window sheet: "A sheet's meaning is its year, its level and its windows." The windows of
--- the four seasons stand one after the other, 96 quarters each. "Any bits are legal with at most 40 set in
--- a season; an empty sheet is legal."
+-- What a sheet means: its year, its level and which quarters of which seasons are windows; and when that is legal. The
+-- windows are one list of 384 places, from 0: four seasons one after the other, 96 quarters each. Seasons s count from
+-- 1, quarters q from 0. Rules 5.3 and 5.4.
 use mathlib.Core.Bool.{Bool, false, _&&_}
 use mathlib.Core.List.{List, []}
 use Prim.Native.Nat.{ℕ, _+_, _-_, _*_, _/_, _%_, _≤_}
@@ -12,42 +12,43 @@ use Rattle.ranges.specs.Ranges.{countOver, anyOver, table}
 use Rattle.answers.specs.Ruling.{dayQuarters, windowsMost, ChargeYear, Level}
 use Rattle.sheet.specs.declared.Sheet.{Sheet}
 
--- four seasons of 96 quarters
+-- four seasons, and four times 96 quarters
 abbrev pub seasons : ℕ
 seasons = 4
 
 abbrev pub windowPlaces : ℕ
 windowPlaces = 384
 
--- the place of quarter q of season s
+-- the place of quarter q of season s in the list
 abbrev pub quarterPlace : ℕ → ℕ → ℕ
 quarterPlace s q = dayQuarters * (s - 1) + q
 
--- is quarter q of season s set? None is outside seasons 1 to 4 and quarters 0 to 95.
+-- is quarter q of season s a window? None is outside seasons 1 to 4 and quarters 0 to 95.
 unfoldable pub isSet : List Bool → ℕ → ℕ → Bool
 isSet windows s q = leb 1 s && (leb s seasons && (ltb q dayQuarters && getD windows (quarterPlace s q) false))
 
--- how many quarters of season s are set
+-- how many quarters of season s are windows
 unfoldable pub setIn : List Bool → ℕ → ℕ
 setIn windows s = countOver (λ q. getD windows (quarterPlace s q) false) dayQuarters
 
--- "at most 40 set in a season": n set quarters are more; and some season has more
+-- are n set quarters of a season more than 40? And has some season more (Rule 5.3)?
 abbrev pub tooMany : ℕ → Bool
 tooMany n = ltb windowsMost n
 
 unfoldable pub tooFull : List Bool → Bool
 tooFull windows = anyOver (λ k. tooMany (setIn windows (k + 1))) seasons
 
+-- no season has more than 40, stated by the order ≤ alone
 abbrev pub Roomy : List Bool → Type 0
 Roomy windows = (s : ℕ) → Within 1 seasons s → setIn windows s ≤ windowsMost
 
--- a meaning that is a legal sheet
+-- the meaning of a legal sheet (Rule 5.3)
 pub record LegalSheet (s : Sheet) : Type 0 where
   pub long : length (s .windows) ≡ windowPlaces
   pub year : ChargeYear (s .year)
   pub level : Level (s .level)
   pub room : Roomy (s .windows)
 
--- the chosen quarters of four seasons, laid one after the other
+-- the chosen quarters of four seasons, laid one after the other: in `chosen`, season s is entry s - 1
 unfoldable pub flatWindows : List (List Bool) → List Bool
 flatWindows chosen = table (λ p. getD (getD chosen (p / dayQuarters) []) (p % dayQuarters) false) windowPlaces

@@ -1,17 +1,20 @@
-// The window sheet of document 01: 56 bytes and their meaning.
-// Main theorem: what is written reads back as the same meaning, and what is read is written back as the same bytes.
+// The window sheet (Rules 5.1 to 5.4): the types of its meaning and of its answers. What its 56 bytes mean is defined
+// in specs/Windows and specs/Bytes, what reading and writing answer in specs/Answers and specs/Rows; the code that
+// meets them is in crates `sheet_read` and `sheet_write`.
+// Main theorem: what is written reads back as the same meaning, and what is read is written back as the same bytes
+// (Rule 12.2; `read-written`, `bytes-back`, proofs/Back).
 
-// Bytes of a sheet, and where the windows of its seasons begin.
+// How many bytes a sheet has, and the place, from 0, where the windows of its seasons begin.
 pub const SHEET_SIZE: usize = 56;
 
 pub const WINDOWS_AT: usize = 8;
 
-// Seasons, and the quarters of all four.
+// How many seasons there are, and how many quarters all four have.
 pub const SEASONS: usize = 4;
 
 pub const WINDOW_PLACES: usize = 384;
 
-// A sheet's meaning. The seasons' quarters stand one after the other.
+// A sheet's meaning. Quarter q, from 0, of season s, from 1, stands at place 96 (s - 1) + q of the windows.
 pub struct Sheet {
     pub year: u16,
     pub level: u8,

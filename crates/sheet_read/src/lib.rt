@@ -1,4 +1,5 @@
-// Reading a window sheet: document 01, Window sheet. What a sheet's bytes mean is told in the room below.
+// Reading a window sheet (Rules 5.1 to 5.3 and 8.2). It meets `sheet`, specs/Answers; on the way it uses `sheet`,
+// specs/Bytes and specs/Windows.
 ghost use mathlib.Core.Path.{_≡_};
 ghost use Prim.Native.Nat.{_<_};
 ghost use lib.ListN.{length};
@@ -9,7 +10,7 @@ use sheet::Sheet;
 use sheet::SheetAnswer;
 use sheet::SheetRead;
 
-// Where a sheet's version, year, level and the windows of its seasons begin.
+// The places, from 0, where a sheet's version, year, level and the windows of its seasons begin.
 const VERSION_AT: usize = 3;
 
 const YEAR_AT: usize = 5;
@@ -18,7 +19,7 @@ const LEVEL_AT: usize = 7;
 
 const SEASONS_AT: [usize; 4] = [8, 20, 32, 44];
 
-// Bit j of a byte, from the top.
+// Bit j of a byte, from 0 at the highest.
 fn bit_at(byte: u8, j: usize) -> bool
     requires { ⌜ j < 8 ⌝ }
     ensures { λ r. ⌜ r ≡ bitOf byte j ⌝ }
@@ -26,6 +27,7 @@ fn bit_at(byte: u8, j: usize) -> bool
     (byte >> (7 - j)) % 2 == 1
 }
 
+// The windows in a sheet's bytes: place p, from 0, is bit p of the bytes from place 8 on.
 fn unpack(b: &[u8]) -> [bool; sheet::WINDOW_PLACES]
     requires { ⌜ length (now b) ≡ sheetSize ⌝ }
     ensures { λ r. ⌜ r ≡ windowsIn (now (b .entry)) ⌝ }
@@ -37,8 +39,8 @@ fn unpack(b: &[u8]) -> [bool; sheet::WINDOW_PLACES]
     windows
 }
 
-// Are more than 40 quarters set in the twelve bytes of a season, which begin at place i? Any
-// bytes and any place have an answer.
+// Are more than 40 quarters set in the twelve bytes of a season, which begin at place i, from 0? Any bytes and any
+// place have an answer.
 pub fn season_full(b: &[u8], i: usize) -> bool
     ensures { λ r. ⌜ r ≡ seasonFull (now (b .entry)) i ⌝ }
 {
@@ -49,7 +51,7 @@ pub fn season_full(b: &[u8], i: usize) -> bool
     answers::WINDOWS_MOST < n
 }
 
-// Does some season in a sheet's bytes have more than 40?
+// Does some season in a sheet's bytes have more than 40 set quarters?
 fn bytes_full(b: &[u8]) -> bool
     ensures { λ r. ⌜ r ≡ tooFull (windowsIn (now (b .entry))) ⌝ }
 {
@@ -59,6 +61,7 @@ fn bytes_full(b: &[u8]) -> bool
         | season_full(b, SEASONS_AT[3])
 }
 
+// A refusal, with the one fixed sheet beside it.
 fn refused(answer: SheetAnswer) -> SheetRead
     ensures { λ r. ⌜ r ≡ refusedSheet answer ⌝ }
 {
@@ -73,7 +76,7 @@ fn refused(answer: SheetAnswer) -> SheetRead
     }
 }
 
-// Reads a sheet. Refuses length, mark, version (12), year (1), level (2), set bits (12) in this order.
+// Reads a sheet. Refuses 12 (length, mark or version), 1, 2, and 12 (too many set bits), in this order.
 pub fn read(b: &[u8]) -> SheetRead
     ensures { λ r. ⌜ shownOf r ≡ readOf (now (b .entry)) ⌝ }
 {

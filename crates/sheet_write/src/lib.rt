@@ -1,5 +1,6 @@
-// Writing document 01's window sheet into a lent buffer. What its 56 bytes are, and that they read back as the same
-// meaning, stands in crate `sheet`.
+// Writing a window sheet into a lent buffer (Rules 5.1, 8.2 and 8.3). It meets `sheet`, specs/Answers; on the way it
+// uses `sheet`, specs/Bytes and specs/Windows. That a written sheet reads back as the same meaning is proved in crate
+// `sheet`.
 ghost use mathlib.Core.Path.{_≡_};
 ghost use Prim.Native.Nat.{_≤_, _<_};
 ghost use mathlib.Core.List.{_++_};
@@ -23,7 +24,7 @@ fn set_in(windows: &[bool; sheet::WINDOW_PLACES], season: usize) -> usize
     n
 }
 
-// Does some season have more than 40?
+// Does some season have more than 40 set quarters?
 fn too_full(windows: &[bool; sheet::WINDOW_PLACES]) -> bool
     ensures { λ r. ⌜ r ≡ tooFull (now (windows .entry)) ⌝ }
 {
@@ -33,7 +34,7 @@ fn too_full(windows: &[bool; sheet::WINDOW_PLACES]) -> bool
         | (answers::WINDOWS_MOST < set_in(windows, 4))
 }
 
-// Byte k of the windows: eight quarters, the earliest at the top.
+// Byte k, from 0, of the windows: eight quarters, the earliest is the highest bit.
 fn pack(windows: &[bool; sheet::WINDOW_PLACES], k: usize) -> u8
     requires { ⌜ k < windowBytes ⌝ }
     ensures { λ r. ⌜ r ≡ windowByte (now (windows .entry)) k ⌝ }
@@ -45,7 +46,7 @@ fn pack(windows: &[bool; sheet::WINDOW_PLACES], k: usize) -> u8
     byte as u8
 }
 
-// Byte i of a sheet with this head.
+// Byte i, from 0, of a sheet with these first eight bytes.
 fn byte_at(head: &[u8; 8], windows: &[bool; sheet::WINDOW_PLACES], i: usize) -> u8
     requires { ⌜ i < sheetSize ⌝ }
     ensures { λ r. ⌜ r ≡ byteAt (now (head .entry)) (now (windows .entry)) i ⌝ }
@@ -56,7 +57,7 @@ fn byte_at(head: &[u8; 8], windows: &[bool; sheet::WINDOW_PLACES], i: usize) -> 
     pack(windows, i - sheet::WINDOWS_AT)
 }
 
-// Fills the first 56 bytes of a buffer that has them; all further bytes stay.
+// Fills the first 56 bytes of a buffer that has them; the others stay.
 fn fill(year: u16, level: u8, windows: &[bool; sheet::WINDOW_PLACES], out: &mut [u8])
     requires { ⌜ sheetSize ≤ length (now out) ⌝ }
     ensures { λ r. ⌜ now (out .exit) ≡ bytesOf year level (now (windows .entry)) ++ drop sheetSize (now (out .entry)) ⌝ }

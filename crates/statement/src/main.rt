@@ -1,30 +1,32 @@
-// The statement program: reads a customer file from standard input and prints the decision, or the refusal. Document
-// 01, Two programs. The machine of customer_file says how much is read next and tests it, and customer_text makes the
-// text; nothing is decided here.
+// The statement program: takes a customer file from standard input and prints the decision, or the refusal. Nothing is
+// decided here: `want` of room `customer_file` says how many bytes are read next, `feed` tests them, and room
+// `customer_text` makes the text. What is printed is specified in `customer_text`, specs/Text, and that each input has
+// the text of its bytes in `printed_proofs`, specs/Printed. Rules 10.1, 10.3 and 10.7.
 use customer_file::CustomerFile;
 use libc::STDIN_FILENO;
 use libc::STDOUT_FILENO;
 
-// Bytes that a field or a day has at most.
+// A part is a field or a day. `want` never asks for more bytes than this; a day has 384.
 const PART_MOST: usize = 400;
 
-// Parts that a file has at most: 16 fields, 40 holidays, 366 days, and what is left over after them.
+// A file has at most so many parts: 16 fields and 40 holidays, 366 days, and a byte that should not be there.
 const PARTS: u32 = 423;
 
-// Hands the machine what came: fewer bytes than the part has where the input ends.
+// Hands the machine what came: fewer bytes than it wants where the input ends.
 fn read_into(file: CustomerFile, part: &mut [u8]) -> CustomerFile {
     let n = io::read_full(STDIN_FILENO, part);
     file.feed(&part[0..n])
 }
 
-// One field or one day. No byte is asked for before the part in front of it was tested ("as soon as it is read").
+// One field or one day. A part is tested before the next is asked for (Rules 10.4 and 10.5).
 fn next(file: CustomerFile) -> CustomerFile {
     let mut part = [0u8; PART_MOST];
     let want = file.want();
     read_into(file, &mut part[..want])
 }
 
-// A machine that has ended wants nothing: it is answered at once, whatever the input still has.
+// Part after part. A machine that has ended wants nothing, so its answer is printed at once, whatever the input still
+// has.
 fn run() -> CustomerFile {
     let mut file = CustomerFile::start();
     let mut left = PARTS;

@@ -33,7 +33,7 @@ told-else : (t : Bool) {a x : Said} → a .number ≡ 0 → a ≡ cond t (only 6
 told-else true z e = absurd (omega (arith, number-is e, z))
 told-else false z e = (refl, e)
 
--- the charges that an answer carries
+-- the charges c and g among the figures of an answer
 abbrev chargesFrom : Said → TwoCharges
 chargesFrom a = record { charge = getD (a .figures) 0 0; general = getD (a .figures) 1 0 }
 

@@ -1,5 +1,5 @@
 -- Laws of the charges: the sum split at the parts of a cent gives the same charge, its products are small, it is the
--- exact value rounded half up, the floor is the least, and no charge grows as the capacity figure falls.
+-- exact value rounded with half a cent up, the floor is the smallest, and a smaller capacity figure never costs more.
 -- Assumes nothing.
 use mathlib.Core.Path.{_≡_, sym, ap, ap₂, _∙_}
 use mathlib.Core.Bool.{Bool, true, false}
@@ -27,7 +27,8 @@ module _ (power : ℕ) (row : Row) (sum : ℕ) where
       mul-assoc _ _ a ∙ ap (_*_ (sum / centParts)) (mul-comm centParts a) ∙ sym (mul-assoc _ a centParts) in
       omega arith
 
-  -- a charge is its exact value rounded half up: twice the exact value lies from 2 c - 1 to below 2 c + 1
+  -- a charge is its exact value rounded, half a cent up: twice the exact value lies from 2 c - 1 to below 2 c + 1 (Rule
+  -- 7.1)
   pub charge-rounded :
       (2 * centParts * chargeFor power row sum ≤ 2 * partsFor power row sum + centParts)
       × (2 * partsFor power row sum + centParts < 2 * centParts * (chargeFor power row sum + 1))
@@ -76,7 +77,7 @@ pub general-most :
 unfolding general
 general-most f r h hp hs = charge-most (f .peak) _ (f .sum) hp (row-in (r .prices) (fewHours f) h) hs
 
--- no lower whole cent is a fifth of the general charge
+-- the floor is a fifth of g or more, and no smaller whole number of cents is (Rule 7.4)
 pub floor-least : (g : ℕ) → (g ≤ floorParts * floorOf g) × ((k : ℕ) → k < floorOf g → floorParts * k < g)
 unfolding floorOf
 floor-least g = (omega arith, λ k l. omega arith)
@@ -87,7 +88,8 @@ charge-mono a b row sum h =
     let m : capacityParts * a * row .capacity ≤ capacityParts * b * row .capacity = mul-le-mul-right (row .capacity) (omega arith) in
     omega arith
 
--- at 2,500 hours and more the option changes nothing: the prices alone fix the charge
+-- with 2,500 hours of use and more the option has no effect: two rates with the same prices give the same charge (Rule
+-- 7.3)
 pub option-idle : (f : Figures) (r s : Rates) → r .prices ≡ s .prices → fewHours f ≡ false → charge f r ≡ charge f s
 unfolding charge reduced general
 option-idle f r s p h = simp (p, h)

@@ -1,5 +1,5 @@
--- Demand 3 over a year's figures: a lower in-window peak never costs more, an acceptance stays one, and an accepted
--- charge is at least a fifth of the general charge and at least 500 euro below it.
+-- The third demand (Rule 12.3) over a year's figures: a lower in-window peak never costs more, an acceptance stays one,
+-- and an accepted charge is a fifth of the general charge or more, and 500 euro or more below it.
 -- Assumes nothing.
 use mathlib.Core.Path.{_≡_, refl, sym, ap, _∙_}
 use mathlib.Core.Bool.{cond}
@@ -58,7 +58,7 @@ charge-fair f r a e = go (charge-exactly f r 0 .0 (number-is e)) refl
         record { floor = omega (arith, floor-least (general f r) .0); reduction = omega arith }
 
 module _ (r : Rates) where
-  -- an accepted charge is at least a fifth of the general charge, and at least 500 euro below it
+  -- an accepted charge is a fifth of the general charge or more, and 500 euro or more below it
   pub accepted-charge : (f : Figures) (a : Charged) → judgeAnswer f r ≡ withCharge a → Fair a
   accepted-charge f a e = go (ℕ-discrete (eligibleAnswer f r .number) 0)
     where
@@ -93,7 +93,7 @@ module _ (r : Rates) where
         → Pays f
 
   module _ (f : Figures) where
-    -- a refusal that carries the general charge
+    -- a refusal whose first figure is the general charge
     refused : {a : Said} → LegalRates r → a ≡ judgeAnswer f r → (a .number ≡ 0 → ⊥) → payable a ≡ general f r → Pays f
     refused h e z g = full h (λ k. z (number-is e ∙ k)) (sym (ap payable e) ∙ g)
 

@@ -1,4 +1,4 @@
--- Each number of each call is given exactly when its row holds and no number before it is given.
+-- A call gives a number exactly when that number's row holds and no row that it tests before (Rules 8.1 and 8.2).
 -- Assumes nothing.
 use mathlib.Core.Path.{_≡_, refl, sym, _∙_}
 use mathlib.Core.Bool.{true}

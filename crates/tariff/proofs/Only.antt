@@ -1,4 +1,4 @@
--- Nothing else meets the promises of a decision: what an answer says fixes the answer.
+-- Nothing else meets the promises of a decision: what an answer says fixes the answer (Rule 13.1).
 -- Assumes nothing.
 use mathlib.Core.Path.{_≡_, refl, sym, ap, _∙_}
 use mathlib.Core.Bool.{cond}
@@ -27,7 +27,7 @@ told-back :
     → r ≡ s
 told-back said back same {x} {r} {s} p q = sym (same r) ∙ ap back (one-answer p q) ∙ same s
 
--- figure i of an answer, and the figures from figure i on
+-- figure i of an answer, from 0, and the figures from figure i on
 abbrev figure : Said → ℕ → ℕ
 figure a i = getD (a .figures) i 0
 
@@ -37,8 +37,8 @@ plainFrom a i = record { general = figure a i; peak = figure a (1 + i); sum = fi
 abbrev peaksFrom : Said → ℕ → Peaks
 peaksFrom a i = record { plain = plainFrom a i; high = figure a (3 + i); day = figure a (4 + i); quarter = figure a (5 + i) }
 
--- an answer, back from what it says: linear in the cases. 0 alone is a day that is taken, yes is one figure, a charge
--- comes with seven.
+-- an answer, back from what it says. 0 without a figure is a day that is taken, 0 with one figure is a yes, and 0 with
+-- a charge has seven.
 abbrev decisionBack : Said → Decision
 decisionBack a =
     cond (eqb (a .number) 0)

@@ -1,4 +1,4 @@
--- The table of the levels' shares says what the ruling asks for, by one computed test over the seven levels.
+-- The code's table of shares says what Rule 2.3 asks for each level, by one computed test over the seven levels.
 -- Assumes nothing.
 use mathlib.Core.Path.{_≡_, refl, ap, _∙_}
 use mathlib.Core.Bool.{Bool}
@@ -12,7 +12,7 @@ use Rattle.ranges.specs.Ranges.{joined, allOver}
 use Rattle.ranges.proofs.Tests.{all-at}
 use Rattle.answers.specs.Ruling.{lastLevel, shareOf, Level}
 
--- the table of the code that decides
+-- the table of the code that decides: level 1 stands first
 abbrev shares : List ℕ
 shares = 5 ∷ 10 ∷ 10 ∷ 20 ∷ 20 ∷ 30 ∷ 30 ∷ []
 

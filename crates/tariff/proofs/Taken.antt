@@ -12,11 +12,11 @@ use Rattle.tariff.specs.declared.Decision.the-variants.{Taken}
 use Rattle.tariff.specs.Answers.{saidOf}
 use Rattle.tariff.proofs.Only.{decision-only}
 
--- the places of the enum's cases, without that of `Taken`, which is 2
+-- the places of the enum's cases, from 0, without that of `Taken`, which is 2
 abbrev pub others : List ℕ
 others = 0 ∷ 1 ∷ 3 ∷ 4 ∷ 5 ∷ 6 ∷ 7 ∷ 8 ∷ 9 ∷ 10 ∷ 11 ∷ 12 ∷ 13 ∷ 14 ∷ []
 
--- where 0 carries nothing
+-- for answers whose 0 has no figures
 pub untaken :
     {d : Decision} {said : Said}
     → saidOf d ≡ said

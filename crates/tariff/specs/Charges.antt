@@ -1,5 +1,5 @@
--- Document 01, Customer's year and decision: hours of use, and the charges of a year with the figures f and the rates
--- r. M is `f .peak`, S is `f .sum`, H is `f .high`.
+-- Hours of use, and the charges in cent, of a year with the figures f under the rates r. M is `f .peak`, S is `f .sum`,
+-- H is `f .high`. Rules 6.6 and 7.1 to 7.5.
 use mathlib.Core.Bool.{Bool, cond, not, _&&_}
 use Prim.Native.Nat.{ℕ, _+_, _-_, _*_, _/_, max}
 use lib.Dec.{ltb}
@@ -10,53 +10,55 @@ use Rattle.tariff.specs.declared.Rates.{Rates}
 use Rattle.tariff.specs.declared.Figures.{Figures}
 use Rattle.tariff.specs.declared.TwoCharges.{TwoCharges}
 
--- "Hours of use are below 2,500 exactly when S < 10,000 M; then the low row applies, else the high row." (M 0: the high
--- row.)
+-- fewer than 2,500 hours of use: S is less than 10,000 M. There is no division, so a year of zeros (M 0) has an answer,
+-- too: not fewer. (Rule 6.6)
 abbrev pub fewHours : Figures → Bool
 fewHours f = ltb (f .sum) (rowQuarters * f .peak)
 
+-- the low row where `low` is set, else the high row (Rule 2.5)
 abbrev pub rowOf : Prices → Bool → Row
 rowOf p low = cond low (p .low) (p .high)
 
--- A cent has 4,000,000 parts: one for a quarter's W at a thousandth of a cent per kWh. A W at a cent per kW and year is
--- 4,000.
+-- Charges are added up in parts, of which a cent has 4,000,000. One part is what one W in one quarter costs at a price
+-- of a thousandth of a cent for one kWh. One W of capacity costs 4,000 parts at a price of one cent for one kW a year.
+-- (Rule 7.1)
 abbrev pub centParts : ℕ
 centParts = 4000000
 
 abbrev pub capacityParts : ℕ
 capacityParts = 4000
 
--- "A charge for capacity figure P with prices (L, A) is (4,000 P L + S A) / 4,000,000 cent": its parts of a cent, not
--- rounded
+-- what a capacity figure in W and a sum of readings cost by a row of prices, in parts of a cent, not rounded: the
+-- numerator of Rule 7.1
 abbrev pub partsFor : ℕ → Row → ℕ → ℕ
 partsFor power row sum = capacityParts * power * row .capacity + sum * row .energy
 
--- "rounded once, half a cent up"
+-- the same in whole cents: rounded once, at the end, and half a cent goes up (Rule 7.1)
 unfoldable pub chargeFor : ℕ → Row → ℕ → ℕ
 chargeFor power row sum = (partsFor power row sum + centParts / 2) / centParts
 
--- no charge with legal prices, a power of 32 bits and a sum of 64 is above this (`charge-most`): so the code's sums fit
--- 64 bits
+-- no charge with legal prices, a capacity figure of 32 bits and a sum of 64 bits is above this (`charge-most`): so the
+-- code's sums fit 64 bits
 abbrev pub chargeMost : ℕ
 chargeMost = 1000000000000000000
 
--- "General charge g: P is M, row by hours of use."
+-- the general charge g: for M, in the row that the hours of use choose (Rule 7.2)
 unfoldable pub general : Figures → Rates → ℕ
 general f r = chargeFor (f .peak) (rowOf (r .prices) (fewHours f)) (f .sum)
 
--- "Reduced charge r: P is H, the same row; with the customer's option and below 2,500 hours, the high row. At 2,500
--- hours and more the option changes nothing."
+-- the reduced charge r: for H, in the row of g; only with the option and fewer than 2,500 hours of use it is the high
+-- row instead (Rule 7.3)
 unfoldable pub reduced : Figures → Rates → ℕ
 reduced f r = chargeFor (f .high) (rowOf (r .prices) (fewHours f && not (r .option))) (f .sum)
 
--- "Floor f: the least whole cent with 5f at least g."
+-- the floor: the smallest number of whole cents of which five are no less than g (Rule 7.4)
 unfoldable pub floorOf : ℕ → ℕ
 floorOf g = (g + (floorParts - 1)) / floorParts
 
--- "Charge c: the larger of r and f."
+-- the charge c: the reduced charge or the floor, whichever is larger (Rule 7.5)
 unfoldable pub charge : Figures → Rates → ℕ
 charge f r = max (reduced f r) (floorOf (general f r))
 
--- c and g together, as a decision asks for them
+-- c and g together: the decision needs both
 abbrev pub chargesOf : Figures → Rates → TwoCharges
 chargesOf f r = record { charge = charge f r; general = general f r }

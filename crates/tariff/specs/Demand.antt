@@ -1,19 +1,20 @@
--- Document 01, How far a contract goes: "Demand 3 is stated over demand 2's definition." What it speaks of.
+-- The parts of the third demand that speak of a year's figures and of an accepted charge. It is stated with the
+-- definitions that the decision itself goes by, not with others of its own. Rule 12.3.
 use mathlib.Core.Path.{_≡_}
 use Prim.Native.Nat.{_+_, _*_, _≤_}
 use Rattle.answers.specs.Ruling.{floorParts, leastReduction}
 use Rattle.tariff.specs.declared.Figures.{Figures}
 use Rattle.tariff.specs.declared.Charged.{Charged}
 
--- a year f, and a year e with the same annual peak, the same sum, windows alike, and an in-window peak that is no
--- higher
+-- two years with the figures f and e: the same M, the same S, an in-window quarter in both or in neither, and an H of e
+-- that is at most that of f
 pub record Under (f e : Figures) : Type 0 where
   pub peak : e .peak ≡ f .peak
   pub sum : e .sum ≡ f .sum
   pub any : e .any ≡ f .any
   pub high : e .high ≤ f .high
 
--- a charge that is at least a fifth of the general charge, and at least 500 euro below it
+-- an accepted charge: a fifth of g or more, and 50,000 cent (500 euro) or more below g
 pub record Fair (a : Charged) : Type 0 where
   pub floor : a .peaks .plain .general ≤ floorParts * a .charge
   pub reduction : a .charge + leastReduction ≤ a .peaks .plain .general

@@ -1,16 +1,16 @@
--- Document 01, Numbers: the limits of a row and of a list. "A price list has two rows, for use below 2,500 hours and
--- for 2,500 and more."
+-- When a row of prices, and a price list of two rows, is within its limits: as a test that computes, and as plain
+-- inequalities. Rules 2.1 and 2.5.
 use mathlib.Core.Bool.{Bool, _||_}
 use Prim.Native.Nat.{_≤_}
 use Rattle.answers.specs.Ruling.{capacityMost, energyMost, capacityOut, energyOut}
 use Rattle.tariff.specs.declared.Row.{Row}
 use Rattle.tariff.specs.declared.Prices.{Prices}
 
--- a price of the row is above its limit
+-- one of the two prices of the row is above its limit (Rule 2.1)
 unfoldable pub rowOut : Row → Bool
 rowOut row = capacityOut (row .capacity) || energyOut (row .energy)
 
--- answer 6: "a price above its limit"
+-- answer 6: one of the four prices of the list is above its limit
 unfoldable pub pricesOut : Prices → Bool
 pricesOut p = rowOut (p .low) || rowOut (p .high)
 

@@ -1,5 +1,6 @@
--- Document 01, Numbered answers: what each number is given for, where no number before it in the call's order is given.
--- In plain orders; the figures f, the rates r.
+-- When each number is given over figures: its row of the table of answers holds, and no row that the call tests before
+-- it. Said in plain inequalities, and proved to be the same as the tests of specs/Decision. f are the figures, r the
+-- rates. Rules 7.6, 8.1 and 8.2.
 use mathlib.Core.Path.{_≡_}
 use mathlib.Core.Bool.{true, false}
 use Prim.Native.Nat.{ℕ, _+_, _*_, _≤_, _<_}
@@ -10,16 +11,17 @@ use Rattle.tariff.specs.Prices.{LegalPrices}
 use Rattle.tariff.specs.Charges.{general, charge}
 use Rattle.tariff.specs.Decision.{moved, wholeShare}
 
--- neither 2 nor 6
+-- legal rates: neither 2 nor 6 holds
 pub record LegalRates (r : Rates) : Type 0 where
   pub legal-level : Level (r .level)
   pub legal-prices : LegalPrices (r .prices)
 
--- neither 8 nor 9: some quarter is in a window, and the share is reached
+-- neither 8 nor 9 holds: some quarter is in-window, and the share is reached
 pub record Shared (f : Figures) (r : Rates) : Type 0 where
   pub some : f .any ≡ true
   pub share : shareOf (r .level) * f .peak ≤ wholeShare * moved f
 
+-- may the customer pay less: 2, 6, 8, 9, 10, else 0
 pub data EligibleRow (f : Figures) (r : Rates) : ℕ → Type 0 where
   two : (Level (r .level) → ⊥) → EligibleRow f r 2
   six : Level (r .level) → (LegalPrices (r .prices) → ⊥) → EligibleRow f r 6
@@ -28,12 +30,14 @@ pub data EligibleRow (f : Figures) (r : Rates) : ℕ → Type 0 where
   ten : LegalRates r → Shared f r → moved f < leastMove → EligibleRow f r 10
   zero : LegalRates r → Shared f r → leastMove ≤ moved f → EligibleRow f r 0
 
+-- what the charge is: 6, 8, 11, else 0
 pub data ChargeRow (f : Figures) (r : Rates) : ℕ → Type 0 where
   six : (LegalPrices (r .prices) → ⊥) → ChargeRow f r 6
   eight : LegalPrices (r .prices) → f .any ≡ false → ChargeRow f r 8
   eleven : LegalPrices (r .prices) → f .any ≡ true → general f r < charge f r + leastReduction → ChargeRow f r 11
   zero : LegalPrices (r .prices) → f .any ≡ true → charge f r + leastReduction ≤ general f r → ChargeRow f r 0
 
+-- both: 2, 6, 8, 9, 10, 11, else 0
 pub data JudgeRow (f : Figures) (r : Rates) : ℕ → Type 0 where
   two : (Level (r .level) → ⊥) → JudgeRow f r 2
   six : Level (r .level) → (LegalPrices (r .prices) → ⊥) → JudgeRow f r 6

@@ -1,23 +1,26 @@
-// Prices, charges and the decision over a year's figures, as they are defined: document 01, Customer's year and
-// decision. The rooms above compute them.
+// Prices, charges and the decision over a year's figures, as they are defined: the types stand here, the definitions in
+// specs/Prices, specs/Charges, specs/Answers, specs/Decision, specs/Rows and specs/Demand, and the rooms `charges` and
+// `decision` have the code that meets them. Rules 2.5, 6.6, 7.1 to 7.7 and 8.1.
 // Main theorem: a lower in-window peak, with all else the same, never costs more, and an acceptance stays one
 // (`never-more`, `stays`, proofs/Demand).
 use answers::Place;
 
-// A row of a price list: cent per kW and year, thousandth of a cent per kWh.
+// A row of a price list: the capacity price in cent for one kW a year, the energy price in thousandths of a cent for
+// one kWh.
 pub struct Row {
     pub capacity: u32,
     pub energy: u32,
 }
 
-// The row for use below 2,500 hours, and the row for 2,500 and more.
+// The low row is for customers with fewer than 2,500 hours of use, the high row for all others (Rule 2.5).
 pub struct Prices {
     pub low: Row,
     pub high: Row,
 }
 
-// What a year's figures are judged by: the charge year, the sheet's level, the customer's option, and the price list.
-// No rule looks at the year yet: it stands here so that a rule that comes with a year finds it.
+// What a year's figures are judged by: the sheet's charge year and level (a code from 1), the customer's option and the
+// price list. The decision does not look at the year: it stands here because it says how many days the customer's
+// series has (room `customer`).
 pub struct Rates {
     pub year: u16,
     pub level: u8,
@@ -25,9 +28,9 @@ pub struct Rates {
     pub prices: Prices,
 }
 
-// A year's figures: the annual peak M, W; the sum S of all readings; is there an in-window quarter, of which an
-// in-window peak of 0 says nothing; the in-window peak H, W, with the day, from 1, and the quarter, from 0, where it
-// first occurs.
+// A year's figures: the annual peak M, in W; the sum S of all readings; whether the year has an in-window quarter,
+// which an H of 0 does not tell; the in-window peak H, in W, and its place, the day from 1 and the quarter from 0. Day
+// 0 is no place. Rules 6.3 to 6.5.
 pub struct Figures {
     pub peak: u32,
     pub sum: u64,
@@ -47,14 +50,14 @@ pub const NO_FIGURES: Figures = Figures {
     quarter: 0,
 };
 
-// What 8 carries: the general charge, cent, the annual peak and the sum.
+// The figures of 8: the general charge g in cent, M and S.
 pub struct Plain {
     pub general: u64,
     pub peak: u32,
     pub sum: u64,
 }
 
-// What 9, 10 and 11 carry: the in-window peak with its place, too.
+// The figures of 9, 10 and 11: those of 8, then H and its place, the day from 1 and the quarter from 0.
 pub struct Peaks {
     pub plain: Plain,
     pub high: u32,
@@ -62,13 +65,13 @@ pub struct Peaks {
     pub quarter: u8,
 }
 
-// What 0 carries: the charge, cent, too.
+// The figures of 0: the charge c in cent, then those of 9, 10 and 11.
 pub struct Charged {
     pub charge: u64,
     pub peaks: Peaks,
 }
 
-// A year's charges, cent: the charge of an eligible customer, and the general charge.
+// A year's charges in cent: the charge c of a customer who is accepted, and the general charge g.
 pub struct TwoCharges {
     pub charge: u64,
     pub general: u64,
@@ -86,9 +89,9 @@ pub enum BothCharges {
     PriceOut,
 }
 
-// What the decision answers, in the rooms above: 0 with the charge, 0 with yes, 0 of an opening or a day that is taken,
-// 1, 2, 3, 4, 5 with its place, 6, 8, 9, 10, 11, 12, 13. A new case comes at the end: proofs and tables name a case by
-// its place in this list, and nothing before a new last one moves.
+// What the decision answers, and the calls around it in the rooms above: 0 with the charge, 0 with yes, 0 of an opening
+// or a day that is taken, 1, 2, 3, 4, 5 with its place, 6, 8, 9, 10, 11, 12, 13. Proofs name a case by its place in
+// this list, from 0: so a new case stands last, and no other moves.
 pub enum Decision {
     Accepted(Charged),
     Eligible,

@@ -61,7 +61,7 @@ module _ (k : Basis) where
   unfolding openTerms
   open-taken e = done-hands (only 0) (termsOf k) noTerms e refl .1
 
--- what reading answers carries nothing
+-- reading a sheet answers a number without figures
 pub sheet-zero : (a : SheetAnswer) → saidOfSheet a .number ≡ 0 → only 0 ≡ saidOfSheet a
 sheet-zero Accepted z = refl
 sheet-zero Short z = absurd (omega arith)

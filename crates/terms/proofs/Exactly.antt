@@ -1,4 +1,4 @@
--- Each number of an opening is given exactly when its row holds and no number before it is given.
+-- An opening gives a number exactly when that number's row holds and no row that it tests before (Rules 8.1 and 8.2).
 -- Assumes nothing.
 use mathlib.Core.Path.{_≡_, refl, sym, ap, _∙_}
 use mathlib.Core.Logic.{_↔_, ⊎-elim}
@@ -77,7 +77,7 @@ module _ (k : Basis) where
       go (six r h p) q = absurd (omega arith)
       go (zero l) q = l
 
-  -- it carries nothing
+  -- 0 has no figures
   pub open-zero : customerOpenAnswer k .number ≡ 0 → only 0 ≡ customerOpenAnswer k
   open-zero e = legal-done (open-legal e)
 

@@ -1,4 +1,4 @@
--- Nothing else meets the promise of `open`.
+-- Nothing else meets the promise of `open` (Rule 13.1).
 -- Assumes nothing.
 use mathlib.Core.Path.{_≡_}
 use Rattle.answers.proofs.Laws.{one-answer}

@@ -1,5 +1,5 @@
--- Demand 3: "one sheet, holiday list, price list and option". What a customer's year is decided on, as one argument: a
--- definition that only hands it on does not look inside.
+-- What a customer's year is decided on, as one argument: the sheet, the holidays, the prices and the option, which the
+-- third demand keeps the same for two years (Rule 12.3). A definition that only hands it on does not look inside.
 use mathlib.Core.Bool.{Bool}
 use mathlib.Core.List.{List}
 use Prim.Native.Nat.{ℕ}
@@ -8,7 +8,7 @@ use Rattle.sheet.specs.Bytes.{sheetIn}
 use Rattle.tariff.specs.declared.Prices.{Prices}
 use Rattle.tariff.specs.declared.Rates.{Rates}
 
--- the sheet by its bytes, the listed days, the prices, the customer's option
+-- the sheet by its bytes, the holiday list (a day counts from 1), the prices, the customer's option
 pub record Basis : Type 0 where
   pub sheet : List ℕ
   pub holidays : List ℕ

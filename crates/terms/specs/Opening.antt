@@ -1,6 +1,5 @@
--- Document 01, Numbered answers: "For the decision .. sheet length, mark, version (12), year (1), level (2), set bits
--- (12), then 3, 6"; "opening does the checks that need no readings". What an opening on the basis k answers, and the
--- terms that it hands over.
+-- What an opening of a customer's year on the basis k answers, and the terms that it hands over: all tests that need no
+-- readings, in the order sheet (12, 1, 2, 12), holidays (3), prices (6). Rules 8.2, 9.3 and 9.5.
 use mathlib.Core.Path.{_≡_}
 use mathlib.Core.Bool.{false, cond}
 use mathlib.Core.List.{List}
@@ -21,18 +20,18 @@ use Rattle.terms.specs.declared.Terms.{Terms}
 use Rattle.terms.specs.declared.Opening.{Opening}
 use Rattle.terms.specs.Basis.{Basis, basisSheet, basisYear, basisRates}
 
--- the lists beside the sheet, for the year y: 3, then 6
+-- the holidays and the prices, for the year y: 3, then 6
 abbrev pub listsAnswer : ℕ → List ℕ → Prices → Said
 listsAnswer y hs p =
     cond (badHolidays y hs) (only 3)
     (cond (pricesOut p) (only 6)
     (only 0))
 
--- what needs no readings: what reading the sheet refuses, then what the lists are refused for
+-- all that needs no readings: first the answer to reading the sheet, then that to the two lists
 unfoldable pub customerOpenAnswer : Basis → Said
 customerOpenAnswer k = orElse (readAnswer (k .sheet)) (listsAnswer (basisYear k) (k .holidays) (k .prices))
 
--- what a year is judged under: its rates, the sheet's windows, and the days that carry windows
+-- what a year is judged under: its rates, the sheet's windows, and the days that carry windows, 1 January at place 0
 abbrev pub termsOf : Basis → Terms
 termsOf k =
     record {
@@ -41,7 +40,7 @@ termsOf k =
       carrying = windowDays (basisYear k) (k .holidays);
     }
 
--- beside a refusal: year and level 0, no price, no window
+-- the fixed terms beside a refusal: year and level 0, prices 0, no window and no day that carries one (Rule 9.5)
 abbrev pub noRow : Row
 noRow = record { capacity = 0; energy = 0 }
 
@@ -56,6 +55,7 @@ noTerms =
       carrying = replicate mostDays false;
     }
 
+-- the terms that an opening hands over: those of the basis beside 0, the fixed ones beside a refusal
 unfoldable pub openTerms : Basis → Terms
 openTerms k = after (customerOpenAnswer k) (termsOf k) noTerms
 

@@ -1,5 +1,5 @@
--- Document 01, Numbered answers: what each number of an opening is given for, where no number before it is given. In
--- plain orders.
+-- When each number of an opening is given: its row of the table of answers holds, and no row that is tested before it.
+-- Said without the tests of specs/Opening, and proved to be the same. Rules 8.1 and 8.2.
 use mathlib.Core.Path.{_≡_}
 use Prim.Native.Nat.{ℕ}
 use Rattle.holidays.specs.Holidays.{LegalHolidays}
@@ -13,7 +13,7 @@ pub record LegalBasis (k : Basis) : Type 0 where
   pub holidays : LegalHolidays (basisYear k) (k .holidays)
   pub prices : LegalPrices (k .prices)
 
--- what reading the sheet is refused for (12, 1, 2, 12), then 3, then 6
+-- what the sheet is refused for (12, 1, 2, 12), then 3, then 6, else 0
 pub data CustomerOpenRow (k : Basis) : ℕ → Type 0 where
   sheet : {n : ℕ} → ReadRow (k .sheet) n → (n ≡ 0 → ⊥) → CustomerOpenRow k n
   three : ReadRow (k .sheet) 0 → (LegalHolidays (basisYear k) (k .holidays) → ⊥) → CustomerOpenRow k 3

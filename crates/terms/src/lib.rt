@@ -1,6 +1,6 @@
-// The terms of a customer's year: what it is judged under, and the opening that makes them of a sheet, a holiday list,
-// prices and option.
-// Main theorem: each number of the opening is given exactly when its row holds (proofs/Exactly).
+// The terms of a customer's year: what it is judged under, and the opening that makes them from a sheet, a holiday
+// list, prices and option. It meets specs/Opening; specs/Basis has the four as one argument. Rules 8.2, 9.3 and 9.5.
+// Main theorem: an opening gives a number exactly when that number's row holds and no row before it (proofs/Exactly).
 ghost use mathlib.Core.Path.{_≡_};
 ghost use Rattle.answers.specs.Said.{orElse};
 ghost use Rattle.sheet.specs.Answers.{saidOfSheet};
@@ -13,7 +13,8 @@ use tariff::Prices;
 use tariff::Rates;
 use tariff::Row;
 
-// What a year is judged under: its rates, the sheet's windows, and the days that carry windows, day 1 first.
+// What a year is judged under: its rates; the sheet's windows, season 1 first and of each season quarter 0 first; and
+// which days carry windows, 1 January at place 0.
 pub struct Terms {
     pub rates: Rates,
     pub windows: [bool; sheet::WINDOW_PLACES],
@@ -26,7 +27,8 @@ pub struct Opening {
     pub terms: Terms,
 }
 
-// What reading the sheet answers, as the decision's: reading never answers 14.
+// The answer to reading the sheet, as an answer of the decision. Reading never answers 14, so the arm for it is never
+// reached.
 fn as_decision(answer: SheetAnswer) -> Decision
     requires { ⌜ (saidOfSheet answer .number ≡ 14 → ⊥) ⌝ }
     ensures { λ r. ⌜ saidOf r ≡ saidOfSheet answer ⌝ }
@@ -40,7 +42,7 @@ fn as_decision(answer: SheetAnswer) -> Decision
     }
 }
 
-// What needs no readings: what reading the sheet answered, then 3 and 6.
+// All that needs no readings: the answer to reading the sheet, then 3 and 6.
 fn open_answer(read: SheetAnswer, year: u16, holidays: &[u16], prices: Prices) -> Decision
     requires { ⌜ (saidOfSheet read .number ≡ 14 → ⊥) ⌝ }
     ensures { λ r. ⌜ saidOf r ≡ orElse (saidOfSheet read) (listsAnswer year (now (holidays .entry)) prices) ⌝ }
@@ -58,7 +60,7 @@ fn open_answer(read: SheetAnswer, year: u16, holidays: &[u16], prices: Prices) -
     Decision::Taken
 }
 
-// The terms beside a refusal.
+// The fixed terms beside a refusal.
 fn no_terms() -> Terms
     ensures { λ r. ⌜ r ≡ noTerms ⌝ }
 {
@@ -83,7 +85,8 @@ fn no_terms() -> Terms
     }
 }
 
-// Opens a customer's year. Refuses 12, 1, 2, 12, 3, 6 in this order; beside a refusal stand the same terms always.
+// Opens a customer's year. Refuses 12, 1, 2, 12, 3, 6 in this order (Rule 8.2). Beside every refusal stand the same
+// terms.
 pub fn open(sheet: &[u8], holidays: &[u16], prices: Prices, option: bool) -> Opening
     ensures { λ r. ⌜ Opens (basis (now (sheet .entry)) (now (holidays .entry)) prices option) r ⌝ }
 {

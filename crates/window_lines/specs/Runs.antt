@@ -1,6 +1,6 @@
--- Document 01, Two programs: "It prints the line `HLZ`, year, level; then per season in order its number and `none`, or
--- one line per unbroken run, number and from-to times." f tells which quarters of the season are set. Times have two
--- digits; no run wraps round midnight.
+-- The lines that the window program prints for an accepted file: a first line with year and level, then the lines of
+-- each season. A run is a stretch of windows without a gap; it never goes over midnight. f tells which quarters of a
+-- season are set. Quarters count from 0, seasons from 1 unless said otherwise. Rule 10.6.
 use mathlib.Core.Bool.{Bool, cond, not, _&&_, _||_}
 use mathlib.Core.List.{List, [], _∷_, _++_}
 use Prim.Native.Nat.{ℕ, _+_, _-_, _*_, _/_, _%_}
@@ -11,37 +11,37 @@ use Rattle.sheet.specs.Windows.{seasons, isSet}
 use Rattle.lines.specs.Text.{textOver}
 use Rattle.lines.specs.Figures.{figuresLine}
 
--- "It prints the line `HLZ`, year, level"
+-- the word `HLZ` and a space; and the first line, with year and level
 abbrev pub headMark : List ℕ
 headMark = 72 ∷ 76 ∷ 90 ∷ 32 ∷ []
 
 unfoldable pub headLine : ℕ → ℕ → List ℕ
 headLine year level = headMark ++ figuresLine (year ∷ level ∷ [])
 
--- a digit, and two of them
+-- the byte of a digit, and two digits
 abbrev pub digit : ℕ → ℕ
 digit d = 48 + d
 
 abbrev pub two : ℕ → List ℕ
 two n = digit (n / 10) ∷ digit (n % 10) ∷ []
 
--- the time at which quarter q begins; the day ends at "24:00", where quarter 96 would begin
+-- the time at which quarter q begins, as `hh:mm`; for 96 it is 24:00, where the day ends
 unfoldable pub timeOf : ℕ → List ℕ
 timeOf q = two (q / 4) ++ (58 ∷ two (q % 4 * 15))
 
--- a run's line: "number and from-to times"
+-- a run's line: the season's number, the time of its first quarter, and the time at which it ends
 unfoldable pub runLine : ℕ → ℕ → ℕ → List ℕ
 runLine season from to = (digit season ∷ 32 ∷ []) ++ timeOf from ++ (45 ∷ []) ++ timeOf to ++ (10 ∷ [])
 
--- "its number and `none`"
+-- the line of a season without windows: its number and `none`
 abbrev pub noneLine : ℕ → List ℕ
 noneLine season = digit season ∷ 32 ∷ 110 ∷ 111 ∷ 110 ∷ 101 ∷ 10 ∷ []
 
--- an unbroken run begins at quarter q: it is set, and the day begins there or the quarter before is not set
+-- a run begins at quarter q: the quarter is set, and it is the day's first or the one before is not set
 abbrev pub begins : (ℕ → Bool) → ℕ → Bool
 begins f q = f q && (eqb q 0 || not (f (q - 1)))
 
--- where the run from quarter q ends: the first quarter that is not set. "A run to quarter 95 ends at 24:00."
+-- where the run from quarter q on ends: at the first quarter that is not set, or at 96, the end of the day
 abbrev pub runEnd : (ℕ → Bool) → ℕ → ℕ
 runEnd f q = q + firstOver (λ j. not (f (q + j))) (dayQuarters - q)
 
@@ -49,11 +49,11 @@ runEnd f q = q + firstOver (λ j. not (f (q + j))) (dayQuarters - q)
 unfoldable pub runText : ℕ → (ℕ → Bool) → ℕ → List ℕ
 runText season f q = cond (begins f q) (runLine season q (runEnd f q)) []
 
--- a season's lines: "its number and `none`, or one line per unbroken run"
+-- a season's lines: those of its runs in the order of the day, or the one line that says none
 unfoldable pub seasonText : ℕ → (ℕ → Bool) → List ℕ
 seasonText season f = cond (anyOver f dayQuarters) (textOver (runText season f) dayQuarters) (noneLine season)
 
--- the lines of season k, from 0
+-- the lines of the season at place k, from 0, which is season k + 1
 abbrev pub seasonIn : List Bool → ℕ → List ℕ
 seasonIn windows k = seasonText (k + 1) (isSet windows (k + 1))
 

@@ -1,6 +1,7 @@
-// The lines of windows that the window program prints, as bytes. Document 01, Two programs. Room `lines` has the other
-// texts, and says how a text is put into a lent buffer.
-// Main theorem: the printed examples of document 01 are what the definitions say (proofs/Cases).
+// The lines of windows that the window program prints, as bytes. Room `lines` has the other texts, and says how a text
+// is put into a lent buffer. It meets specs/Runs, and `lines`, specs/Text. Quarters count from 0, seasons from 1. Rule
+// 10.6.
+// Main theorem: the printed examples of Rules 10.6 and 10.7 are what the definitions say (proofs/Cases).
 ghost use mathlib.Core.Path.{_≡_};
 ghost use mathlib.Core.Bool.{not};
 ghost use Prim.Native.Nat.{_+_, _≤_, _<_};
@@ -12,11 +13,11 @@ ghost use Rattle.lines.specs.Text.{textOver, Put, Wrote};
 ghost use Rattle.window_lines.specs.Runs.{headLine, timeOf, runLine, runEnd, runText, seasonText, seasonIn, windowsText};
 ghost use Rattle.window_lines.specs.Runs.{begins as beginsAt};
 
-// Bytes that are enough for the line of any two figures.
+// So many bytes are enough for the line of any two figures.
 const PAIR_MOST: usize = 45;
 
-// The time at which a quarter begins, two digits each; 24:00 for the day's end. Each `add` writes behind what the
-// buffer holds up to `at`, and answers the place after what it wrote.
+// The time at which a quarter begins, as `hh:mm`; for 96 it is 24:00, the end of the day. Each `add` writes from place
+// `at` on, counted from 0, and answers the place behind what it wrote.
 fn add_time(buf: &mut [u8], at: usize, q: usize) -> usize
     requires { ⌜ (q ≤ dayQuarters) × (at + 5 ≤ length (now buf)) ⌝ }
     ensures { λ r. ⌜ Wrote (now (buf .entry)) at (timeOf q) (now (buf .exit)) r ⌝ }
@@ -31,7 +32,7 @@ fn add_time(buf: &mut [u8], at: usize, q: usize) -> usize
     lines::add_bytes(buf, at, &time)
 }
 
-// A run's line: 14 bytes.
+// A run's line, 14 bytes: from the start of quarter `from` to that of quarter `to`, which is not in the run.
 fn add_line(buf: &mut [u8], at: usize, season: u8, from: usize, to: usize) -> usize
     requires { ⌜ (season ≤ seasons) × (from ≤ dayQuarters) × (to ≤ dayQuarters) × (at + 14 ≤ length (now buf)) ⌝ }
     ensures { λ r. ⌜ Wrote (now (buf .entry)) at (runLine season from to) (now (buf .exit)) r ⌝ }
@@ -44,7 +45,7 @@ fn add_line(buf: &mut [u8], at: usize, season: u8, from: usize, to: usize) -> us
     lines::add_bytes(buf, d, b"\n")
 }
 
-// Is quarter `quarter` (from 0) of season `season` (from 1) set? False outside both.
+// Is quarter `quarter`, from 0, of season `season`, from 1, set? Outside both nothing is.
 fn is_set(windows: &[bool; sheet::WINDOW_PLACES], season: u8, quarter: usize) -> bool
     ensures { λ r. ⌜ r ≡ isSet (now (windows .entry)) season quarter ⌝ }
 {
@@ -60,6 +61,7 @@ fn is_set(windows: &[bool; sheet::WINDOW_PLACES], season: u8, quarter: usize) ->
     windows[answers::DAY_QUARTERS * (season as usize - 1) + quarter]
 }
 
+// Is it not set?
 fn is_clear(windows: &[bool; sheet::WINDOW_PLACES], season: u8, q: usize) -> bool
     ensures { λ r. ⌜ r ≡ not (isSet (now (windows .entry)) season q) ⌝ }
 {
@@ -109,6 +111,7 @@ fn add_run(
     at
 }
 
+// The lines of all runs of a season, in the order of the day.
 fn add_runs(buf: &mut [u8], at: usize, windows: &[bool; sheet::WINDOW_PLACES], season: u8) -> usize
     requires { ⌜ (season ≤ seasons) × (at + length (textOver (runText season (isSet (now windows) season)) dayQuarters) ≤ length (now buf)) ⌝ }
     ensures { λ r. ⌜ Wrote (now (buf .entry)) at (textOver (runText season (isSet (now (windows .entry)) season)) dayQuarters) (now (buf .exit)) r ⌝ }
@@ -131,7 +134,7 @@ fn any_set(windows: &[bool; sheet::WINDOW_PLACES], season: u8) -> bool
     any
 }
 
-// A season's lines.
+// A season's lines: its runs, or the one line that says none.
 fn add_season(
     buf: &mut [u8],
     at: usize,
@@ -148,6 +151,7 @@ fn add_season(
     lines::add_bytes(buf, at, &line)
 }
 
+// The lines of the seasons 1 to 4.
 fn add_seasons(buf: &mut [u8], at: usize, windows: &[bool; sheet::WINDOW_PLACES]) -> usize
     requires { ⌜ at + length (textOver (seasonIn (now windows)) seasons) ≤ length (now buf) ⌝ }
     ensures { λ r. ⌜ Wrote (now (buf .entry)) at (textOver (seasonIn (now (windows .entry))) seasons) (now (buf .exit)) r ⌝ }
@@ -159,7 +163,7 @@ fn add_seasons(buf: &mut [u8], at: usize, windows: &[bool; sheet::WINDOW_PLACES]
     n
 }
 
-// The first line: `HLZ`, year and level. `lines` makes its figures in an array that holds those of any two.
+// The first line: `HLZ`, year and level. The two figures are first written into an array that has room for any two.
 fn add_head(buf: &mut [u8], year: u16, level: u8) -> usize
     requires { ⌜ length (headLine year level) ≤ length (now buf) ⌝ }
     ensures { λ r. ⌜ Wrote (now (buf .entry)) 0 (headLine year level) (now (buf .exit)) r ⌝ }
@@ -171,6 +175,7 @@ fn add_head(buf: &mut [u8], year: u16, level: u8) -> usize
     lines::add_bytes(buf, a, &line[..n])
 }
 
+// The first line, then the seasons.
 fn add_windows(
     buf: &mut [u8],
     year: u16,
@@ -184,7 +189,7 @@ fn add_windows(
     add_seasons(buf, n, windows)
 }
 
-// All that the window program prints for an accepted file, of any year, level and windows.
+// All that the window program prints for an accepted file; any year, level and windows have a text.
 pub fn windows_text(
     year: u16,
     level: u8,

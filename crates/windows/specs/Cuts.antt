@@ -1,4 +1,5 @@
--- How the code works inside: where a season is cut. Nothing of this is promised to a caller.
+-- How the code works inside: it finds one value, the limit, at which a season is cut. Quarters q count from 0. Nothing
+-- of this is promised to a caller.
 use mathlib.Core.Bool.{Bool, _&&_, _||_}
 use mathlib.Core.List.{List}
 use Prim.Native.Nat.{ℕ, _*_, _/_, _≤_}
@@ -7,7 +8,7 @@ use lib.ListN.{getD}
 use Rattle.ranges.specs.Ranges.{countOver}
 use Rattle.answers.specs.Ruling.{lineParts, peakParts, dayQuarters, windowsMost}
 
--- the line as a value
+-- the line as a value, rounded down: what is higher is above the line
 abbrev pub lineOf : ℕ → ℕ
 lineOf peak = lineParts * peak / peakParts
 
@@ -15,7 +16,7 @@ lineOf peak = lineParts * peak / peakParts
 unfoldable pub higherThan : List ℕ → ℕ → ℕ
 higherThan curve limit = countOver (λ q. ltb limit (getD curve q 0)) dayQuarters
 
--- forty quarters or more are higher than the one limit, and no more than forty than the other
+-- forty quarters or more are higher than the limit `low`, and no more than forty higher than `high`
 abbrev pub FortyBetween : List ℕ → ℕ → ℕ → Type 0
 FortyBetween curve low high = (windowsMost ≤ higherThan curve low) × (higherThan curve high ≤ windowsMost)
 
@@ -23,7 +24,7 @@ FortyBetween curve low high = (windowsMost ≤ higherThan curve low) × (higherT
 unfoldable pub equalsBefore : List ℕ → ℕ → ℕ → ℕ
 equalsBefore curve limit q = countOver (λ p. eqb (getD curve p 0) limit) q
 
--- kept by a cut: higher than the limit, or one of the first, so many, that are equal to it
+-- is quarter q kept by a cut: is it higher than the limit, or one of the first `equals` quarters that are equal to it?
 unfoldable pub keptBy : List ℕ → ℕ → ℕ → ℕ → Bool
 keptBy curve limit equals q =
     ltb limit (getD curve q 0) || (eqb (getD curve q 0) limit && ltb (equalsBefore curve limit q) equals)

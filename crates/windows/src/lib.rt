@@ -1,6 +1,7 @@
-// The high-load windows of four curves: the quarters above the line, at most forty in a season.
-// Main theorem: a season keeps exactly the smaller of forty and the number above the line, and no kept
-// quarter is lower than one left out.
+// The high-load windows of four curves: the quarters above the line, at most forty in a season (Rules 4.4 and 4.5). It
+// meets specs/Chosen; how it finds where to cut a season is in specs/Cuts. Quarters count from 0.
+// Main theorem: a season keeps exactly the smaller of forty and the number above the line, and no kept quarter is lower
+// than one left out (`forty`, `none-lower`, proofs/Forty).
 ghost use mathlib.Core.Path.{_≡_};
 ghost use Prim.Native.Nat.{ℕ, _+_, _-_, _<_, _≤_};
 ghost use lib.Dec.{ltb};
@@ -11,11 +12,12 @@ ghost use Rattle.sheet.specs.Windows.{seasons};
 ghost use Rattle.windows.specs.Chosen.{keptOf, chosenOf, curveOf, curvesOf};
 ghost use Rattle.windows.specs.Cuts.{lineOf, higherThan, FortyBetween, keptBy};
 
-// The line lies at 19 twentieths of the peak.
+// The line stands at 19 twentieths of the peak.
 const LINE_PARTS: u64 = 19;
 
 const PEAK_PARTS: u64 = 20;
 
+// How many seasons there are.
 const SEASONS: usize = 4;
 
 // Two limits between which a season is cut.
@@ -24,13 +26,13 @@ struct Limits {
     high: u32,
 }
 
-// Where a season is cut: the quarters above the limit are kept, and the first of those that are equal to it.
+// Where a season is cut: the quarters above the limit are kept, and the first `equals` of those that are equal to it.
 struct Cut {
     limit: u32,
     equals: usize,
 }
 
-// One season of the flat curves, from 0.
+// The curve of one season, from 0, out of the flat curves: one array that has the four curves one after the other.
 fn curve(flat: &[u32; sheet::WINDOW_PLACES], season: usize) -> [u32; answers::DAY_QUARTERS]
     requires { ⌜ season < seasons ⌝ }
     ensures { λ r. ⌜ r ≡ curveOf (now (flat .entry)) season ⌝ }
@@ -42,7 +44,7 @@ fn curve(flat: &[u32; sheet::WINDOW_PLACES], season: usize) -> [u32; answers::DA
     out
 }
 
-// The flat curves, season by quarter.
+// The four curves out of the flat ones: season by season, from 0, each by quarter.
 fn curves(flat: &[u32; sheet::WINDOW_PLACES]) -> [[u32; answers::DAY_QUARTERS]; sheet::SEASONS]
     ensures { λ r. ⌜ r ≡ curvesOf (now (flat .entry)) ⌝ }
 {
@@ -60,6 +62,7 @@ fn line_of(peak: u32) -> u32
     (LINE_PARTS * (peak as u64) / PEAK_PARTS) as u32
 }
 
+// 1 where a is higher than b, else 0.
 fn if_higher(b: u32, a: u32) -> u32
     ensures { λ r. ⌜ (r ≡ bit (ltb b a)) × (r ≤ 1) ⌝ }
 {
@@ -97,8 +100,8 @@ fn nearer(curve: &[u32; answers::DAY_QUARTERS], low: u32, high: u32) -> Limits
     }
 }
 
-// A limit that no more than forty quarters are above, and forty or more above the value before it:
-// the way between two limits is halved.
+// A limit that no more than forty quarters are above, while forty or more are above the value before it: the way
+// between two limits is halved.
 fn limit_between(curve: &[u32; answers::DAY_QUARTERS], from: u32, to: u32) -> u32
     requires { ⌜ (from < to) × FortyBetween (now curve) from to ⌝ }
     ensures { λ r. ⌜ (from < r) × FortyBetween (now (curve .entry)) (r - 1) r ⌝ }
@@ -142,7 +145,7 @@ fn all_above(curve: &[u32; answers::DAY_QUARTERS], limit: u32) -> [bool; answers
     out
 }
 
-// Adds the first of the quarters that are equal to the limit, so many.
+// Adds the first `equals` of the quarters that are equal to the limit.
 fn add_equals(
     out: &mut [bool; answers::DAY_QUARTERS],
     curve: &[u32; answers::DAY_QUARTERS],
@@ -172,7 +175,7 @@ fn kept_of(peak: u32, curve: &[u32; answers::DAY_QUARTERS]) -> [bool; answers::D
     out
 }
 
-// The windows of four curves that lie flat, season by quarter, for any peak.
+// The windows of four curves that lie flat, one after the other, for any peak: by season and by quarter, both from 0.
 pub fn chosen(
     peak: u32,
     flat: &[u32; sheet::WINDOW_PLACES],

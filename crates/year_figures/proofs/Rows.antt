@@ -78,7 +78,7 @@ row-taken y carrying windows d f at e =
     ∙ ap (takenIn f (d + 1))
     (record-cong (Year y) (inRow (Year y) (dayRow y carrying windows d)) _ d at at (λ p l. row-counts y windows d p l carrying) (λ p l. refl))
 
--- days of one month from day d on: their flags, and the row of its season, which all of them have
+-- n days of one month from day d, from 0, on: their flags, and the row of its season, which all of them have
 module _ (y : ℕ) (carrying windows : List Bool) (d n : ℕ) (left : n ≤ monthLeft y (d + 1) + 1) where
   abbrev flags : List Bool
   flags = take n (drop d carrying)

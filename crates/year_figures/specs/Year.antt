@@ -1,5 +1,5 @@
--- Document 01, Customer's year and decision: M, S and H with its place, of a whole year. A series of another length
--- than the year's is answered 4. Days d and positions p count from 0.
+-- M, S and H with its place, of a whole charge year; a series of another length than the year's is answered 4. Days d
+-- count from 0. Rules 6.1 to 6.5.
 use mathlib.Core.Bool.{Bool, false, cond}
 use mathlib.Core.List.{List}
 use Prim.Native.Nat.{ℕ}
@@ -14,7 +14,7 @@ use Rattle.year_figures.specs.declared.YearFigures.{YearFigures}
 use Rattle.year_figures.specs.declared.YearFigures.the-variants.{All, WrongLength}
 use Rattle.year_figures.specs.Counts.{countsOn}
 
--- the figures of the first n days of year y's series, by the days that carry windows
+-- the figures of the first n days of year y's series; flag d of `carrying`, from 0, tells whether day d carries windows
 abbrev pub figuresIn : ℕ → List Bool → List Bool → List ℕ → ℕ → Figures
 figuresIn y carrying windows xs n = figuresOf (Year y) (λ d. countsOn y (getD carrying d false) windows d) xs n
 

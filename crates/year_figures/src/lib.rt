@@ -1,6 +1,5 @@
-// A charge year's figures: the quarters of a day that count as a lent row, and the pass over a whole year, month by
-// month.
-// Document 01, High-load windows, and Customer's year and decision.
+// A charge year's figures: which quarters of a day count, as a lent row, and the pass over a whole year, month by
+// month. It meets specs/Counts and specs/Year. Rules 6.1 to 6.5.
 // Main theorem: by its row a position of a day counts exactly when the day carries windows and the quarter is set in
 // the windows of the day's season (`row-counts`, proofs/Rows).
 ghost use mathlib.Core.Path.{_≡_};
@@ -12,13 +11,13 @@ use day_figures::Taking;
 use readings::Run;
 use tariff::Figures;
 
-// The figures of a whole year, or 4.
+// The figures of a whole year, or 4 for a series of another length.
 pub enum YearFigures {
     All(Figures),
     WrongLength,
 }
 
-// The windows of day d's season, from 0, as a row.
+// The windows of the season of day d, from 0, as a row whose first flag is quarter 0's.
 fn season_row(year: u16, d: u16, windows: &[bool; sheet::WINDOW_PLACES]) -> &[bool]
     requires { ⌜ d < mostDays ⌝ }
     ensures { λ r. ⌜ now r ≡ seasonRow (now (windows .entry)) (seasonOf year (d + 1)) ⌝ }
@@ -29,8 +28,8 @@ fn season_row(year: u16, d: u16, windows: &[bool; sheet::WINDOW_PLACES]) -> &[bo
     &all[start..end]
 }
 
-// The quarters that count on day d, from 0: those of its season's windows where the day carries windows, else a row of
-// none.
+// The quarters that count on day d, from 0: those of its season's windows where the day carries windows, else an empty
+// row. Flag d of `carrying` is day d's.
 pub fn day_row<'a>(
     year: u16,
     d: u16,
@@ -51,7 +50,8 @@ pub fn day_row<'a>(
     &all[0..0]
 }
 
-// The figures of a year's series, month by month, since a month lies in one season; 4 for a series of another length.
+// The figures of a year's series, or 4 for a series of another length. Month by month, since all days of a month have
+// the windows of one season.
 pub fn year_figures<'a>(
     year: u16,
     carrying: &'a [bool; dates::MOST_DAYS],

@@ -1,4 +1,4 @@
-//! "Calendar": weekdays, seasons, the reference period, the days that carry windows.
+//! Weekdays, seasons, the reference period, the days that carry windows (Rules 3.1 to 3.4 and 4.1).
 
 pub const FIRST_YEAR: u16 = 2014;
 pub const LAST_YEAR: u16 = 2028;
@@ -39,7 +39,7 @@ pub fn season_of_month(month: usize) -> usize {
     SEASON_OF_MONTH[month - 1]
 }
 
-/// 0 for Monday to 6 for Sunday. 1 January 2014 was a Wednesday.
+/// From 0 for Monday to 6 for Sunday; the day counts from 1. 1 January 2014 was a Wednesday.
 pub fn weekday(year: u16, day: u16) -> u16 {
     let leap_years_to = |year: u32| year / 4 - year / 100 + year / 400;
     let leaps = leap_years_to(year as u32 - 1) - leap_years_to(2013);
@@ -78,8 +78,8 @@ pub fn carrying_days(year: u16, holidays: &[u16]) -> [bool; LONGEST_YEAR] {
     carries
 }
 
-/// The months of the reference period of a charge year in order: (month, its days). From 1 September of the
-/// last year but one to 31 August of the last year.
+/// The months, from 1, of the reference period of a charge year in order: (month, its days). September of the last year
+/// but one comes first, August of the last year last.
 pub fn period_months(year: u16) -> [(usize, u16); 12] {
     [9, 10, 11, 12, 1, 2, 3, 4, 5, 6, 7, 8].map(|month| (month, month_days(if month >= 9 { year - 2 } else { year - 1 }, month)))
 }
@@ -88,7 +88,7 @@ pub fn period_days(year: u16) -> u16 {
     period_months(year).iter().map(|&(_, days)| days).sum()
 }
 
-/// The seasons of a year's days in order, as runs: (season, days).
+/// The seasons, from 1, of a year's days in order, as runs: (season, days).
 pub fn year_seasons(year: u16) -> [(usize, u16); 12] {
     [1, 2, 3, 4, 5, 6, 7, 8, 9, 10, 11, 12].map(|month| (season_of_month(month), month_days(year, month)))
 }

@@ -1,4 +1,4 @@
-//! "Customer's year and decision": over a whole series, and day by day.
+//! A customer's year and the decision (Rules 6.1 to 7.7): over a whole series, and day by day.
 
 use crate::calendar::{carrying_days, holidays_allowed, season_of_month, year_days, year_seasons, LONGEST_YEAR};
 use crate::sheet::Sheet;
@@ -6,9 +6,9 @@ use crate::{first_above, Refusal, QUARTERS};
 
 /// W
 pub const CUSTOMER_LIMIT: u32 = 1_000_000_000;
-/// cent per kW and year
+/// cent for one kW a year
 pub const CAPACITY_LIMIT: u32 = 100_000;
-/// thousandth of a cent per kWh
+/// thousandths of a cent for one kWh
 pub const ENERGY_LIMIT: u32 = 50_000;
 
 /// per cent of the annual peak, by level from 1
@@ -31,7 +31,7 @@ impl Row {
         self.capacity <= CAPACITY_LIMIT && self.energy <= ENERGY_LIMIT
     }
 
-    /// Cent, rounded once, half a cent up.
+    /// Whole cents, half a cent up (Rule 7.1).
     fn charge(self, capacity_figure: u32, sum: u64) -> u64 {
         let exact = 4_000 * capacity_figure as u64 * self.capacity as u64 + sum * self.energy as u64;
         (exact + 2_000_000) / 4_000_000
@@ -44,7 +44,7 @@ pub struct Prices {
     pub high: Row,
 }
 
-/// The highest in-window reading, where it first occurs: day from 1, quarter from 0.
+/// The highest in-window reading and its first place: day from 1, quarter from 0.
 #[derive(Clone, Copy, Debug, PartialEq, Eq)]
 pub struct InWindow {
     pub reading: u32,
@@ -52,7 +52,7 @@ pub struct InWindow {
     pub quarter: u8,
 }
 
-/// A year's figures: M, S, H with its place.
+/// A year's figures: M, S, and H with day and quarter.
 #[derive(Clone, Copy, Debug, Default, PartialEq, Eq)]
 pub struct Figures {
     pub peak: u32,
@@ -70,7 +70,7 @@ pub enum Decision {
     TooLittleReduced { general: u64, peak: u32, sum: u64, in_window: InWindow },
 }
 
-/// The rules over a year's figures.
+/// The rules over a year's figures (Rules 7.1 to 7.7).
 pub fn judge(level: u8, prices: &Prices, option: bool, figures: &Figures) -> Decision {
     let Figures { peak, sum, in_window } = *figures;
     let short_use = sum < LONG_USE * peak as u64;
@@ -96,7 +96,8 @@ pub fn judge(level: u8, prices: &Prices, option: bool, figures: &Figures) -> Dec
     Decision::Accepted { charge, general, peak, sum, in_window }
 }
 
-/// Four legal readings fit 32 bits, so only their sums are widened. With an illegal reading the sum may be another; then it is not asked for.
+/// Four legal readings fit 32 bits, so only their sums are widened. With an illegal reading the sum may be another;
+/// then it is not asked for.
 fn sum(day: &[u32; QUARTERS]) -> u64 {
     const PART: usize = QUARTERS / 4;
     let four = |at: usize| day[at].wrapping_add(day[at + PART]).wrapping_add(day[at + 2 * PART]).wrapping_add(day[at + 3 * PART]);
@@ -178,7 +179,7 @@ impl Terms {
     }
 }
 
-/// Sheet (12, 1, 2, 12), then 3, 6, 4, 5, 8, 9, 10, 11.
+/// Rule 8.2: as for reading a sheet (12, 1, 2, 12), then 3, 6, 4, 5, 8, 9, 10, 11.
 pub fn decide(sheet: &[u8], option: bool, holidays: &[u16], prices: &Prices, series: &[u32]) -> Decision {
     let terms = match Terms::new(sheet, option, holidays, prices) {
         Ok(terms) => terms,
@@ -194,12 +195,12 @@ pub fn decide(sheet: &[u8], option: bool, holidays: &[u16], prices: &Prices, ser
     terms.decide(&figures)
 }
 
-/// A customer's year day by day. A refused opening has no terms: every day and every closing is 13.
+/// A customer's year day by day. A refused opening has no terms: each day is 13, and so is closing (Rule 9.5).
 #[derive(Clone, Copy, Debug, PartialEq, Eq)]
 pub struct CustomerDays {
     terms: Option<Terms>,
     taken: u16,
-    /// the month of the next day from 1, and the days of it that are to come
+    /// the month of the next day, from 1, and how many of its days are left
     month: usize,
     month_left: u16,
     figures: Figures,

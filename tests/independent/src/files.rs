@@ -1,4 +1,4 @@
-//! "Two programs": what each prints for the bytes of a file.
+//! What each program prints for the bytes of a file (Rules 10.1 to 10.7).
 
 use crate::calendar::{holidays_allowed, year_allowed, MOST_HOLIDAYS};
 use crate::decision::{CustomerDays, Decision, InWindow, Prices, Row, CAPACITY_LIMIT, ENERGY_LIMIT};
@@ -9,7 +9,7 @@ use std::fmt::Write;
 
 pub const DAY_BYTES: usize = 4 * QUARTERS;
 
-/// The bytes that were not read yet. A field that the end cuts off was not read: 12.
+/// The bytes that are left to read. A field that the end cuts off is 12.
 struct Reader<'a> {
     left: &'a [u8],
 }
@@ -154,7 +154,7 @@ fn customer_decision(bytes: &[u8]) -> Result<Decision, Refusal> {
     Ok(state.close())
 }
 
-/// A quarter's beginning; 96 is 24:00.
+/// The time at which a quarter, from 0, begins; 96 is 24:00.
 fn clock(quarter: usize) -> String {
     format!("{:02}:{:02}", quarter / 4, quarter % 4 * 15)
 }

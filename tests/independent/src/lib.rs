@@ -1,4 +1,5 @@
-//! A second implementation of document 01, written from its text alone: what the two programs must print, for any file.
+//! A second implementation of the rules (docs/RULES.md): what the two programs must print, for any file. It was written
+//! from the rules alone, in an earlier wording of them, and not from the code.
 //! The comparison (tests/compare) holds the proved programs to it, and the benchmark (bench/run) measures beside it.
 
 pub mod calendar;
@@ -9,10 +10,10 @@ pub mod windows;
 
 pub mod making;
 
-/// Readings of a day (quarters 0 to 95).
+/// Readings of a day: quarters count from 0 to 95 (Rule 2.4).
 pub const QUARTERS: usize = 96;
 
-/// The numbered answers that carry no charge figures.
+/// The numbered answers without charge figures (Rule 8.1).
 #[derive(Clone, Copy, Debug, PartialEq, Eq)]
 pub enum Refusal {
     Year,

@@ -1,4 +1,4 @@
-//! "Window sheet": 56 bytes, and what they mean.
+//! The window sheet (Rules 5.1 to 5.4): 56 bytes, and what they mean.
 
 use crate::calendar::year_allowed;
 use crate::{Refusal, QUARTERS};
@@ -64,7 +64,7 @@ pub fn level_allowed(level: u8) -> bool {
 }
 
 impl Sheet {
-    /// Length, mark, version (12), year (1), level (2), set bits (12).
+    /// Tests in the order 12 (length, mark, version), 1, 2, 12 (set bits).
     pub fn read(bytes: &[u8]) -> Result<Sheet, Refusal> {
         if bytes.len() != SHEET_BYTES || &bytes[..3] != b"HLZ" || u16::from_be_bytes([bytes[3], bytes[4]]) != VERSION {
             return Err(Refusal::Malformed);
@@ -85,7 +85,7 @@ impl Sheet {
         Ok(Sheet { year, level, seasons })
     }
 
-    /// Writes the sheet to the first 56 bytes of a buffer that holds as many.
+    /// Writes the sheet to the first 56 bytes of a buffer that has as many.
     pub fn write(&self, buffer: &mut [u8]) {
         buffer[..3].copy_from_slice(b"HLZ");
         buffer[3..5].copy_from_slice(&VERSION.to_be_bytes());

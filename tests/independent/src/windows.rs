@@ -1,4 +1,4 @@
-//! "High-load windows": of a whole grid series, and day by day.
+//! The windows (Rules 4.1 to 4.7): of a whole grid series, and day by day.
 
 use crate::calendar::{period_days, period_months, season_of_month, year_allowed};
 use crate::sheet::{level_allowed, Quarters, Sheet, MOST_WINDOWS, SHEET_BYTES};
@@ -7,10 +7,10 @@ use crate::{first_above, Refusal, QUARTERS};
 /// kW
 pub const GRID_LIMIT: u32 = 200_000_000;
 
-/// For each season and quarter the highest reading.
+/// The curves of the four seasons, season 1 at place 0.
 pub type Curves = [[u32; QUARTERS]; 4];
 
-/// Lays whole days over the curve of their season.
+/// Takes whole days into the curve of their season.
 fn lay(curve: &mut [u32; QUARTERS], days: &[u32]) {
     for day in days.chunks_exact(QUARTERS) {
         for (highest, &reading) in curve.iter_mut().zip(day) {
@@ -35,12 +35,12 @@ fn highest(curves: &Curves) -> u32 {
     curves.iter().flatten().copied().max().unwrap_or(0)
 }
 
-/// Equal is not above.
+/// A value on the line is not above it (Rule 4.4).
 pub fn above_line(curve_value: u32, peak: u32) -> bool {
     20 * curve_value as u64 > 19 * peak as u64
 }
 
-/// The quarters above the line; of more than 40 the 40 with the highest curve value, the earlier first among equals.
+/// The quarters above the line; of more than 40 those that Rule 4.5 keeps.
 pub fn kept_quarters(curve: &[u32; QUARTERS], peak: u32) -> Quarters {
     let mut above = [0; QUARTERS];
     let mut count = 0;
@@ -71,7 +71,7 @@ fn sheet_of(year: u16, level: u8, curves: &Curves) -> Result<Sheet, Refusal> {
     Ok(Sheet { year, level, seasons })
 }
 
-/// Order 14, 1, 2, 4, 5, 7. An accepted sheet fills the first 56 bytes of the buffer.
+/// Order 14, 1, 2, 4, 5, 7 (Rule 8.2). Where it is accepted, the sheet is in the first 56 bytes of the buffer.
 pub fn windows(year: u16, level: u8, series: &[u32], buffer: &mut [u8]) -> Result<Sheet, Refusal> {
     if buffer.len() < SHEET_BYTES {
         return Err(Refusal::ShortBuffer);
@@ -101,14 +101,14 @@ pub struct GridDays {
     level: u8,
     taken: u16,
     days: u16,
-    /// the season (from 0) of the next day, and the days of its month that are to come
+    /// the season (from 0) of the next day, and how many days of its month are left
     season: u8,
     month_left: u16,
     curves: Curves,
 }
 
 impl GridDays {
-    /// On this state every day and every closing is 13.
+    /// The state of a refused opening: each day is 13, and so is closing (Rule 9.5).
     const REFUSED: GridDays = GridDays { year: 0, level: 0, taken: 1, days: 0, season: 0, month_left: 0, curves: [[0; QUARTERS]; 4] };
 
     pub fn open(year: u16, level: u8) -> (Result<(), Refusal>, GridDays) {

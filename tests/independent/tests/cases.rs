@@ -1,4 +1,4 @@
-//! The printed examples and the cases of "Figures on each side".
+//! The examples of Rules 10.6 and 10.7, and the cases of Rule 11.1.
 
 use independent::calendar::{carrying_days, day_of, weekday};
 use independent::decision::{judge, CustomerDays, Decision, Figures, InWindow, Prices, Row};
@@ -28,7 +28,7 @@ fn bytes_of(readings: &[u32]) -> Vec<u8> {
     readings.iter().flat_map(|reading| reading.to_be_bytes()).collect()
 }
 
-/// The printed example's grid file: 15 January 2024 is day 122 + 15 of the period.
+/// The grid file of the example: 15 January 2024 is day 122 + 15 of the period, from 1.
 fn example_grid() -> Vec<u8> {
     let mut readings = vec![1_000; 366 * QUARTERS];
     readings[(122 + 14) * QUARTERS + 72] = 2_000;

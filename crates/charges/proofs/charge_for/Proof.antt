@@ -1,5 +1,5 @@
--- `charges::charge_for` meets its contract: a sum split at the parts of a cent gives the same charge, and its products
--- are small.
+-- `charges::charge_for` meets its contract: a sum taken apart at 4,000,000 gives the same charge, and its products are
+-- small.
 -- Assumes nothing.
 use native.Mathlib.Omega.{arith}
 use borrow.Author.Needs.{needs}

@@ -1,4 +1,5 @@
--- `charges::reduced_cents` meets its contract: the charge for the in-window peak, in the row that the option leaves.
+-- `charges::reduced_cents` meets its contract: the charge for the in-window peak, in the row of the hours of use and
+-- the option.
 -- Assumes nothing.
 use mathlib.Core.Path.{_∙_}
 use borrow.Author.Needs.{needs}

@@ -23,7 +23,7 @@ use Rattle.tariff.proofs.Only.{decision-only}
 use Rattle.decision.proofs.judge.Statement.{statement}
 use Rattle.decision.proofs.judge.Tie as tie
 
--- the places of the enum's cases, without that of `Eligible`, which is 1
+-- the places of the enum's cases, from 0, without that of `Eligible`, which is 1
 abbrev others : List ℕ
 others = 0 ∷ 2 ∷ 3 ∷ 4 ∷ 5 ∷ 6 ∷ 7 ∷ 8 ∷ 9 ∷ 10 ∷ 11 ∷ 12 ∷ 13 ∷ 14 ∷ []
 

@@ -1,4 +1,4 @@
--- `decision::share` meets its contract: the table is read at the level.
+-- `decision::share` meets its contract: the table is read at the level, of which the first is 1.
 -- Assumes nothing.
 use borrow.Author.Needs.{needs}
 use Rattle.tariff.proofs.Shares.{share-table}

@@ -1,5 +1,5 @@
--- `file_cases::next_customer` lends as many bytes of its array as the machine wants, and it wants no more
--- than the array has.
+-- `file_cases::next_customer` lends as many bytes of its array as the machine wants, and it wants no more than the
+-- array has.
 -- Assumes nothing.
 use mathlib.Core.Path.{sym}
 use lib.Seq.{length-take-le}

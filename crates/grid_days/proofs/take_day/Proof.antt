@@ -1,5 +1,5 @@
--- `grid_days::take_day` meets its contract: a refusal leaves the curves, and a day that is not refused is laid over them.
--- Assumes nothing.
+-- `grid_days::take_day` meets its contract: a refusal leaves the curves, and a day that is not refused is laid over
+-- them. Assumes nothing.
 use mathlib.Core.Path.{sym, ap, _∙_}
 use borrow.Author.Needs.{needs}
 use types.Run.{miss}

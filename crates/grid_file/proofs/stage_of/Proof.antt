@@ -17,7 +17,7 @@ use types.Run.{miss}
 use Rattle.grid_file.proofs.stage_of.Statement.{statement}
 use Rattle.grid_file.proofs.stage_of.Tie as tie
 
--- the places of the enum's cases, without that of `BadReading`, which is 5
+-- the places of the enum's cases, from 0, without that of `BadReading`, which is 5
 abbrev others : List ℕ
 others = 0 ∷ 1 ∷ 2 ∷ 3 ∷ 4 ∷ 6 ∷ 7 ∷ 8 ∷ []
 

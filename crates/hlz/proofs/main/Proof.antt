@@ -1,4 +1,4 @@
--- `hlz::main` takes no more out of its array than the text that the machine wrote there.
+-- `hlz::main` writes no more of its array than the text that `grid_text` laid there.
 -- Assumes nothing.
 use borrow.Author.Needs.{needs}
 use Rattle.lines.proofs.Text.{within}

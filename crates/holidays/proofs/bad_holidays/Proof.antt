@@ -1,5 +1,5 @@
--- `holidays::bad_holidays` meets its contract. The loop's invariant: no entry so far breaks its
--- rule, and `last` is the entry before.
+-- `holidays::bad_holidays` meets its contract. The loop's invariant: no entry before entry k, from 0, is bad, and
+-- `last` is the entry before it.
 -- Assumes nothing.
 use mathlib.Core.Path.{_≡_, refl, sym, _∙_}
 use Prim.Native.Nat.{_≤_, _-_}

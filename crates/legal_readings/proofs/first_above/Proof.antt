@@ -1,4 +1,5 @@
--- `legal_readings::first_above` meets its contract. The loop's invariant: none of the first i readings is above the limit.
+-- `legal_readings::first_above` meets its contract. The loop's invariant: none of the first i readings is above the
+-- limit.
 -- Assumes nothing.
 use mathlib.Core.Path.{_≡_, refl, sym, _∙_}
 use mathlib.Core.Bool.{Bool, true, false, not}

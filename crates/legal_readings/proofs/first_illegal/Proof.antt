@@ -1,5 +1,5 @@
--- `legal_readings::first_illegal` meets its contract. The invariants: no day before d, and no position before p of day d, has an
--- illegal reading.
+-- `legal_readings::first_illegal` meets its contract. The invariants: no day before day d, and no position before p of
+-- day d, has an illegal reading.
 -- Assumes nothing.
 use mathlib.Core.Path.{refl}
 use Prim.Native.Nat.{_-_, _+_}

@@ -1,4 +1,4 @@
--- `statement::main` takes no more out of its array than the text that the machine wrote there.
+-- `statement::main` writes no more of its array than the text that `customer_text` laid there.
 -- Assumes nothing.
 use borrow.Author.Needs.{needs}
 use Rattle.lines.proofs.Text.{within}

@@ -1,6 +1,7 @@
 //! Holds the two programs to the independent implementation, byte by byte, on seeded files.
-//! compare COUNT SEED all|first PROGRAMS KEPT [WORD...]: COUNT files of each kind; PROGRAMS is the folder of hlz and statement; the
-//! words start a program; a file that is answered otherwise is kept in the folder KEPT. `first` stops at the first such file.
+//! compare COUNT SEED all|first PROGRAMS KEPT [WORD...]: COUNT files of each kind; PROGRAMS is the folder of hlz and
+//! statement; the words start a program; a file that is answered otherwise is kept in the folder KEPT. `first` stops at
+//! the first such file.
 
 use independent::files::{statement_program, window_program};
 use independent::making::{customer_file, grid_file, Made, Random};

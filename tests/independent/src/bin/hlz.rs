@@ -1,4 +1,4 @@
-//! The window program as document 01 has it, of the independent implementation.
+//! The window program of the independent implementation (Rule 10.6).
 use std::io::{self, Read, Write};
 
 fn main() -> io::Result<()> {

@@ -1,4 +1,4 @@
-//! The statement program as document 01 has it, of the independent implementation.
+//! The statement program of the independent implementation (Rule 10.7).
 use std::io::{self, Read, Write};
 
 fn main() -> io::Result<()> {

@@ -52,7 +52,7 @@ pub fn some_holidays(random: &mut Random, year: u16) -> Vec<u16> {
     list.into_iter().take(MOST_HOLIDAYS).collect()
 }
 
-/// A list that breaks its row.
+/// A list that breaks Rule 2.6.
 pub fn broken_holidays(random: &mut Random, year: u16) -> Vec<u16> {
     let mut list = some_holidays(random, year);
     if list.len() < 2 {

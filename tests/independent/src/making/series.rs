@@ -31,7 +31,7 @@ impl Year {
     }
 }
 
-/// What a series is to come to.
+/// What a series must come to.
 #[derive(Clone, Copy)]
 pub struct Target {
     pub peak: u32,
@@ -39,7 +39,8 @@ pub struct Target {
     pub sum: u64,
 }
 
-/// A series with the peak outside the windows, the in-window peak once or more often, and the sum where it can be reached.
+/// A series with the peak outside the windows, the in-window peak once or more often, and the sum where it can be
+/// reached.
 pub fn fitted(random: &mut Random, year: &Year, target: &Target) -> Vec<u32> {
     let mut series = vec![0u32; year.places()];
     let mut left = target.sum;
@@ -65,7 +66,8 @@ pub fn fitted(random: &mut Random, year: &Year, target: &Target) -> Vec<u32> {
     series
 }
 
-/// Days at which calendars go wrong: the year's ends, the ends of February and of seasons, holidays and their neighbours.
+/// Days at which calendars go wrong: the year's ends, the ends of February and of seasons, holidays and their
+/// neighbours.
 fn delicate_days(random: &mut Random, year: &Year, holidays: &[u16]) -> Vec<usize> {
     let last = year.days - 1;
     let mut days: Vec<usize> = (0..9).chain(last - 10..=last).chain(57..62).collect();
@@ -84,7 +86,8 @@ fn delicate_days(random: &mut Random, year: &Year, holidays: &[u16]) -> Vec<usiz
     (0..random.between(1, 8)).map(|_| *random.pick(&days)).collect()
 }
 
-/// The windows' quarters of some delicate days are the year's highest there: the first such day that carries windows has H.
+/// The windows' quarters of some delicate days are the year's highest there: the first such day that carries windows
+/// has H.
 pub fn calendar_probe(random: &mut Random, year: &Year, holidays: &[u16]) -> Vec<u32> {
     let base = random.below(1_000_000) as u32;
     let mut series: Vec<u32> = (0..year.places()).map(|_| random.below(base as u64 + 1) as u32).collect();

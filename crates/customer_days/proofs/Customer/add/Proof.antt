@@ -1,6 +1,5 @@
--- `customer_days::Customer::add` meets its contract: the day is taken in by the state's own terms; it fits, so taking it
--- refuses nothing.
--- Assumes nothing.
+-- `customer_days::Customer::add` meets its contract: the day is taken in by the state's own terms; it fits, so taking
+-- it refuses nothing. Assumes nothing.
 use mathlib.Core.Path.{_≡_, ap, _∙_}
 use mathlib.Core.Bool.{false}
 use Prim.Native.Nat.{_+_}

@@ -1,5 +1,5 @@
--- `customer_days::Customer::day` meets its contract: a refusal hands back the state, and a day that is not refused fits it.
--- Assumes nothing.
+-- `customer_days::Customer::day` meets its contract: a refusal hands back the state, and a day that is not refused fits
+-- it. Assumes nothing.
 use mathlib.Core.Path.{_≡_, sym, ap, _∙_}
 use borrow.Author.Needs.{needs}
 use types.Run.{miss}

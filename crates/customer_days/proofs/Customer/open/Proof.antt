@@ -1,6 +1,5 @@
--- `customer_days::Customer::open` meets its contract: under the terms that opening hands over, a refusal is the fixed state,
--- 0 a year without a day.
--- Assumes nothing.
+-- `customer_days::Customer::open` meets its contract: under the terms that opening hands over, a refusal is the fixed
+-- state, 0 a year without a day. Assumes nothing.
 use mathlib.Core.Path.{sym, ap, _∙_}
 use borrow.Author.Needs.{needs}
 use types.Run.{miss}

@@ -20,7 +20,7 @@ use Rattle.customer_file.proofs.CustomerFile.take_field.Tie as tie
 abbrev first : tie.After-lay → tie.Start
 first e = let held = e .before .before .before .before in held .before .before .before
 
--- the header with the field in it, the bytes that it takes, and the fields so far
+-- the header with the field in it, the bytes that it takes, and the number of fields taken
 head-at : (e : tie.After-lay) → e .lay .last .0 ≡ headWith customerReader (first e .args .self) (first e .args .b .now)
 head-at e =
     let s = first e .args .self in

@@ -1,6 +1,5 @@
--- `grid_days::Grid::day` meets its contract: a refusal leaves the curves, and so the state; a day that is not refused is
--- laid over it.
--- Assumes nothing.
+-- `grid_days::Grid::day` meets its contract: a refusal leaves the curves, and so the state; a day that is not refused
+-- is laid over it. Assumes nothing.
 use mathlib.Core.Path.{_≡_, refl, sym, ap, _∙_}
 use Prim.Native.Nat.{_+_}
 use native.Mathlib.Omega.{arith}

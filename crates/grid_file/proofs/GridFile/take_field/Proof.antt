@@ -19,7 +19,7 @@ use Rattle.grid_file.proofs.GridFile.take_field.Tie as tie
 abbrev first : tie.After-lay → tie.Start
 first e = let held = e .before .before .before .before in held .before .before .before
 
--- the header with the field in it, the bytes that it takes, and the fields so far
+-- the header with the field in it, the bytes that it takes, and the number of fields taken
 head-at : (e : tie.After-lay) → e .lay .last .0 ≡ headWith gridReader (first e .args .self) (first e .args .b .now)
 head-at e =
     let s = first e .args .self in
