@@ -27,6 +27,6 @@ customerDaysAnswer k xs = customerCloseAnswer (customerAfterDays k xs (openDays 
 abbrev pub priceList : ℕ → ℕ → ℕ → ℕ → Prices
 priceList lowCapacity lowEnergy highCapacity highEnergy =
     record {
-      low = record { capacity = lowCapacity; energy = lowEnergy };
-      high = record { capacity = highCapacity; energy = highEnergy };
+      few = record { capacity = lowCapacity; energy = lowEnergy };
+      many = record { capacity = highCapacity; energy = highEnergy };
     }

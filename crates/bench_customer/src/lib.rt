@@ -18,11 +18,11 @@ fn prices_of(lowcapacity: u32, lowenergy: u32, highcapacity: u32, highenergy: u3
     ensures { λ r. ⌜ r ≡ priceList lowcapacity lowenergy highcapacity highenergy ⌝ }
 {
     Prices {
-        low: Row {
+        few: Row {
             capacity: lowcapacity,
             energy: lowenergy,
         },
-        high: Row {
+        many: Row {
             capacity: highcapacity,
             energy: highenergy,
         },

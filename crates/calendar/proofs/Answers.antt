@@ -75,8 +75,8 @@ module _ (y : ℕ) (hs : List ℕ) (d : ℕ) where
   exactly n = (λ e. rw e at holds, given)
 
   -- and 0 tells whether the day carries windows
-  pub told : calendarAnswer y hs d .number ≡ 0 → calendarAnswer y hs d ≡ yesNo (carries y hs d)
-  told e = go (exactly 0 .0 e)
+  pub zero-says : calendarAnswer y hs d .number ≡ 0 → calendarAnswer y hs d ≡ yesNo (carries y hs d)
+  zero-says e = go (exactly 0 .0 e)
     where
       go : DayRow y hs d 0 → calendarAnswer y hs d ≡ yesNo (carries y hs d)
       go (zero a b c) = sym (said-carries y hs d (charge-year y .1 a) (legal-holidays y hs .1 b) (day-of-year y d .1 c) refl)

@@ -116,8 +116,8 @@ pub(crate) fn all_calls(series: &[u32], count: u8) {
         &[],
         &[],
         Prices {
-            low: none,
-            high: none,
+            few: none,
+            many: none,
         },
         false,
     );

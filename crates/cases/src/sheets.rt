@@ -27,12 +27,12 @@ fn next_place() -> usize
     ensures { λ r. ⌜ r < 384 ⌝ }
 {
     let season = input::smaller(input::count(), 3);
-    96 * season + input::smaller(input::count(), 95)
+    answers::DAY_QUARTERS * season + input::smaller(input::count(), 95)
 }
 
 // The quarters that the input chooses.
-fn next_windows(count: u16) -> [bool; 384] {
-    let mut windows = [false; 384];
+fn next_windows(count: u16) -> [bool; sheet::WINDOW_PLACES] {
+    let mut windows = [false; sheet::WINDOW_PLACES];
     for k in 0..count {
         let at = next_place();
         windows[at] = true;
@@ -69,8 +69,8 @@ fn write_if_set(set: bool, place: u64) {
     }
 }
 
-fn write_windows(windows: [bool; 384]) {
-    for place in 0..384 {
+fn write_windows(windows: [bool; sheet::WINDOW_PLACES]) {
+    for place in 0..sheet::WINDOW_PLACES {
         write_if_set(windows[place], place as u64);
     }
 }

@@ -40,9 +40,9 @@ fn next_row() -> Row {
 }
 
 pub(crate) fn next_prices() -> Prices {
-    let low = next_row();
-    let high = next_row();
-    Prices { low, high }
+    let few = next_row();
+    let many = next_row();
+    Prices { few, many }
 }
 
 // The record has no year: no rule looks at it.

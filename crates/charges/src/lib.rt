@@ -38,8 +38,8 @@ fn row_out(row: Row) -> bool
 pub fn prices_out(prices: Prices) -> bool
     ensures { λ r. ⌜ r ≡ pricesOut prices ⌝ }
 {
-    let low = prices.low;
-    let high = prices.high;
+    let low = prices.few;
+    let high = prices.many;
     row_out(low) | row_out(high)
 }
 
@@ -68,10 +68,10 @@ fn row_of(prices: Prices, low: bool) -> Row
     ensures { λ r. ⌜ (r ≡ rowOf prices low) × LegalRow r ⌝ }
 {
     if low {
-        let row = prices.low;
+        let row = prices.few;
         return row;
     }
-    let row = prices.high;
+    let row = prices.many;
     row
 }
 

@@ -1,6 +1,6 @@
--- What each number is given for, for a day and at closing, in plain orders, where no number before it in the call's
--- order is given (Rules 8.1 and 8.2). The state c. An opening's rows stand in terms, specs/Rows. A day's are those of
--- its run (readings, Rows), but for 13, which a state with a sum that no legal days have answers, too.
+-- What each number is given for, for a day and at closing, by ≤, < and ≡, where no number before it in the call's order
+-- is given (Rules 8.1 and 8.2). The state c. An opening's rows stand in terms, specs/Rows. A day's are those of its run
+-- (readings, Rows), but for 13, which a state with a sum that no legal days have answers, too (Rule 9.6).
 use mathlib.Core.Path.{_≡_}
 use mathlib.Core.List.{List}
 use Prim.Native.Nat.{ℕ, _≤_, _<_}

@@ -68,8 +68,8 @@ priceOf b j = fourAt b (pricesPlace b + 4 * j)
 abbrev pub pricesIn : List ℕ → Prices
 pricesIn b =
     record {
-      low = record { capacity = priceOf b 0; energy = priceOf b 1 };
-      high = record { capacity = priceOf b 2; energy = priceOf b 3 };
+      few = record { capacity = priceOf b 0; energy = priceOf b 1 };
+      many = record { capacity = priceOf b 2; energy = priceOf b 3 };
     }
 
 -- a season of the sheet, 12 bytes: more than 40 set bits are 12

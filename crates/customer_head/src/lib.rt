@@ -205,15 +205,15 @@ fn prices_of(head: &[u8]) -> Prices
     ensures { λ r. ⌜ r ≡ pricesIn (now (head .entry)) ⌝ }
 {
     let at = HOLIDAYS_AT + HOLIDAY_BYTES * count_of(head);
-    let low = Row {
+    let few = Row {
         capacity: encoding::four_at(head, at),
         energy: encoding::four_at(head, at + 4),
     };
-    let high = Row {
+    let many = Row {
         capacity: encoding::four_at(head, at + 8),
         energy: encoding::four_at(head, at + 12),
     };
-    Prices { low, high }
+    Prices { few, many }
 }
 
 // The customer's year that the header opens. Where its sheet (one that is cut off, too), its holidays or its prices are

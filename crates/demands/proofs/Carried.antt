@@ -112,8 +112,8 @@ module _ (column : ℕ → List ℕ) (one : column 1 ≡ []) (two : column 2 ≡
       (reads (k .sheet))
 
 -- an answer whose refusals and whose 0 carry nothing
-bare-all : (a : Said) → (Refused a → Carries a (zeroAlone [])) → (a .number ≡ 0 → only 0 ≡ a) → Carries a (zeroAlone [])
-bare-all a p z = go (ℕ-discrete (a .number) 0)
+zero-alone-all : (a : Said) → (Refused a → Carries a (zeroAlone [])) → (a .number ≡ 0 → only 0 ≡ a) → Carries a (zeroAlone [])
+zero-alone-all a p z = go (ℕ-discrete (a .number) 0)
   where
     go : Dec (a .number ≡ 0) → Carries a (zeroAlone [])
     go (yes e) = rw (← z e) (leaf refl)
@@ -363,7 +363,7 @@ pub carried : Carried ours
 carried =
     record {
       calendar = calendar-listed;
-      read = λ b. bare-all (readAnswer b) (reads (zeroAlone []) refl refl refl refl refl b) (read-zero b);
+      read = λ b. zero-alone-all (readAnswer b) (reads (zeroAlone []) refl refl refl refl refl b) (read-zero b);
       write = writes (zeroAlone []) (λ n e. refl);
       windows = λ y level xs buffer. placed (windows-listed y level xs (length buffer)) (windows-place y level xs buffer);
       grid-open = grid-opens (zeroAlone []) (λ n e. refl);
@@ -375,7 +375,7 @@ carried =
       charge = charged;
       judge = judged-listed;
       decide = λ k xs. placed (decides k xs) (decide-place k xs);
-      customer-open = λ k. bare-all (customerOpenAnswer k) (opens (zeroAlone []) refl refl refl refl refl k) (open-zero k);
+      customer-open = λ k. zero-alone-all (customerOpenAnswer k) (opens (zeroAlone []) refl refl refl refl refl k) (open-zero k);
       customer-day = λ c day. placed (customer-days c day) (customer-today c day);
       customer-close = customer-closes;
     }

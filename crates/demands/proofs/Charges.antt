@@ -28,17 +28,17 @@ module _ (f : Figures) (r : Rates) where
   unfolding general
   general-is =
       record {
-        few = λ h. rw (few h) (rounded (f .peak) (r .prices .low) (f .sum));
-        many = λ h. rw (many h) (rounded (f .peak) (r .prices .high) (f .sum));
+        few = λ h. rw (few h) (rounded (f .peak) (r .prices .few) (f .sum));
+        many = λ h. rw (many h) (rounded (f .peak) (r .prices .many) (f .sum));
       }
 
   reduced-is : ReducedIs f r (reduced f r)
   unfolding reduced
   reduced-is =
       record {
-        few = λ h e. rw (few h, e) (rounded (f .high) (r .prices .low) (f .sum));
-        chosen = λ h e. rw (few h, e) (rounded (f .high) (r .prices .high) (f .sum));
-        many = λ h. rw (many h) (rounded (f .high) (r .prices .high) (f .sum));
+        few = λ h e. rw (few h, e) (rounded (f .high) (r .prices .few) (f .sum));
+        chosen = λ h e. rw (few h, e) (rounded (f .high) (r .prices .many) (f .sum));
+        many = λ h. rw (many h) (rounded (f .high) (r .prices .many) (f .sum));
       }
 
   charge-is : ChargeIs f r (general f r) (charge f r)

@@ -49,8 +49,8 @@ use Rattle.demands.proofs.Carried.{carried, said-is}
 use Rattle.demands.proofs.Fair.{legal-opening}
 
 -- an answer without figures
-bare-zero : {a : Said} → a .number ≡ 0 → a .figures ≡ zeroAlone [] (a .number) → a ≡ only 0
-bare-zero {a} z l = said-is a (zeroAlone []) 0 (record { listed = l }) z
+zero-alone-zero : {a : Said} → a .number ≡ 0 → a .figures ≡ zeroAlone [] (a .number) → a ≡ only 0
+zero-alone-zero {a} z l = said-is a (zeroAlone []) 0 (record { listed = l }) z
 
 -- the grid
 module _ (y level : ℕ) (days : List (List ℕ)) where
@@ -65,7 +65,7 @@ module _ (y level : ℕ) (days : List (List ℕ)) where
   module _ (z : gridOpenAnswer y level .number ≡ 0) where
     grid-holds : Holds (gridMachine y level) (takenReadings gridDayAnswer dayGrid (openGrid y level) days)
         (length (takenDays gridDayAnswer dayGrid (openGrid y level) days)) grid
-    grid-holds = holds-taken (gridMachine y level) (openGrid y level) (opens-empty y level (bare-zero z (carried .grid-open y level .listed))) days
+    grid-holds = holds-taken (gridMachine y level) (openGrid y level) (opens-empty y level (zero-alone-zero z (carried .grid-open y level .listed))) days
 
     legal-grid : {n : ℕ} → OpenRow y level n → n ≡ 0 → ChargeYear y × Level level
     legal-grid (one a) e = absurd (omega arith)
@@ -132,7 +132,7 @@ module _ (k : Basis) (days : List (List ℕ)) where
 
   module _ (z : customerOpenAnswer k .number ≡ 0) where
     opens : customerOpenAnswer k ≡ only 0
-    opens = bare-zero z (carried .customer-open k .listed)
+    opens = zero-alone-zero z (carried .customer-open k .listed)
 
     customer-holds : Holds (customerMachine terms) (takenReadings customerDayAnswer dayCustomer (openCustomer k) days)
         (length (takenDays customerDayAnswer dayCustomer (openCustomer k) days)) customer

@@ -12,6 +12,7 @@ use borrow.Author.Tests.{lt-ltb, le-ltb, ltb-true, eq-eqb, ne-eqb, eqb-true}
 use lib.Dec.{ltb, eqb}
 use lib.ListN.{getD}
 use Rattle.ranges.specs.Ranges.{countOver, numberIf}
+use Rattle.ranges.proofs.Inside.{number-if-low}
 use Rattle.ranges.proofs.Bools.{both, pair}
 use Rattle.ranges.proofs.Largest.{largest-le}
 use Rattle.ranges.proofs.Tests.{count-cong}
@@ -27,10 +28,6 @@ use Rattle.grid_curves.proofs.Curves.{in-curve}
 use Rattle.demands.specs.Windows.{NoneAboveIn, IsPeak, IsCurve, ahead, Kept}
 
 -- a value that counts where a test passes
-counted-low : (b : Bool) {v w : ℕ} → (b ≡ true → v ≤ w) → numberIf b v ≤ w
-counted-low true l = l refl
-counted-low false l = omega arith
-
 module _ (y : ℕ) (xs : List ℕ) where
   pub peak-plain : IsPeak y xs (periodPeak y xs)
   unfolding peakOf dayPeak
@@ -49,9 +46,9 @@ module _ (y : ℕ) (xs : List ℕ) where
   unfolding curveAt topOf
   curve-least s q b none =
       largest-le _ (periodDays y) b (λ d l.
-      counted-low (inSeason y d s) (λ e.
+      number-if-low (inSeason y d s) (λ e.
       largest-le _ (dayLen (Period y) d) b (λ p h.
-      counted-low (eqb (quarterOf (Period y) d p) q) (λ f. none d p l h (eqb-true _ _ e) (eqb-true _ _ f)))))
+      number-if-low (eqb (quarterOf (Period y) d p) q) (λ f. none d p l h (eqb-true _ _ e) (eqb-true _ _ f)))))
 
   pub curve-plain : (s : ℕ) → IsCurve y xs s (curve s)
   curve-plain s =

@@ -12,6 +12,7 @@ use borrow.Author.Tests.{lt-ltb, le-ltb, eq-eqb, ne-eqb}
 use lib.Dec.{eqb}
 use lib.ListN.{length, getD, take, replicate, length-replicate}
 use Rattle.ranges.specs.Ranges.{table, joined, sumOver, countOver, largestOver, numberIf}
+use Rattle.ranges.proofs.Inside.{number-if-low}
 use Rattle.ranges.proofs.Bools.{clash, pair}
 use Rattle.ranges.proofs.Largest.{largest-le}
 use Rattle.ranges.proofs.Tables.{getD-table}
@@ -111,10 +112,6 @@ same-top =
 same-kept : kept (periodPeak 2025 same) (summerCurve same) 0 ≡ true
 same-kept = rw same-peak (kept-top 1 (summerCurve same) (omega arith) same-top same-low)
 
-counted-low : (b : Bool) {v w : ℕ} → v ≤ w → numberIf b v ≤ w
-counted-low true l = l
-counted-low false l = omega arith
-
 first-zero : curveAt 2025 first (periodDays 2025) 3 0 ≤ 0
 unfolding curveAt topOf
 first-zero = largest-le _ (periodDays 2025) 0 (λ d l. go d (decLt 0 d))
@@ -125,8 +122,9 @@ first-zero = largest-le _ (periodDays 2025) 0 (λ d l. go d (decLt 0 d))
         → numberIf (inSeason 2025 d 3)
         (largestOver (λ p. numberIf (eqb (quarterOf (Period 2025) d p) 0) (reading (Period 2025) first d p)) (dayLen (Period 2025) d)) ≤ 0
     go d (yes l) =
-        counted-low (inSeason 2025 d 3)
-        (largest-le _ (dayLen (Period 2025) d) 0 (λ p m. counted-low (eqb (quarterOf (Period 2025) d p) 0) (omega (arith, start-later (Period 2025) 1 d p l))))
+        number-if-low (inSeason 2025 d 3) (λ e.
+        largest-le _ (dayLen (Period 2025) d) 0
+        (λ p m. number-if-low (eqb (quarterOf (Period 2025) d p) 0) (λ f. omega (arith, start-later (Period 2025) 1 d p l))))
     go d (no l) =
         let e : d ≡ 0 = omega arith in
         rw (e, first-season) (omega arith)

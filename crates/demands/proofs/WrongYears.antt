@@ -48,7 +48,7 @@ use Rattle.demands.proofs.Series.{atStart, start-later, start-long, sta
 
 -- a price for capacity alone, the same in both rows
 abbrev pub capacityOnly : ℕ → Prices
-capacityOnly price = record { low = priced price 0; high = priced price 0 }
+capacityOnly price = record { few = priced price 0; many = priced price 0 }
 
 abbrev pub pricedBasis : ℕ → Basis
 pricedBasis price = basis example [] (capacityOnly price) false
@@ -63,7 +63,7 @@ module _ (price : ℕ) (least : 100 ≤ price) (most : price ≤ capacityMost) w
   pub opens : customerOpenAnswer k ≡ only 0
   opens =
       let row : LegalRow (priced price 0) = record { capacity = most; energy = omega arith } in
-      sym (open-done k (sym example-read) no-holidays (prices-legal (capacityOnly price) .1 (record { low = row; high = row })))
+      sym (open-done k (sym example-read) no-holidays (prices-legal (capacityOnly price) .1 (record { few = row; many = row })))
 
   pub some-days : 0 < runDays (basisRun k)
   some-days = omega (arith, year-run (sheetIn example .year))

@@ -56,7 +56,7 @@ abbrev pub highRow : Row
 highRow = priced 10000 800
 
 abbrev pub withHigh : Row → Prices
-withHigh high = record { low = lowRow; high = high }
+withHigh high = record { few = lowRow; many = high }
 
 abbrev pub prices : Prices
 prices = withHigh highRow

@@ -25,14 +25,14 @@ module _ (f : Figures) (r : Rates) where
 
   -- g (Rule 7.2): by M, with the low row below 2,500 hours, else the high row
   pub record GeneralIs (g : ℕ) : Type 0 where
-    pub few : Few → Rounded (f .peak) (r .prices .low) (f .sum) g
-    pub many : Many → Rounded (f .peak) (r .prices .high) (f .sum) g
+    pub few : Few → Rounded (f .peak) (r .prices .few) (f .sum) g
+    pub many : Many → Rounded (f .peak) (r .prices .many) (f .sum) g
 
   -- r (Rule 7.3): by H, with the row of g; but with the option the high row below 2,500 hours, too
   pub record ReducedIs (cents : ℕ) : Type 0 where
-    pub few : Few → r .option ≡ false → Rounded (f .high) (r .prices .low) (f .sum) cents
-    pub chosen : Few → r .option ≡ true → Rounded (f .high) (r .prices .high) (f .sum) cents
-    pub many : Many → Rounded (f .high) (r .prices .high) (f .sum) cents
+    pub few : Few → r .option ≡ false → Rounded (f .high) (r .prices .few) (f .sum) cents
+    pub chosen : Few → r .option ≡ true → Rounded (f .high) (r .prices .many) (f .sum) cents
+    pub many : Many → Rounded (f .high) (r .prices .many) (f .sum) cents
 
   -- c (Rules 7.4 and 7.5): the larger of r and the floor, which is the smallest whole number of cents of which five are
   -- no less than g

@@ -59,7 +59,7 @@ pub record FixedState (m : Module) : Type 0 where
 
 -- Some rows can hold only for a state that no call handed back (Rule 9.6). On a state that an opening, accepted or not,
 -- and days after it handed back, a day is answered 13 only where the opening was refused or all days are in: there the
--- sum is never above `sumMost` (customer, specs/Answers), which would be 13, too. And closing never answers 1 or 2 for
+-- sum is never above `sumMost` (customer_days, specs/Days), which would be 13, too. And closing never answers 1 or 2 for
 -- the grid, 2 or 6 for a customer.
 pub record HandedBack (m : Module) : Type 0 where
   pub grid-thirteen :

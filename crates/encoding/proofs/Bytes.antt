@@ -31,14 +31,14 @@ module _ (b : List ℕ) (i : ℕ) where
   four-bytes = omega arith
 
   -- a mark by its bytes
-  pub unlike-bytes :
+  pub other-mark-bytes :
       (mark : List ℕ)
       → (not (eqb (getD b (i + 0) 0) (getD mark 0 0))
       || not (eqb (getD b (i + 1) 0) (getD mark 1 0))
       || not (eqb (getD b (i + 2) 0) (getD mark 2 0)))
       ≡ otherMark mark b i
   unfolding otherMark anyOver joined
-  unlike-bytes mark = refl
+  other-mark-bytes mark = refl
 
 -- the mark stands there exactly when each of its bytes does
 pub alike : (mark b : List ℕ) (i : ℕ) → (otherMark mark b i ≡ false) ↔ ((k : ℕ) → k < markSize → getD b (i + k) 0 ≡ getD mark k 0)
@@ -64,9 +64,9 @@ module _ (a b : List ℕ) (i j : ℕ) where
   unfolding fourAt
   four-same h = number-same 4 h
 
-  pub unlike-same : (mark : List ℕ) → ((k : ℕ) → k < markSize → getD a (i + k) 0 ≡ getD b (j + k) 0) → otherMark mark a i ≡ otherMark mark b j
+  pub other-mark-same : (mark : List ℕ) → ((k : ℕ) → k < markSize → getD a (i + k) 0 ≡ getD b (j + k) 0) → otherMark mark a i ≡ otherMark mark b j
   unfolding otherMark
-  unlike-same mark h = any-cong _ _ markSize (λ k l. ap (λ (x : ℕ). not (eqb x (getD mark k 0))) (h k l))
+  other-mark-same mark h = any-cong _ _ markSize (λ k l. ap (λ (x : ℕ). not (eqb x (getD mark k 0))) (h k l))
 
 -- what a loop that lays bytes over others keeps: the first i are there
 pub record Laid (d : List ℕ) (at : ℕ) (b : List ℕ) (n i : ℕ) (out : List ℕ) : Type 0 where

@@ -13,7 +13,7 @@ use Rattle.ranges.specs.Ranges.{numberIf}
 use Rattle.answers.specs.Ruling.{yearOut, levelOut}
 use Rattle.answers.specs.Said.{Said, only}
 use Rattle.encoding.specs.Bytes.{markSize, otherMark, formatVersion, twoAt}
-use Rattle.encoding.proofs.Bytes.{two-same, unlike-same}
+use Rattle.encoding.proofs.Bytes.{two-same, other-mark-same}
 use Rattle.fields.specs.Layout.{Field}
 use Rattle.fields.specs.Common.{markField, versionField, yearField, levelField}
 
@@ -26,7 +26,7 @@ one-same b c i h = rw (add-zero i) at (h 0 (omega arith))
 
 pub mark-own : (m : List ℕ) → Own (markField m) markSize
 unfolding markField
-mark-own m b c i h = ap (λ (t : Bool). numberIf t 12) (unlike-same b c i i m h)
+mark-own m b c i h = ap (λ (t : Bool). numberIf t 12) (other-mark-same b c i i m h)
 
 pub version-own : Own versionField 2
 unfolding versionField

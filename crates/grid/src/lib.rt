@@ -3,6 +3,7 @@
 // Main theorem: each number is answered exactly when its row holds (`windows-exactly`, proofs/Exactly).
 ghost use mathlib.Core.Path.{_≡_};
 ghost use lib.ListN.{length};
+ghost use Rattle.readings.specs.Legal.{highestOf};
 ghost use Rattle.sheet.specs.Answers.{saidOfSheet};
 ghost use Rattle.sheet.specs.Windows.{flatWindows};
 ghost use Rattle.grid.specs.Answers.{saidOfGrid, Gives, finishAnswer, finished, windowsAnswer, windowsBuffer};
@@ -49,18 +50,19 @@ fn flat_windows(
     out
 }
 
-// What curves are answered once all days are in: 7 for a peak of zero, else the windows are chosen and their sheet is
-// written into a lent buffer. Any curves have an answer.
-pub fn finish(
+// What curves are answered whose highest value is known: 7 for a peak of zero, else the windows are chosen and their
+// sheet is written.
+fn finish_by(
     year: u16,
     level: u8,
     curves: &[u32; sheet::WINDOW_PLACES],
+    peak: u32,
     out: &mut [u8],
 ) -> GridAnswer
+    requires { ⌜ peak ≡ highestOf (now curves) ⌝ }
     ensures { λ r. ⌜ Gives r (finishAnswer year level (now (curves .entry)) (length (now (out .entry))))
         (now (out .exit)) (finished year level (now (curves .entry)) (now (out .entry))) ⌝ }
 {
-    let peak = legal_readings::highest(curves);
     if peak == 0 {
         return GridAnswer::NoPeak;
     }
@@ -73,6 +75,20 @@ pub fn finish(
         },
         out,
     ))
+}
+
+// What curves are answered once all days are in: 7 for a peak of zero, else the sheet of their windows in a lent
+// buffer. Any curves have an answer.
+pub fn finish(
+    year: u16,
+    level: u8,
+    curves: &[u32; sheet::WINDOW_PLACES],
+    out: &mut [u8],
+) -> GridAnswer
+    ensures { λ r. ⌜ Gives r (finishAnswer year level (now (curves .entry)) (length (now (out .entry))))
+        (now (out .exit)) (finished year level (now (curves .entry)) (now (out .entry))) ⌝ }
+{
+    finish_by(year, level, curves, legal_readings::highest(curves), out)
 }
 
 // The windows of a whole series, as a sheet in a lent buffer. Refuses 14, 1, 2, 4, 5, 7 in this order, and then changes
@@ -103,5 +119,5 @@ pub fn windows(year: u16, level: u8, series: &[u32], out: &mut [u8]) -> GridAnsw
             answers::GRID_MOST,
         ));
     }
-    finish(year, level, &curves, out)
+    finish_by(year, level, &curves, peak, out)
 }

@@ -13,6 +13,7 @@ use lib.Dec.{eqb, ltb}
 use lib.ListN.{length, getD, set, take, drop, length-set}
 use lib.Seq.{getD-set-same, getD-set-other, getD-take, getD-drop}
 use Rattle.ranges.specs.Ranges.{largestOver, numberIf, table}
+use Rattle.ranges.proofs.Inside.{number-if-none}
 use Rattle.ranges.proofs.Largest.{largest-none, largest-more, largest-add, largest-above, largest-le, largest-cong, largest-rest}
 use Rattle.ranges.proofs.Tables.{is-table, getD-table, table-cong}
 use Rattle.answers.specs.Ruling.{dayQuarters}
@@ -24,10 +25,6 @@ use Rattle.sheet.specs.Windows.{windowPlaces}
 use Rattle.grid_curves.specs.Curves.{inSeason, topOf, curveAt, flatCurves}
 use Rattle.grid_curves.specs.Four.{fourDays, fourTop, overlaid}
 use Rattle.grid_curves.proofs.Curves.{curves-long}
-
-counted-none : (b : Bool) → numberIf b 0 ≡ 0
-counted-none true = refl
-counted-none false = refl
 
 module _ (s : ℕ) (flat four : List ℕ) where
   -- what the first q quarters bring to place i of the curves
@@ -42,7 +39,7 @@ module _ (s : ℕ) (flat four : List ℕ) where
 
   pub over-none : Over 0 flat
   over-none =
-      record { some = omega arith; long = refl; each = λ i l. simp (le-ltb (i % dayQuarters) 0 (omega arith), counted-none) (omega arith) }
+      record { some = omega arith; long = refl; each = λ i l. simp (le-ltb (i % dayQuarters) 0 (omega arith), number-if-none) (omega arith) }
 
   pub over-all : {q : ℕ} {out : List ℕ} → Over q out → dayQuarters ≤ q → out ≡ overlaid s flat four
   unfolding overlaid
@@ -145,9 +142,9 @@ four-top four q =
     (λ i. max (max (sym a i) (sym b i)) (max (sym c i) (sym d i))) ∙ max-pairs (g 0) (g 1) (g 2) (g 3) ∙ sym (largest-four g)
 
 -- a test of all is a test of each
-counted-largest : (b : Bool) (g : ℕ → ℕ) (n : ℕ) → numberIf b (largestOver g n) ≡ largestOver (λ k. numberIf b (g k)) n
-counted-largest true g n = refl
-counted-largest false g n = sym (largest-none _) ∙ largest-rest (λ k. 0) 0 n (omega arith) (λ k a l. refl)
+number-if-largest : (b : Bool) (g : ℕ → ℕ) (n : ℕ) → numberIf b (largestOver g n) ≡ largestOver (λ k. numberIf b (g k)) n
+number-if-largest true g n = refl
+number-if-largest false g n = sym (largest-none _) ∙ largest-rest (λ k. 0) 0 n (omega arith) (λ k a l. refl)
 
 -- four days of one season more
 module _
@@ -175,7 +172,7 @@ module _
     unfolding curveAt fourTop
     four-value t q m =
         ap (max (largestOver (λ k. topOf y k (reading (Period y) xs k) t q) d))
-        (counted-largest (eqb s t) (λ k. getD four (dayQuarters * k + q) 0) 4 ∙ largest-cong _ _ 4 (λ k l. sym (brings k q t l m)))
+        (number-if-largest (eqb s t) (λ k. getD four (dayQuarters * k + q) 0) 4 ∙ largest-cong _ _ 4 (λ k l. sym (brings k q t l m)))
         ∙ sym (largest-add (λ k. topOf y k (reading (Period y) xs k) t q) d 4)
 
     pub four-more : {flat : List ℕ} → flat ≡ flatCurves y xs d → overlaid s flat four ≡ flatCurves y xs (d + 4)

@@ -10,6 +10,7 @@ use native.Mathlib.Omega.{arith}
 use borrow.Author.Tests.{eqb-true}
 use lib.Dec.{eqb}
 use Rattle.ranges.specs.Ranges.{numberIf}
+use Rattle.ranges.proofs.Inside.{number-if-low}
 use Rattle.ranges.proofs.Largest.{largest-le}
 use Rattle.periods.specs.Period.{periodSeason}
 use Rattle.readings.specs.declared.Run.{Run}
@@ -52,10 +53,6 @@ module _ {run : Run} {xs : List ℕ} {n c v on at : ℕ} (o : OneOther run xs n 
       le-antisymm (largest-le _ n v (λ d l. largest-le _ (dayLen run d) v (λ p m. other-high d p l m)))
       (omega (arith, o .there, reading-le run xs n on at (o .on-in) (o .at-in)))
 
-counted-low : (b : Bool) {v w : ℕ} → (b ≡ true → v ≤ w) → numberIf b v ≤ w
-counted-low true h = h refl
-counted-low false h = omega arith
-
 module _ (y : ℕ) {xs : List ℕ} {n c v on at : ℕ} (o : OneOther (Period y) xs n c v on at) where
   -- the curve that the other reading goes into
   pub curve-there : curveAt y xs n (periodSeason y (on + 1)) (quarterOf (Period y) on at) ≡ v
@@ -76,8 +73,8 @@ module _ (y : ℕ) {xs : List ℕ} {n c v on at : ℕ} (o : OneOther (Period y) 
   curve-else s q d p l m es eq other =
       le-antisymm
       (largest-le _ n c
-      (λ e h. counted-low (inSeason y e s) (λ a. largest-le _ (dayLen (Period y) e) c
-      (λ r k. counted-low (eqb (quarterOf (Period y) e r) q) (λ b. top e r h k a b)))))
+      (λ e h. number-if-low (inSeason y e s) (λ a. largest-le _ (dayLen (Period y) e) c
+      (λ r k. number-if-low (eqb (quarterOf (Period y) e r) q) (λ b. top e r h k a b)))))
       (omega (arith, other-low o d p l m, rw (es, eq) at (in-curve y xs n d p l m)))
     where
       -- a reading that goes into this curve is not the other one

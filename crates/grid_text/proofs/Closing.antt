@@ -22,24 +22,24 @@ use Rattle.grid_file.specs.GridMachine.{closedGrid}
 use Rattle.grid_text.specs.Text.{sheetText, windowLines}
 
 -- an answer without figures
-abbrev Bare : Said → Type 0
-Bare x = only (x .number) ≡ x
+abbrev Only : Said → Type 0
+Only x = only (x .number) ≡ x
 
-bare-of : (b : Bool) (x y : Said) → Bare x → Bare y → Bare (cond b x y)
-bare-of true x y h k = h
-bare-of false x y h k = k
+only-of : (b : Bool) (x y : Said) → Only x → Only y → Only (cond b x y)
+only-of true x y h k = h
+only-of false x y h k = k
 
-close-bare : (g : Grid) (room : ℕ) → Bare (gridCloseAnswer g room)
+close-only : (g : Grid) (room : ℕ) → Only (gridCloseAnswer g room)
 unfolding gridCloseAnswer finishAnswer writeAnswer
-close-bare g room =
+close-only g room =
     let s = sheetOf (g .year) (g .level) (g .curves) in
-    bare-of (ltb room sheetSize) (only 14) _ refl
-    (bare-of (not (eqb (g .seen) (periodDays (g .year)))) (only 13) _ refl
-    (bare-of (eqb (highestOf (g .curves)) 0) (only 7) _ refl
-    (bare-of (ltb room sheetSize) (only 14) _ refl
-    (bare-of (yearOut (s .year)) (only 1) _ refl
-    (bare-of (levelOut (s .level)) (only 2) _ refl
-    (bare-of (tooFull (s .windows)) (only 12) (only 0) refl refl))))))
+    only-of (ltb room sheetSize) (only 14) _ refl
+    (only-of (not (eqb (g .seen) (periodDays (g .year)))) (only 13) _ refl
+    (only-of (eqb (highestOf (g .curves)) 0) (only 7) _ refl
+    (only-of (ltb room sheetSize) (only 14) _ refl
+    (only-of (yearOut (s .year)) (only 1) _ refl
+    (only-of (levelOut (s .level)) (only 2) _ refl
+    (only-of (tooFull (s .windows)) (only 12) (only 0) refl refl))))))
 
 module _ (g : Grid) where
   abbrev said : Said
@@ -48,7 +48,7 @@ module _ (g : Grid) where
   pub closed-refused : {n : ℕ} → n ≡ said .number → (n ≡ 0 → ⊥) → refusedLine (n ∷ []) ≡ windowLines (closedGrid g)
   unfolding windowLines
   closed-refused {n} e z =
-      let bare : only n ≡ said = ap only e ∙ close-bare g sheetSize in
+      let bare : only n ≡ said = ap only e ∙ close-only g sheetSize in
       simp (← bare, ne-eqb n 0 z)
 
   pub closed-done : said .number ≡ 0 → sheetText (readSheet (gridCloseBuffer g blankSheet)) ≡ windowLines (closedGrid g)

@@ -198,8 +198,8 @@ module _ (b bytes : List ℕ) (h : Same (size bytes) b bytes) (f : size bytes �
   prices-same : pricesIn b ≡ pricesIn bytes
   prices-same =
       λ i. record {
-        low = record { capacity = price-same 0 (omega arith) i; energy = price-same 1 (omega arith) i };
-        high = record { capacity = price-same 2 (omega arith) i; energy = price-same 3 (omega arith) i };
+        few = record { capacity = price-same 0 (omega arith) i; energy = price-same 1 (omega arith) i };
+        many = record { capacity = price-same 2 (omega arith) i; energy = price-same 3 (omega arith) i };
       }
 
   option-same : optionOf b ≡ optionOf bytes

@@ -14,7 +14,7 @@ use Rattle.ranges.proofs.Tests.{any-fails, Passed}
 use Rattle.answers.specs.Ruling.{yearOut, levelOut, capacityOut, energyOut}
 use Rattle.answers.specs.Said.{only}
 use Rattle.encoding.specs.Bytes.{twoAt, versionOut}
-use Rattle.encoding.proofs.Bytes.{two-same, unlike-same}
+use Rattle.encoding.proofs.Bytes.{two-same, other-mark-same}
 use Rattle.holidays.specs.Holidays.{badEntry, badHolidays}
 use Rattle.holidays.proofs.Lists.{bad-none}
 use Rattle.sheet.specs.Rows.{Formed}
@@ -66,7 +66,7 @@ module _ (bytes : List ℕ) where
 
   -- the number of each field, by the test that the opening makes: the sheet
   pub mark-tested : numberIf (unmarked sheet) 12 ≡ l .refusal 2
-  mark-tested = mark-no bytes sheetPlace mark (unlike-same sheet bytes 0 sheetPlace mark (λ k o. byte 0 k (omega arith))) ∙ refusal-first bytes 2 (omega arith)
+  mark-tested = mark-no bytes sheetPlace mark (other-mark-same sheet bytes 0 sheetPlace mark (λ k o. byte 0 k (omega arith))) ∙ refusal-first bytes 2 (omega arith)
 
   pub version-tested : numberIf (versionOut sheet versionAt) 12 ≡ l .refusal 3
   version-tested = version-no bytes 8 (two versionAt (omega arith)) ∙ refusal-first bytes 3 (omega arith)

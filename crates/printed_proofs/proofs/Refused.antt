@@ -119,8 +119,8 @@ module _ (bytes : List ℕ) where
     unfolding pricesOut rowOut
     prices-out zero t = rw t
     prices-out (suc zero) t = rw (t, or-true (priceOut bytes 0))
-    prices-out (suc (suc zero)) t = rw (t, or-true (rowOut (p .low)))
-    prices-out (suc (suc (suc zero))) t = rw (t, or-true (priceOut bytes 2), or-true (rowOut (p .low)))
+    prices-out (suc (suc zero)) t = rw (t, or-true (rowOut (p .few)))
+    prices-out (suc (suc (suc zero))) t = rw (t, or-true (priceOut bytes 2), or-true (rowOut (p .few)))
     prices-out (suc (suc (suc (suc j)))) t = absurd (clash t refl)
 
     price-once : (j : ℕ) → j < 4 → Once (12 + (n + j))

@@ -1,4 +1,4 @@
--- Laws of `largestIn` and `placeIn`: the largest value at the places that pass a test, and the first of them that has
+-- Laws of `numberIf`, `largestIn` and `placeIn`: the largest value at the places that pass a test, and the first of them that has
 -- it. The test and the function are the first explicit arguments.
 -- Assumes nothing.
 use mathlib.Core.Path.{_≡_, refl, sym, ap, ap₂, _∙_}
@@ -14,19 +14,27 @@ use Rattle.ranges.proofs.Largest.{Reached, at, largest-none, largest-mo
 use Rattle.ranges.proofs.Tests.{all-passed, any-at}
 use Rattle.ranges.proofs.First.{first-at, first-le, first-below, first-holds, first-cong, any-first}
 
-counted-yes : {b : Bool} (v : ℕ) → b ≡ true → numberIf b v ≡ v
-counted-yes v e = rw e
+number-if-yes : {b : Bool} (v : ℕ) → b ≡ true → numberIf b v ≡ v
+number-if-yes v e = rw e
 
-counted-no : {b : Bool} (v : ℕ) → b ≡ false → numberIf b v ≡ 0
-counted-no v e = rw e
+number-if-no : {b : Bool} (v : ℕ) → b ≡ false → numberIf b v ≡ 0
+number-if-no v e = rw e
 
-counted-cong : (b : Bool) (x y : ℕ) → (b ≡ true → x ≡ y) → numberIf b x ≡ numberIf b y
-counted-cong true x y h = h refl
-counted-cong false x y h = refl
+number-if-cong : (b : Bool) (x y : ℕ) → (b ≡ true → x ≡ y) → numberIf b x ≡ numberIf b y
+number-if-cong true x y h = h refl
+number-if-cong false x y h = refl
 
-counted-mono : (b : Bool) (x y : ℕ) → (b ≡ true → x ≤ y) → numberIf b x ≤ numberIf b y
-counted-mono true x y h = h refl
-counted-mono false x y h = omega arith
+pub number-if-none : (b : Bool) → numberIf b 0 ≡ 0
+number-if-none true = refl
+number-if-none false = refl
+
+pub number-if-low : (b : Bool) {v w : ℕ} → (b ≡ true → v ≤ w) → numberIf b v ≤ w
+number-if-low true h = h refl
+number-if-low false h = omega arith
+
+number-if-mono : (b : Bool) (x y : ℕ) → (b ≡ true → x ≤ y) → numberIf b x ≤ numberIf b y
+number-if-mono true x y h = h refl
+number-if-mono false x y h = omega arith
 
 -- a place that passes the test and has the value
 and-cong : (b : Bool) (x y h k : ℕ) → (b ≡ true → x ≡ y) → h ≡ k → (b && eqb x h) ≡ (b && eqb y k)
@@ -46,12 +54,12 @@ module _ (p : ℕ → Bool) (f : ℕ → ℕ) where
   pub in-nowhere : (n : ℕ) → anyOver p n ≡ false → largestIn p f n ≡ 0
   unfolding largestIn
   in-nowhere n e =
-      omega (arith, largest-le (λ k. numberIf (p k) (f k)) n 0 (λ k l. omega (arith, counted-no (f k) (all-passed p n e .fails k l))))
+      omega (arith, largest-le (λ k. numberIf (p k) (f k)) n 0 (λ k l. omega (arith, number-if-no (f k) (all-passed p n e .fails k l))))
 
   -- no value at a place that passes is above the largest
   pub in-above : (n k : ℕ) → k < n → p k ≡ true → f k ≤ largestIn p f n
   unfolding largestIn
-  in-above n k l t = omega (arith, largest-above (λ i. numberIf (p i) (f i)) n k l, counted-yes (f k) t)
+  in-above n k l t = omega (arith, largest-above (λ i. numberIf (p i) (f i)) n k l, number-if-yes (f k) t)
 
   -- a bound of the values at these places bounds the largest
   pub in-le : (n b : ℕ) → ((k : ℕ) → k < n → p k ≡ true → f k ≤ b) → largestIn p f n ≤ b
@@ -59,8 +67,8 @@ module _ (p : ℕ → Bool) (f : ℕ → ℕ) where
   in-le n b h = largest-le (λ k. numberIf (p k) (f k)) n b (λ k l. go k l (p k) refl)
     where
       go : (k : ℕ) → k < n → (t : Bool) → p k ≡ t → numberIf (p k) (f k) ≤ b
-      go k l true t = omega (arith, counted-yes (f k) t, h k l t)
-      go k l false t = omega (arith, counted-no (f k) t)
+      go k l true t = omega (arith, number-if-yes (f k) t, h k l t)
+      go k l false t = omega (arith, number-if-no (f k) t)
 
   module _ (n : ℕ) where
     abbrev there : ℕ → Bool
@@ -81,8 +89,8 @@ module _ (p : ℕ → Bool) (f : ℕ → ℕ) where
         up b (at k l e) = inside (p k) refl
           where
             inside : (t : Bool) → p k ≡ t → placeIn p f n < n
-            inside true t = hit k l t (sym (counted-yes (f k) t) ∙ e)
-            inside false t = absurd (omega (arith, counted-no (f k) t))
+            inside true t = hit k l t (sym (number-if-yes (f k) t) ∙ e)
+            inside false t = absurd (omega (arith, number-if-no (f k) t))
 
         go : Dec (0 < largestIn p f n) → placeIn p f n < n
         go (no z) =
@@ -115,7 +123,7 @@ module _ (p : ℕ → Bool) (f : ℕ → ℕ) where
 module _ (p q : ℕ → Bool) (f g : ℕ → ℕ) (n : ℕ) (same : (k : ℕ) → k < n → p k ≡ q k) (equal : (k : ℕ) → k < n → q k ≡ true → f k ≡ g k) where
   pub in-cong : largestIn p f n ≡ largestIn q g n
   unfolding largestIn
-  in-cong = largest-cong _ _ n (λ k l. rw (same k l) (counted-cong (q k) (f k) (g k) (equal k l)))
+  in-cong = largest-cong _ _ n (λ k l. rw (same k l) (number-if-cong (q k) (f k) (g k) (equal k l)))
 
   pub place-cong : placeIn p f n ≡ placeIn q g n
   unfolding placeIn
@@ -124,7 +132,7 @@ module _ (p q : ℕ → Bool) (f g : ℕ → ℕ) (n : ℕ) (same : (k : ℕ) �
 -- no value at these places is higher
 pub in-mono : (p : ℕ → Bool) (f g : ℕ → ℕ) (n : ℕ) → ((k : ℕ) → k < n → p k ≡ true → f k ≤ g k) → largestIn p f n ≤ largestIn p g n
 unfolding largestIn
-in-mono p f g n h = largest-mono _ _ n (λ k l. counted-mono (p k) (f k) (g k) (h k l))
+in-mono p f g n h = largest-mono _ _ n (λ k l. number-if-mono (p k) (f k) (g k) (h k l))
 
 -- one place more: the test that tells whether it is the first place of the largest value, and what follows
 abbrev pub newer : (ℕ → Bool) → (ℕ → ℕ) → ℕ → Bool
@@ -156,7 +164,7 @@ module _ (p : ℕ → Bool) (f : ℕ → ℕ) (n : ℕ) where
   next-moves : p n ≡ true → ((k : ℕ) → k < n → p k ≡ true → f k < f n) → Next p f n (f n) n
   unfolding placeIn
   next-moves t h =
-      let e : largestIn p f (n + 1) ≡ f n = omega (arith, in-more p f n, in-le p f n (f n) (λ k l u. omega (arith, h k l u)), counted-yes (f n) t) in
+      let e : largestIn p f (n + 1) ≡ f n = omega (arith, in-more p f n, in-le p f n (f n) (λ k l u. omega (arith, h k l u)), number-if-yes (f n) t) in
       record {
         value-is = e;
         place-is =
@@ -172,7 +180,7 @@ module _ (p : ℕ → Bool) (f : ℕ → ℕ) (n : ℕ) where
   placed = go (anyOver p n) refl (p n) refl (decLt (largestIn p f n) (f n))
     where
       go : (s : Bool) → anyOver p n ≡ s → (t : Bool) → p n ≡ t → Dec (largestIn p f n < f n) → Placed p f n
-      go false s false t d = nowhere s t (omega (arith, in-more p f n, counted-no (f n) t))
+      go false s false t d = nowhere s t (omega (arith, in-more p f n, number-if-no (f n) t))
       go true s false t d = stays s (rw t) (next-stays s (rw t (omega arith)))
       go false s true t d = moves t (rw (t, s)) (next-moves t (λ k l e. absurd (clash e (all-passed p n s .fails k l))))
       go true s true t (yes l) = moves t (rw (t, s, lt-ltb _ _ l)) (next-moves t (λ k m e. omega (arith, in-above p f n k m e)))

@@ -25,13 +25,13 @@ pub number-is : {a b : Said} → a ≡ b → a .number ≡ b .number
 number-is e = ap (λ (s : Said). s .number) e
 
 -- 6 where a test passes, else an answer with the number 0: what is given tells which
-told-six : (t : Bool) (x : Said) → x .number ≡ 0 → only 6 ≡ cond t (only 6) x → t ≡ true
-told-six true x z e = refl
-told-six false x z e = absurd (omega (arith, number-is e, z))
+six-said : (t : Bool) (x : Said) → x .number ≡ 0 → only 6 ≡ cond t (only 6) x → t ≡ true
+six-said true x z e = refl
+six-said false x z e = absurd (omega (arith, number-is e, z))
 
-told-else : (t : Bool) {a x : Said} → a .number ≡ 0 → a ≡ cond t (only 6) x → (t ≡ false) × (a ≡ x)
-told-else true z e = absurd (omega (arith, number-is e, z))
-told-else false z e = (refl, e)
+else-said : (t : Bool) {a x : Said} → a .number ≡ 0 → a ≡ cond t (only 6) x → (t ≡ false) × (a ≡ x)
+else-said true z e = absurd (omega (arith, number-is e, z))
+else-said false z e = (refl, e)
 
 -- the charges c and g among the figures of an answer
 abbrev chargesFrom : Said → TwoCharges
@@ -58,19 +58,19 @@ module _ (f : Figures) (r : Rates) where
   -- and read off what they say: 6 is given for a price alone, and cents are the charges of legal prices
   pub general-six : only 6 ≡ generalAnswer f r → pricesOut (r .prices) ≡ true
   unfolding generalAnswer
-  general-six e = told-six (pricesOut (r .prices)) (withGeneral (general f r)) refl e
+  general-six e = six-said (pricesOut (r .prices)) (withGeneral (general f r)) refl e
 
   pub general-cents : {g : ℕ} → withGeneral g ≡ generalAnswer f r → (pricesOut (r .prices) ≡ false) × (g ≡ general f r)
   unfolding generalAnswer
-  general-cents e = let k = told-else (pricesOut (r .prices)) refl e in (k .0, ap payable (k .1))
+  general-cents e = let k = else-said (pricesOut (r .prices)) refl e in (k .0, ap payable (k .1))
 
   pub charges-six : only 6 ≡ chargesAnswer f r → pricesOut (r .prices) ≡ true
   unfolding chargesAnswer
-  charges-six e = told-six (pricesOut (r .prices)) (withCharges (chargesOf f r)) refl e
+  charges-six e = six-said (pricesOut (r .prices)) (withCharges (chargesOf f r)) refl e
 
   pub charges-cents : {a : TwoCharges} → withCharges a ≡ chargesAnswer f r → (pricesOut (r .prices) ≡ false) × (a ≡ chargesOf f r)
   unfolding chargesAnswer
-  charges-cents e = let k = told-else (pricesOut (r .prices)) refl e in (k .0, ap chargesFrom (k .1))
+  charges-cents e = let k = else-said (pricesOut (r .prices)) refl e in (k .0, ap chargesFrom (k .1))
 
 -- the rules of the first half
 module _ (f : Figures) (r : Rates) {g : ℕ} (e : g ≡ general f r) where

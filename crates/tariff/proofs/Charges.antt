@@ -65,8 +65,8 @@ charge-most power row sum hp h hs =
 
 -- each row of legal prices is legal
 row-in : (p : Prices) (low : Bool) → LegalPrices p → LegalRow (rowOf p low)
-row-in p true h = h .low
-row-in p false h = h .high
+row-in p true h = h .few
+row-in p false h = h .many
 
 pub general-most :
     (f : Figures) (r : Rates)

@@ -27,9 +27,9 @@ pub prices-legal : (p : Prices) → (pricesOut p ≡ false) ↔ LegalPrices p
 unfolding pricesOut
 prices-legal p = (
   λ e.
-      let n = neither (rowOut (p .low)) (rowOut (p .high)) e in
-      record { low = row-legal (p .low) .0 (n .0); high = row-legal (p .high) .0 (n .1) },
-  λ h. simp (row-legal (p .low) .1 (h .low), row-legal (p .high) .1 (h .high)),
+      let n = neither (rowOut (p .few)) (rowOut (p .many)) e in
+      record { few = row-legal (p .few) .0 (n .0); many = row-legal (p .many) .0 (n .1) },
+  λ h. simp (row-legal (p .few) .1 (h .few), row-legal (p .many) .1 (h .many)),
 )
 
 pub rates-legal : {r : Rates} → levelOut (r .level) ≡ false → pricesOut (r .prices) ≡ false → LegalRates r

@@ -18,14 +18,14 @@ use Rattle.tariff.specs.declared.Decision.the-variants.{Accepted, Eligib
 use Rattle.tariff.specs.Answers.{saidOf, saidOfGeneral, saidOfCharges}
 
 -- an answer that is told back from what it says is fixed by it
-told-back :
+back-again :
     {A : Type 0} (said : A → Said) (back : Said → A)
     → ((d : A) → back (said d) ≡ d)
     → {x : Said} {r s : A}
     → said r ≡ x
     → said s ≡ x
     → r ≡ s
-told-back said back same {x} {r} {s} p q = sym (same r) ∙ ap back (one-answer p q) ∙ same s
+back-again said back same {x} {r} {s} p q = sym (same r) ∙ ap back (one-answer p q) ∙ same s
 
 -- figure i of an answer, from 0, and the figures from figure i on
 abbrev figure : Said → ℕ → ℕ
@@ -76,7 +76,7 @@ back DayOut = refl
 
 -- nothing else meets a promise of `eligible`, `charge`, `judge`
 pub decision-only : {x : Said} {r s : Decision} → saidOf r ≡ x → saidOf s ≡ x → r ≡ s
-decision-only = told-back saidOf decisionBack back
+decision-only = back-again saidOf decisionBack back
 
 -- nor one of the calls for the charges alone
 abbrev generalBack : Said → General
@@ -87,7 +87,7 @@ general-back (Cents g) = refl
 general-back PriceOut = refl
 
 pub general-only : {x : Said} {r s : General} → saidOfGeneral r ≡ x → saidOfGeneral s ≡ x → r ≡ s
-general-only = told-back saidOfGeneral generalBack general-back
+general-only = back-again saidOfGeneral generalBack general-back
 
 abbrev chargesBack : Said → BothCharges
 chargesBack a = cond (eqb (a .number) 0) (Cents (record { charge = figure a 0; general = figure a 1 })) PriceOut
@@ -97,4 +97,4 @@ charges-back (Cents a) = refl
 charges-back PriceOut = refl
 
 pub charges-only : {x : Said} {r s : BothCharges} → saidOfCharges r ≡ x → saidOfCharges s ≡ x → r ≡ s
-charges-only = told-back saidOfCharges chargesBack charges-back
+charges-only = back-again saidOfCharges chargesBack charges-back

@@ -17,7 +17,7 @@ fewHours f = ltb (f .sum) (rowQuarters * f .peak)
 
 -- the low row where `low` is set, else the high row (Rule 2.5)
 abbrev pub rowOf : Prices → Bool → Row
-rowOf p low = cond low (p .low) (p .high)
+rowOf p low = cond low (p .few) (p .many)
 
 -- Charges are added up in parts, of which a cent has 4,000,000. One part is what one W in one quarter costs at a price
 -- of a thousandth of a cent for one kWh. One W of capacity costs 4,000 parts at a price of one cent for one kW a year.

@@ -12,7 +12,7 @@ rowOut row = capacityOut (row .capacity) || energyOut (row .energy)
 
 -- answer 6: one of the four prices of the list is above its limit
 unfoldable pub pricesOut : Prices → Bool
-pricesOut p = rowOut (p .low) || rowOut (p .high)
+pricesOut p = rowOut (p .few) || rowOut (p .many)
 
 -- a row, and a price list, within their limits
 pub record LegalRow (row : Row) : Type 0 where
@@ -20,5 +20,5 @@ pub record LegalRow (row : Row) : Type 0 where
   pub energy : row .energy ≤ energyMost
 
 pub record LegalPrices (p : Prices) : Type 0 where
-  pub low : LegalRow (p .low)
-  pub high : LegalRow (p .high)
+  pub few : LegalRow (p .few)
+  pub many : LegalRow (p .many)

@@ -12,10 +12,10 @@ pub struct Row {
     pub energy: u32,
 }
 
-// The low row is for customers with fewer than 2,500 hours of use, the high row for all others (Rule 2.5).
+// The low row, for customers with fewer than 2,500 hours of use, and the high row, for all others (Rule 2.5).
 pub struct Prices {
-    pub low: Row,
-    pub high: Row,
+    pub few: Row,
+    pub many: Row,
 }
 
 // What a year's figures are judged by: the sheet's charge year and level (a code from 1), the customer's option and the

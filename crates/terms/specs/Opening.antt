@@ -45,7 +45,7 @@ abbrev pub noRow : Row
 noRow = record { capacity = 0; energy = 0 }
 
 abbrev pub noRates : Rates
-noRates = record { year = 0; level = 0; option = false; prices = record { low = noRow; high = noRow } }
+noRates = record { year = 0; level = 0; option = false; prices = record { few = noRow; many = noRow } }
 
 abbrev pub noTerms : Terms
 noTerms =

@@ -70,11 +70,11 @@ fn no_terms() -> Terms
             level: 0,
             option: false,
             prices: Prices {
-                low: Row {
+                few: Row {
                     capacity: 0,
                     energy: 0,
                 },
-                high: Row {
+                many: Row {
                     capacity: 0,
                     energy: 0,
                 },

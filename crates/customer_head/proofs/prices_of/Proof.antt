@@ -19,11 +19,11 @@ returns c =
     let third : 63 + 2 * at .result + 8 ≡ pricesPlace b + 4 * 2 = omega (arith, at .ensures .0) in
     let fourth : 63 + 2 * at .result + 12 ≡ pricesPlace b + 4 * 3 = omega (arith, at .ensures .0) in
     λ i. record {
-      low = record {
+      few = record {
         capacity = (c .before .before .before .four-at .ensures ∙ ap (fourAt b) first) i;
         energy = (c .before .before .four-at2 .ensures ∙ ap (fourAt b) second) i;
       };
-      high = record {
+      many = record {
         capacity = (c .before .four-at3 .ensures ∙ ap (fourAt b) third) i;
         energy = (c .four-at4 .ensures ∙ ap (fourAt b) fourth) i;
       };

@@ -1,7 +1,7 @@
 -- `encoding::other_mark` meets its contract, byte by byte.
 -- Assumes nothing.
 use borrow.Author.Needs.{needs}
-use Rattle.encoding.proofs.Bytes.{unlike-bytes}
+use Rattle.encoding.proofs.Bytes.{other-mark-bytes}
 use Rattle.encoding.proofs.other_mark.Statement.{statement}
 use Rattle.encoding.proofs.other_mark.Tie as tie
 
@@ -10,7 +10,7 @@ returns c =
     let third = c .before in
     let second = third .before .before in
     let first = second .before .before in
-    rw (first .byte-at .ensures, second .byte-at2 .ensures, third .byte-at3 .ensures) (unlike-bytes _ _ _)
+    rw (first .byte-at .ensures, second .byte-at2 .ensures, third .byte-at3 .ensures) (other-mark-bytes _ _ _)
 
 pub other-mark-spec : {M : Type 1} → statement M
 other-mark-spec =

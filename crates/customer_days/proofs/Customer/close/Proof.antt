@@ -1,6 +1,6 @@
 -- `customer_days::Customer::close` meets its contract, a law for each return.
 -- Assumes nothing.
-use mathlib.Core.Path.{sym, _∙_}
+use native.Mathlib.Omega.{arith}
 use borrow.Author.Needs.{needs}
 use Rattle.customer_days.proofs.Steps.{close-early, close-judged}
 use Rattle.customer_days.proofs.Customer.close.Statement.{statement}
@@ -9,13 +9,13 @@ use Rattle.customer_days.proofs.Customer.close.Tie as tie
 returns : tie.Need-returns
 returns c =
     let days = c .before .before in
-    close-early (days .before .before .args .self) (λ e. c .if1 .taken (e ∙ sym (days .year-days .ensures)))
+    close-early (days .before .before .args .self) (λ e. omega (arith, days .year-days .ensures))
 
 returns-2 : tie.Need-returns-2
 returns-2 c =
     let full = c .before .before in
     let days = full .before .before in
-    close-judged (days .before .before .args .self) (full .if1 .left ∙ days .year-days .ensures) (c .judge .ensures)
+    close-judged (days .before .before .args .self) (omega (arith, days .year-days .ensures)) (c .judge .ensures)
 
 pub close-spec : {M : Type 1} → statement M
 close-spec =
