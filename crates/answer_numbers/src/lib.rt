@@ -39,9 +39,9 @@ pub fn with_place(place: Place) -> Numbers
 
 // The number, then the seven figures. The printed line is the first of these eight: the number and as many as `count`
 // says.
-pub fn line_of(flat: Numbers) -> [u64; 8]
-    ensures { λ r. ⌜ r ≡ flat .number ∷ flat .figures ⌝ }
+pub fn line_of(numbers: Numbers) -> [u64; 8]
+    ensures { λ r. ⌜ r ≡ numbers .number ∷ numbers .figures ⌝ }
 {
-    let f = flat.figures;
-    [flat.number, f[0], f[1], f[2], f[3], f[4], f[5], f[6]]
+    let f = numbers.figures;
+    [numbers.number, f[0], f[1], f[2], f[3], f[4], f[5], f[6]]
 }

@@ -6,8 +6,8 @@ use mathlib.Core.List.{List, [], _∷_, _++_}
 use Prim.Native.Nat.{ℕ, zero, suc, _+_, _-_, _*_, _≤_, _<_, min}
 use native.Mathlib.Decide.{decLt}
 use native.Mathlib.Omega.{arith}
-use borrow.Author.Tests.{eqb-true, leb-true}
-use lib.Dec.{leb, eqb}
+use borrow.Author.Tests.{eqb-true}
+use lib.Dec.{eqb}
 use lib.ListN.{length, getD, take, drop, length-take, length-drop, length-append, List·getD-append, List·getD-map, List·getD-eq-default}
 use lib.Seq.{getD-append-add, length-take-le, getD-take, getD-drop, ext-getD}
 use Rattle.ranges.specs.Ranges.{joined, sumOver, allOver, numberIf, table}
@@ -21,7 +21,7 @@ use Rattle.ranges.proofs.Sums.{sum-none, sum-suc, sum-add, sum-cong}
 use Rattle.ranges.proofs.Tests.{all-at}
 use Rattle.ranges.proofs.Tables.{length-table, getD-table}
 use Rattle.fields.proofs.Bytes.{part-at}
-use Rattle.fields.proofs.Header.{Fits, fits-by}
+use Rattle.fields.proofs.Header.{Fits, Tabled, tabled, fits-by}
 
 -- values that are all one number add up to a multiple of it
 sum-same : (f : ℕ → ℕ) (c n : ℕ) → ((k : ℕ) → k < n → f k ≡ c) → sumOver f n ≡ n * c
@@ -43,17 +43,9 @@ added-all : sumOver (λ j. getD firstWidths j 0) 12 ≡ 63
 unfolding sumOver joined
 added-all = refl
 
-width-some : (k : ℕ) → k < 12 → 1 ≤ getD firstWidths k 0
+in-table : (k : ℕ) → k < 12 → Tabled firstWidths firstStarts 12 63 k
 unfolding allOver joined
-width-some k l = leb-true _ _ (all-at (λ i. leb 1 (getD firstWidths i 0)) 12 refl k l)
-
-width-low : (k : ℕ) → k < 12 → getD firstWidths k 0 ≤ 12
-unfolding allOver joined
-width-low k l = leb-true _ _ (all-at (λ i. leb (getD firstWidths i 0) 12) 12 refl k l)
-
-start-low : (k : ℕ) → k < 12 → getD firstStarts k 0 + getD firstWidths k 0 ≤ 63
-unfolding allOver joined
-start-low k l = leb-true _ _ (all-at (λ i. leb (getD firstStarts i 0 + getD firstWidths i 0) 63) 12 refl k l)
+in-table k l = tabled firstWidths firstStarts 12 63 12 refl k l
 
 module _ (b : List ℕ) where
   abbrev n : ℕ
@@ -262,7 +254,7 @@ module _ (b : List ℕ) where
       go : Dec (k < 12) → Dec (k < 12 + n) → Dec (k < 16 + n) → Fits (customerLayout b) 12 customerHeadMost k
       go (yes l) h p =
           fits-by count-is (start-first k l) (width-first k l)
-          (width-low k l) (omega (arith, start-low k l)) (λ z. omega arith) (λ z. omega (arith, width-some k l))
+          (in-table k l .few) (omega (arith, in-table k l .room)) (λ z. omega arith) (λ z. omega (arith, in-table k l .some))
       go (no m) (yes l) p =
           fits-by count-is (start-holiday k (omega arith) (omega arith)) (width-holiday k (omega arith) l)
           (omega arith) (omega arith) (λ z. omega arith) (λ z. omega arith)

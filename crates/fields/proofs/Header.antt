@@ -2,18 +2,19 @@
 -- the cases of the header's answer.
 -- Assumes nothing.
 use mathlib.Core.Path.{_≡_, ap}
-use mathlib.Core.Bool.{true, false, not}
+use mathlib.Core.Bool.{Bool, true, false, not, _&&_}
 use mathlib.Core.List.{List}
 use Prim.Native.Nat.{ℕ, zero, suc, _+_, _≤_, _<_}
 use native.Mathlib.Numerals.{add-one}
 use native.Mathlib.Decide.{decLt}
 use native.Mathlib.Omega.{arith}
-use borrow.Author.Tests.{lt-ltb, le-ltb, eq-eqb, ne-eqb, ltb-false, eqb-true, not-false}
-use lib.Dec.{eqb}
-use lib.ListN.{length}
-use Rattle.ranges.proofs.Bools.{neither}
+use borrow.Author.Tests.{lt-ltb, le-ltb, eq-eqb, ne-eqb, ltb-false, eqb-true, leb-true, not-false}
+use lib.Dec.{leb, eqb}
+use lib.ListN.{length, getD}
+use Rattle.ranges.specs.Ranges.{allOver}
+use Rattle.ranges.proofs.Bools.{both, neither}
 use Rattle.ranges.proofs.Sums.{sum-none, sum-more, sum-cong}
-use Rattle.ranges.proofs.Tests.{Passed, passed-more}
+use Rattle.ranges.proofs.Tests.{all-at, Passed, passed-more}
 use Rattle.ranges.proofs.First.{first-at, first-fails}
 use Rattle.answers.specs.Said.{only}
 use Rattle.fields.specs.declared.Span.{Span}
@@ -66,6 +67,27 @@ pub record Fits (l : Layout) (most size k : ℕ) : Type 0 where
   pub room : startOf l k + l .width k ≤ size
   pub field : 0 < l .width k → k < l .count
   pub none : l .width k ≡ 0 → l .count ≤ k
+
+-- field k of a table of widths and a table of starts: it has a byte, at most `most`, and ends within `size` bytes
+pub record Tabled (widths starts : List ℕ) (most size k : ℕ) : Type 0 where
+  pub some : 1 ≤ getD widths k 0
+  pub few : getD widths k 0 ≤ most
+  pub room : getD starts k 0 + getD widths k 0 ≤ size
+
+-- for all fields by one computed test
+abbrev pub tabledAt : List ℕ → List ℕ → ℕ → ℕ → ℕ → Bool
+tabledAt widths starts most size k = leb 1 (getD widths k 0) && (leb (getD widths k 0) most && leb (getD starts k 0 + getD widths k 0) size)
+
+pub tabled :
+    (widths starts : List ℕ) (most size n : ℕ)
+    → allOver (tabledAt widths starts most size) n ≡ true
+    → (k : ℕ)
+    → k < n
+    → Tabled widths starts most size k
+tabled widths starts most size n e k l =
+    let first = both _ _ (all-at (tabledAt widths starts most size) n e k l) in
+    let rest = both _ _ (first .1) in
+    record { some = leb-true _ _ (first .0); few = leb-true _ _ (rest .0); room = leb-true _ _ (rest .1) }
 
 -- by the start, the width and the number of fields that a layout's laws work out
 pub fits-by :

@@ -6,15 +6,15 @@ use mathlib.Core.List.{List, [], _∷_}
 use Prim.Native.Nat.{ℕ, zero, suc, _+_, _≤_, _<_}
 use native.Mathlib.Decide.{decLt}
 use native.Mathlib.Omega.{arith}
-use borrow.Author.Tests.{eqb-true, leb-true}
-use lib.Dec.{leb, eqb}
+use borrow.Author.Tests.{eqb-true}
+use lib.Dec.{eqb}
 use lib.ListN.{getD, List·getD-eq-default}
 use Rattle.ranges.specs.Ranges.{joined, sumOver, allOver}
 use Rattle.ranges.proofs.Tests.{all-at}
 use Rattle.fields.specs.Layout.{Field, noField, fieldAt, widthAt, layoutOf, startOf}
 use Rattle.fields.specs.Common.{markField, versionField, yearField, levelField}
-use Rattle.fields.proofs.Header.{field-past, Fits, fits-by}
-use Rattle.grid_head.specs.Header.{gridFields, gridLayout}
+use Rattle.fields.proofs.Header.{field-past, Fits, Tabled, tabled, fits-by}
+use Rattle.grid_head.specs.Header.{gridFields, gridLayout, gridHeadMost}
 
 -- the widths of the fields, and the places where they start
 abbrev pub gridWidths : List ℕ
@@ -23,17 +23,9 @@ gridWidths = 3 ∷ 2 ∷ 2 ∷ 1 ∷ []
 abbrev pub gridStarts : List ℕ
 gridStarts = 0 ∷ 3 ∷ 5 ∷ 7 ∷ []
 
-width-some : (k : ℕ) → k < 4 → 1 ≤ getD gridWidths k 0
+in-table : (k : ℕ) → k < 4 → Tabled gridWidths gridStarts 3 gridHeadMost k
 unfolding allOver joined
-width-some k l = leb-true _ _ (all-at (λ i. leb 1 (getD gridWidths i 0)) 4 refl k l)
-
-width-low : (k : ℕ) → k < 4 → getD gridWidths k 0 ≤ 3
-unfolding allOver joined
-width-low k l = leb-true _ _ (all-at (λ i. leb (getD gridWidths i 0) 3) 4 refl k l)
-
-start-low : (k : ℕ) → k < 4 → getD gridStarts k 0 + getD gridWidths k 0 ≤ 8
-unfolding allOver joined
-start-low k l = leb-true _ _ (all-at (λ i. leb (getD gridStarts i 0 + getD gridWidths i 0) 8) 4 refl k l)
+in-table k l = tabled gridWidths gridStarts 3 gridHeadMost 4 refl k l
 
 module _ (b : List ℕ) where
   pub grid-count : gridLayout b .count ≡ 4
@@ -75,13 +67,13 @@ module _ (b : List ℕ) where
   pub start-none : (k : ℕ) → 4 ≤ k → 8 ≡ startOf (gridLayout b) k
   start-none k m = sym grid-size ∙ field-past (gridLayout b) 4 width-none k m
 
-  pub grid-fits : (k : ℕ) → Fits (gridLayout b) 3 8 k
+  pub grid-fits : (k : ℕ) → Fits (gridLayout b) 3 gridHeadMost k
   grid-fits k = go (decLt k 4)
     where
-      go : Dec (k < 4) → Fits (gridLayout b) 3 8 k
+      go : Dec (k < 4) → Fits (gridLayout b) 3 gridHeadMost k
       go (yes l) =
-          fits-by grid-count (grid-start k l) (grid-width k l) (width-low k l) (start-low k l)
-          (λ z. l) (λ z. absurd (omega (arith, width-some k l)))
+          fits-by grid-count (grid-start k l) (grid-width k l) (in-table k l .few) (in-table k l .room)
+          (λ z. l) (λ z. absurd (omega (arith, in-table k l .some)))
       go (no m) =
           fits-by grid-count (start-none k (omega arith)) (width-none k (omega arith)) (omega arith) (omega arith)
           (λ z. absurd (omega arith)) (λ z. omega arith)

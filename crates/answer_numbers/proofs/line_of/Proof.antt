@@ -10,8 +10,8 @@ use Rattle.answer_numbers.proofs.line_of.Tie as tie
 
 returns : tie.Need-returns
 returns c =
-    let flat = c .before .args .flat in
-    ap (λ (xs : List ℕ). flat .number ∷ xs) (seven-are (flat .figures) (search needs))
+    let numbers = c .before .args .numbers in
+    ap (λ (xs : List ℕ). numbers .number ∷ xs) (seven-are (numbers .figures) (search needs))
 
 pub line-of-spec : {M : Type 1} → statement M
 line-of-spec =
