@@ -22,7 +22,7 @@ use tariff::Decision;
 // taken, and where the machine stands.
 pub struct CustomerFile {
     pub field: usize,
-    pub head: [u8; customer_head::HEAD_MOST],
+    pub head: [u8; customer_head::CUSTOMER_HEAD_MOST],
     pub customer: Customer,
     pub stage: Stage,
 }
@@ -56,7 +56,7 @@ impl CustomerFile {
     pub fn start() -> CustomerFile
         ensures { λ r. ⌜ r ≡ customerStart ⌝ }
     {
-        let head = [0; customer_head::HEAD_MOST];
+        let head = [0; customer_head::CUSTOMER_HEAD_MOST];
         CustomerFile {
             field: 0,
             head,

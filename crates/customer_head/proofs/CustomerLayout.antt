@@ -16,7 +16,7 @@ use Rattle.encoding.specs.Bytes.{twoAt}
 use Rattle.sheet.specs.Bytes.{sheetSize}
 use Rattle.fields.specs.Layout.{Field, noField, fieldAt, widthAt, layoutOf, startOf, headSize}
 use Rattle.fields.specs.Common.{markField, versionField, yearField, levelField}
-use Rattle.customer_head.specs.Header.{customerHeadMost, sheetPlace, optionPlace, sheetPart, holidaysPlace, holidayCount, holidaysOf, pricesPlace, seasonField, optionField, countField, holidayOut, holidayField, capacityField, energyField, firstFields, priceFields, customerFields, customerLayout}
+use Rattle.customer_head.specs.Header.{customerHeadMost, sheetAt, optionAt, sheetPart, holidaysAt, holidayCount, holidaysOf, pricesAt, seasonField, optionField, countField, holidayOut, holidayField, capacityField, energyField, firstFields, priceFields, customerFields, customerLayout}
 use Rattle.ranges.proofs.Sums.{sum-none, sum-suc, sum-add, sum-cong}
 use Rattle.ranges.proofs.Tests.{all-at}
 use Rattle.ranges.proofs.Tables.{length-table, getD-table}
@@ -153,7 +153,7 @@ module _ (b : List ℕ) where
   unfolding customerLayout layoutOf holidayField
   holiday-refused j l = sym (ap (λ (f : Field). f .refusedAt (sumOver (widthAt fields) (12 + j))) (holiday-at j l))
 
-  pub price-refused : (j : ℕ) → j < 4 → fieldAt (priceFields b) j .refusedAt (pricesPlace b + 4 * j) ≡ customerLayout b .refusal (12 + (n + j))
+  pub price-refused : (j : ℕ) → j < 4 → fieldAt (priceFields b) j .refusedAt (pricesAt b + 4 * j) ≡ customerLayout b .refusal (12 + (n + j))
   unfolding customerLayout layoutOf
   price-refused j l = rw (price-at j, price-starts j (omega arith))
 
@@ -202,7 +202,7 @@ module _ (b : List ℕ) where
     here : 12 + holiday k ≡ k
     here = omega arith
 
-    pub start-holiday : k ≤ 12 + n → holidaysPlace + 2 * holiday k ≡ startOf (customerLayout b) k
+    pub start-holiday : k ≤ 12 + n → holidaysAt + 2 * holiday k ≡ startOf (customerLayout b) k
     unfolding customerLayout layoutOf startOf
     start-holiday l = sym (holiday-starts (holiday k) (omega arith)) ∙ ap (sumOver (widthAt fields)) here
 
@@ -218,7 +218,7 @@ module _ (b : List ℕ) where
     there : 12 + (n + price k) ≡ k
     there = omega arith
 
-    pub start-price : k ≤ 16 + n → pricesPlace b + 4 * price k ≡ startOf (customerLayout b) k
+    pub start-price : k ≤ 16 + n → pricesAt b + 4 * price k ≡ startOf (customerLayout b) k
     unfolding customerLayout layoutOf startOf
     start-price l = sym (price-starts (price k) (omega arith)) ∙ ap (sumOver (widthAt fields)) there
 
@@ -227,7 +227,7 @@ module _ (b : List ℕ) where
       unfolding customerLayout layoutOf
       width-price = sym (price-widths (price k) (omega arith)) ∙ ap (widthAt fields) there
 
-      pub refusal-price : fieldAt (priceFields b) (price k) .refusedAt (pricesPlace b + 4 * price k) ≡ customerLayout b .refusal k
+      pub refusal-price : fieldAt (priceFields b) (price k) .refusedAt (pricesAt b + 4 * price k) ≡ customerLayout b .refusal k
       refusal-price = price-refused (price k) (omega arith) ∙ ap (customerLayout b .refusal) there
 
     -- a price, or no field
@@ -266,14 +266,14 @@ module _ (b : List ℕ) where
           (omega arith) (omega arith) (λ z. omega arith) (λ z. omega arith)
 
   -- the holidays by their bytes; holiday j counts from 0
-  pub holiday-is : (j : ℕ) → j < n → twoAt b (holidaysPlace + 2 * j) ≡ getD (holidaysOf b) j 0
-  holiday-is j l = sym (getD-table (λ i. twoAt b (holidaysPlace + 2 * i)) n j 0 l)
+  pub holiday-is : (j : ℕ) → j < n → twoAt b (holidaysAt + 2 * j) ≡ getD (holidaysOf b) j 0
+  holiday-is j l = sym (getD-table (λ i. twoAt b (holidaysAt + 2 * i)) n j 0 l)
 
-  pub before-is : (j : ℕ) → (j ≡ 0 → ⊥) → j < n → twoAt b (holidaysPlace + 2 * (j - 1)) ≡ before (holidaysOf b) j
+  pub before-is : (j : ℕ) → (j ≡ 0 → ⊥) → j < n → twoAt b (holidaysAt + 2 * (j - 1)) ≡ before (holidaysOf b) j
   before-is zero z l = absurd (z refl)
   before-is (suc j) z l =
       let e : suc j - 1 ≡ j = omega arith in
-      ap (λ (i : ℕ). twoAt b (holidaysPlace + 2 * i)) e ∙ holiday-is j (omega arith)
+      ap (λ (i : ℕ). twoAt b (holidaysAt + 2 * i)) e ∙ holiday-is j (omega arith)
 
   -- the header's size
   pub size-is : headSize (customerLayout b) ≡ 79 + 2 * n
@@ -282,10 +282,10 @@ module _ (b : List ℕ) where
       ap (startOf (customerLayout b)) count-is ∙ omega arith
 
 -- the sheet, in a header that may end before it does
-held-size : (n : ℕ) → min optionPlace n - min sheetPlace n ≡ min sheetSize (n - sheetPlace)
+held-size : (n : ℕ) → min optionAt n - min sheetAt n ≡ min sheetSize (n - sheetAt)
 held-size n = omega arith
 
-held-start : (n i : ℕ) → i < min optionPlace n - min sheetPlace n → (min sheetPlace n + i ≡ sheetPlace + i) × (i < sheetSize)
+held-start : (n i : ℕ) → i < min optionAt n - min sheetAt n → (min sheetAt n + i ≡ sheetAt + i) × (i < sheetSize)
 held-start n i l = (omega arith, omega arith)
 
 module _ (b : List ℕ) where
@@ -293,10 +293,10 @@ module _ (b : List ℕ) where
   held = length b
 
   abbrev from : ℕ
-  from = min sheetPlace held
+  from = min sheetAt held
 
   abbrev size : ℕ
-  size = min optionPlace held - from
+  size = min optionAt held - from
 
   held-long : length (take size (drop from b)) ≡ size
   held-long = length-take-le size (drop from b) (omega (arith, length-drop from b))
@@ -304,10 +304,10 @@ module _ (b : List ℕ) where
   pub sheet-held : take size (drop from b) ≡ sheetPart b
   sheet-held =
       ext-getD 0 (take size (drop from b)) (sheetPart b)
-      (held-long ∙ held-size held ∙ sym (length-take sheetSize (drop sheetPlace b) ∙ ap (min sheetSize) (length-drop sheetPlace b)))
+      (held-long ∙ held-size held ∙ sym (length-take sheetSize (drop sheetAt b) ∙ ap (min sheetSize) (length-drop sheetAt b)))
       (λ i l.
       let h = held-start held i (omega (arith, held-long)) in
       getD-take size (drop from b) i 0 (omega (arith, held-long))
       ∙ getD-drop from b i 0
       ∙ ap (λ (j : ℕ). getD b j 0) (h .0)
-      ∙ sym (part-at b sheetPlace sheetSize i (h .1)))
+      ∙ sym (part-at b sheetAt sheetSize i (h .1)))

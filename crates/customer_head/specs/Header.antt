@@ -23,17 +23,17 @@ abbrev pub customerMark : List ℕ
 customerMark = 67 ∷ 85 ∷ 83 ∷ []
 
 -- the places of the sheet, the option, the number of holidays, and the holidays
-abbrev pub sheetPlace : ℕ
-sheetPlace = markSize + versionSize
+abbrev pub sheetAt : ℕ
+sheetAt = markSize + versionSize
 
-abbrev pub optionPlace : ℕ
-optionPlace = sheetPlace + sheetSize
+abbrev pub optionAt : ℕ
+optionAt = sheetAt + sheetSize
 
-abbrev pub countPlace : ℕ
-countPlace = optionPlace + 1
+abbrev pub countAt : ℕ
+countAt = optionAt + 1
 
-abbrev pub holidaysPlace : ℕ
-holidaysPlace = countPlace + 1
+abbrev pub holidaysAt : ℕ
+holidaysAt = countAt + 1
 
 -- a header has at most so many bytes: with forty holidays
 abbrev pub customerHeadMost : ℕ
@@ -41,29 +41,29 @@ customerHeadMost = 159
 
 -- the bytes of the sheet, its year, and whether the customer has the option
 abbrev pub sheetPart : List ℕ → List ℕ
-sheetPart b = part b sheetPlace sheetSize
+sheetPart b = part b sheetAt sheetSize
 
 abbrev pub customerYear : List ℕ → ℕ
-customerYear b = twoAt b (sheetPlace + yearAt)
+customerYear b = twoAt b (sheetAt + yearAt)
 
 abbrev pub optionOf : List ℕ → Bool
-optionOf b = eqb (getD b optionPlace 0) 1
+optionOf b = eqb (getD b optionAt 0) 1
 
 -- how many holidays there are (a number above 40 is refused itself, and never more than 40 are read), and the holidays,
 -- days of the year from 1
 abbrev pub holidayCount : List ℕ → ℕ
-holidayCount b = min holidaysMost (getD b countPlace 0)
+holidayCount b = min holidaysMost (getD b countAt 0)
 
 abbrev pub holidaysOf : List ℕ → List ℕ
-holidaysOf b = table (λ j. twoAt b (holidaysPlace + 2 * j)) (holidayCount b)
+holidaysOf b = table (λ j. twoAt b (holidaysAt + 2 * j)) (holidayCount b)
 
 -- the prices, four bytes each: the low row's for capacity, the low row's for energy, then both of the high row (Rule
 -- 10.3)
-abbrev pub pricesPlace : List ℕ → ℕ
-pricesPlace b = holidaysPlace + 2 * holidayCount b
+abbrev pub pricesAt : List ℕ → ℕ
+pricesAt b = holidaysAt + 2 * holidayCount b
 
 abbrev pub priceOf : List ℕ → ℕ → ℕ
-priceOf b j = fourAt b (pricesPlace b + 4 * j)
+priceOf b j = fourAt b (pricesAt b + 4 * j)
 
 abbrev pub pricesIn : List ℕ → Prices
 pricesIn b =

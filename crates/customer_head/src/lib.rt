@@ -53,7 +53,7 @@ const PRICE_BYTES: usize = 4;
 
 const PRICES_SIZE: usize = 16;
 
-pub const HEAD_MOST: usize = 159;
+pub const CUSTOMER_HEAD_MOST: usize = 159;
 
 // The smaller of two numbers.
 fn least(a: usize, b: usize) -> usize
@@ -112,13 +112,13 @@ fn first_fails(head: &[u8], k: usize) -> bool
         return encoding::other_mark(head, 0, b"CUS");
     }
     if k < 2 {
-        return encoding::two_at(head, VERSION_AT) != encoding::VERSION;
+        return encoding::two_at(head, VERSION_AT) != encoding::FORMAT_VERSION;
     }
     if k < 3 {
         return encoding::other_mark(head, SHEET_AT, b"HLZ");
     }
     if k < 4 {
-        return encoding::two_at(head, SHEET_VERSION_AT) != encoding::VERSION;
+        return encoding::two_at(head, SHEET_VERSION_AT) != encoding::FORMAT_VERSION;
     }
     if k < 5 {
         return answers::year_out(encoding::two_at(head, YEAR_AT));

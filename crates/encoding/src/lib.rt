@@ -10,7 +10,7 @@ ghost use Rattle.encoding.specs.Bytes.{otherMark};
 // How many bytes a mark has, and the one version of sheets and files.
 pub const MARK_SIZE: usize = 3;
 
-pub const VERSION: u16 = 1;
+pub const FORMAT_VERSION: u16 = 1;
 
 // The version's two bytes.
 pub const VERSION_HIGH: u8 = 0;

@@ -22,7 +22,7 @@ use readings::Run;
 // and where the machine stands.
 pub struct GridFile {
     pub field: usize,
-    pub head: [u8; grid_head::HEAD_MOST],
+    pub head: [u8; grid_head::GRID_HEAD_MOST],
     pub grid: Grid,
     pub stage: Stage,
 }
@@ -46,7 +46,7 @@ impl GridFile {
     pub fn start() -> GridFile
         ensures { λ r. ⌜ r ≡ gridStart ⌝ }
     {
-        let head = [0; grid_head::HEAD_MOST];
+        let head = [0; grid_head::GRID_HEAD_MOST];
         GridFile {
             field: 0,
             head,

@@ -15,7 +15,7 @@ const STARTS: [usize; FIELDS] = [0, 3, 5, 7];
 
 const WIDTHS: [usize; FIELDS] = [3, 2, 2, 1];
 
-pub const HEAD_MOST: usize = 8;
+pub const GRID_HEAD_MOST: usize = 8;
 
 // The places, from 0, of version, year and level.
 const VERSION_AT: usize = 3;
@@ -35,7 +35,7 @@ pub fn span_of(head: &[u8], k: usize) -> Span
         };
     }
     Span {
-        start: HEAD_MOST,
+        start: GRID_HEAD_MOST,
         width: 0,
     }
 }
@@ -48,7 +48,10 @@ pub fn refusal(head: &[u8], k: usize) -> u8
         return fields::number_if(encoding::other_mark(head, 0, b"GRD"), 12);
     }
     if k < 2 {
-        return fields::number_if(encoding::two_at(head, VERSION_AT) != encoding::VERSION, 12);
+        return fields::number_if(
+            encoding::two_at(head, VERSION_AT) != encoding::FORMAT_VERSION,
+            12,
+        );
     }
     if k < 3 {
         return fields::number_if(answers::year_out(encoding::two_at(head, YEAR_AT)), 1);

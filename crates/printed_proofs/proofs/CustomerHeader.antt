@@ -27,7 +27,7 @@ use Rattle.fields.proofs.Bytes.{part-long, part-at, Same}
 use Rattle.fields.proofs.Header.{field-more, field-rises}
 use Rattle.fields.proofs.Fed.{LooksBack}
 use Rattle.fields.proofs.Common.{Own, one-same, mark-own, version-own, year-own, level-own}
-use Rattle.customer_head.specs.Header.{customerMark, sheetPlace, optionPlace, sheetPart, optionOf, holidaysPlace, holidayCount, holidaysOf, pricesPlace, priceOf, pricesIn, holidayOut, seasonField, optionField, countField, capacityField, energyField, firstFields, priceFields, customerLayout, openedIn}
+use Rattle.customer_head.specs.Header.{customerMark, sheetAt, optionAt, sheetPart, optionOf, holidaysAt, holidayCount, holidaysOf, pricesAt, priceOf, pricesIn, holidayOut, seasonField, optionField, countField, capacityField, energyField, firstFields, priceFields, customerLayout, openedIn}
 use Rattle.customer_head.proofs.CustomerLayout.{firstWidths, firstStarts, count-is, width-first, width-holiday, width-price, start-first, start-holiday, start-price, refusal-first, refusal-holiday, refusal-price, holiday-is, size-is}
 
 -- the fields look at their own bytes
@@ -82,11 +82,11 @@ module _ (bytes : List ℕ) where
   n = holidayCount bytes
 
   -- a field behind the count starts behind its byte
-  behind : (k : ℕ) → 12 ≤ k → holidaysPlace ≤ startOf l k
+  behind : (k : ℕ) → 12 ≤ k → holidaysAt ≤ startOf l k
   behind k m = omega (arith, field-rises l k 12 m, start-holiday bytes 12 (omega arith) (omega arith))
 
   module _ (b : List ℕ) where
-    few-same : Same holidaysPlace b bytes → holidayCount b ≡ n
+    few-same : Same holidaysAt b bytes → holidayCount b ≡ n
     few-same h = ap (min holidaysMost) (h 62 (omega arith))
 
     module _ (k : ℕ) where
@@ -114,21 +114,21 @@ module _ (bytes : List ℕ) where
 
   -- holidays
   module _ (b : List ℕ) (e : holidayCount b ≡ n) where
-    entry-same : (j : ℕ) → j < n → Same (holidaysPlace + 2 * (j + 1)) b bytes → getD (holidaysOf b) j 0 ≡ getD (holidaysOf bytes) j 0
+    entry-same : (j : ℕ) → j < n → Same (holidaysAt + 2 * (j + 1)) b bytes → getD (holidaysOf b) j 0 ≡ getD (holidaysOf bytes) j 0
     entry-same j m h =
         sym (holiday-is b j (omega arith))
-        ∙ two-same b bytes (holidaysPlace + 2 * j) (holidaysPlace + 2 * j) (λ i o. h (holidaysPlace + 2 * j + i) (omega arith))
+        ∙ two-same b bytes (holidaysAt + 2 * j) (holidaysAt + 2 * j) (λ i o. h (holidaysAt + 2 * j + i) (omega arith))
         ∙ holiday-is bytes j m
 
-    before-same : (j : ℕ) → j < n → Same (holidaysPlace + 2 * (j + 1)) b bytes → before (holidaysOf b) j ≡ before (holidaysOf bytes) j
+    before-same : (j : ℕ) → j < n → Same (holidaysAt + 2 * (j + 1)) b bytes → before (holidaysOf b) j ≡ before (holidaysOf bytes) j
     before-same zero m h = refl
     before-same (suc j) m h = entry-same j (omega arith) (λ i o. h i (omega arith))
 
-    row-same : (j : ℕ) → j < n → Same (holidaysPlace + 2 * (j + 1)) b bytes → holidayOut b j ≡ holidayOut bytes j
+    row-same : (j : ℕ) → j < n → Same (holidaysAt + 2 * (j + 1)) b bytes → holidayOut b j ≡ holidayOut bytes j
     row-same j m h =
         let day = entry-same j m h in
         let last = before-same j m h in
-        let year = two-same b bytes (sheetPlace + yearAt) (sheetPlace + yearAt) (λ i o. h (sheetPlace + yearAt + i) (omega arith)) in
+        let year = two-same b bytes (sheetAt + yearAt) (sheetAt + yearAt) (λ i o. h (sheetAt + yearAt + i) (omega arith)) in
         λ i. badHoliday (year i) (last i) (day i)
 
   refusals : (k : ℕ) → k < l .count → (b : List ℕ) → Same (startOf l (k + 1)) b bytes → customerLayout b .refusal k ≡ l .refusal k
@@ -157,9 +157,9 @@ module _ (bytes : List ℕ) where
           let w = width-price bytes k (omega arith) (omega arith) in
           let more = field-more l k in
           sym (refusal-price b k (omega arith) (omega arith))
-          ∙ ap (λ (j : ℕ). fieldAt (priceFields b) (k - 12 - j) .refusedAt (holidaysPlace + 2 * j + 4 * (k - 12 - j))) e
+          ∙ ap (λ (j : ℕ). fieldAt (priceFields b) (k - 12 - j) .refusedAt (holidaysAt + 2 * j + 4 * (k - 12 - j))) e
           ∙ price-own (k - 12 - n) (omega arith) b bytes
-          (pricesPlace bytes + 4 * (k - 12 - n)) (λ j o. h (pricesPlace bytes + 4 * (k - 12 - n) + j) (omega arith))
+          (pricesAt bytes + 4 * (k - 12 - n)) (λ j o. h (pricesAt bytes + 4 * (k - 12 - n) + j) (omega arith))
           ∙ refusal-price bytes k (omega arith) (omega arith)
 
   pub looks-back : LooksBack customerLayout bytes
@@ -179,21 +179,21 @@ module _ (b bytes : List ℕ) (h : Same (size bytes) b bytes) (f : size bytes �
   sheet-same : sheetPart b ≡ sheetPart bytes
   sheet-same =
       let head = size-is bytes in
-      let here = part-long b sheetPlace sheetSize (omega arith) in
-      let there = part-long bytes sheetPlace sheetSize (omega arith) in
+      let here = part-long b sheetAt sheetSize (omega arith) in
+      let there = part-long bytes sheetAt sheetSize (omega arith) in
       ext-getD 0 (sheetPart b) (sheetPart bytes) (here ∙ sym there)
-      (λ i m. part-at b sheetPlace sheetSize i (omega arith) ∙ within (sheetPlace + i) (omega arith) ∙ sym (part-at bytes sheetPlace sheetSize i (omega arith)))
+      (λ i m. part-at b sheetAt sheetSize i (omega arith) ∙ within (sheetAt + i) (omega arith) ∙ sym (part-at bytes sheetAt sheetSize i (omega arith)))
 
   holidays-same : holidaysOf b ≡ holidaysOf bytes
   holidays-same =
-      ap (table (λ j. twoAt b (holidaysPlace + 2 * j))) few
+      ap (table (λ j. twoAt b (holidaysAt + 2 * j))) few
       ∙ table-cong _ _ (holidayCount bytes)
-      (λ j m. two-same b bytes (holidaysPlace + 2 * j) (holidaysPlace + 2 * j) (λ i o. within (holidaysPlace + 2 * j + i) (omega arith)))
+      (λ j m. two-same b bytes (holidaysAt + 2 * j) (holidaysAt + 2 * j) (λ i o. within (holidaysAt + 2 * j + i) (omega arith)))
 
   price-same : (j : ℕ) → j < 4 → priceOf b j ≡ priceOf bytes j
   price-same j m =
-      ap (λ (n : ℕ). fourAt b (holidaysPlace + 2 * n + 4 * j)) few
-      ∙ four-same b bytes (pricesPlace bytes + 4 * j) (pricesPlace bytes + 4 * j) (λ i o. within (pricesPlace bytes + 4 * j + i) (omega arith))
+      ap (λ (n : ℕ). fourAt b (holidaysAt + 2 * n + 4 * j)) few
+      ∙ four-same b bytes (pricesAt bytes + 4 * j) (pricesAt bytes + 4 * j) (λ i o. within (pricesAt bytes + 4 * j + i) (omega arith))
 
   prices-same : pricesIn b ≡ pricesIn bytes
   prices-same =
@@ -203,7 +203,7 @@ module _ (b bytes : List ℕ) (h : Same (size bytes) b bytes) (f : size bytes �
       }
 
   option-same : optionOf b ≡ optionOf bytes
-  option-same = ap (λ (x : ℕ). eqb x 1) (within optionPlace (omega arith))
+  option-same = ap (λ (x : ℕ). eqb x 1) (within optionAt (omega arith))
 
   pub opened-same : openedIn b ≡ openedIn bytes
   unfolding openedIn

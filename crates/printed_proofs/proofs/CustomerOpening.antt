@@ -30,7 +30,7 @@ use Rattle.fields.specs.Layout.{Layout, fieldAt, headSize, stops}
 use Rattle.fields.proofs.Bytes.{part-long, part-at}
 use Rattle.fields.proofs.Common.{mark-no, version-no, year-no, level-no, unrefused}
 use Rattle.fields.proofs.Header.{field-held, fields-held}
-use Rattle.customer_head.specs.Header.{sheetPlace, sheetPart, customerYear, holidaysPlace, holidayCount, holidaysOf, pricesPlace, priceOf, pricesIn, priceFields, customerLayout, basisIn}
+use Rattle.customer_head.specs.Header.{sheetAt, sheetPart, customerYear, holidaysAt, holidayCount, holidaysOf, pricesAt, priceOf, pricesIn, priceFields, customerLayout, basisIn}
 use Rattle.customer_head.proofs.CustomerLayout.{count-few, count-is, refusal-first, season-refused, holiday-refused, price-refused, size-is}
 use Rattle.customer_head.proofs.Refusals.{season-no, capacity-no, energy-no}
 
@@ -48,13 +48,13 @@ module _ (bytes : List ℕ) where
   hs = holidaysOf bytes
 
   -- the bytes of the sheet: byte k of what starts at its byte i, both from 0
-  byte : (i k : ℕ) → i + k < sheetSize → getD sheet (i + k) 0 ≡ getD bytes (sheetPlace + i + k) 0
+  byte : (i k : ℕ) → i + k < sheetSize → getD sheet (i + k) 0 ≡ getD bytes (sheetAt + i + k) 0
   byte i k m =
-      let e : sheetPlace + (i + k) ≡ sheetPlace + i + k = omega arith in
-      part-at bytes sheetPlace sheetSize (i + k) m ∙ ap (λ (j : ℕ). getD bytes j 0) e
+      let e : sheetAt + (i + k) ≡ sheetAt + i + k = omega arith in
+      part-at bytes sheetAt sheetSize (i + k) m ∙ ap (λ (j : ℕ). getD bytes j 0) e
 
-  two : (i : ℕ) → i + 2 ≤ sheetSize → twoAt sheet i ≡ twoAt bytes (sheetPlace + i)
-  two i m = two-same sheet bytes i (sheetPlace + i) (λ k o. byte i k (omega arith))
+  two : (i : ℕ) → i + 2 ≤ sheetSize → twoAt sheet i ≡ twoAt bytes (sheetAt + i)
+  two i m = two-same sheet bytes i (sheetAt + i) (λ k o. byte i k (omega arith))
 
   pub year-is : sheetIn sheet .year ≡ customerYear bytes
   year-is = two yearAt (omega arith)
@@ -62,11 +62,11 @@ module _ (bytes : List ℕ) where
   season-is : (j : ℕ) → j < seasons → setIn (windowsIn sheet) (j + 1) ≡ setFrom bytes (13 + 12 * j)
   season-is j m =
       let i = windowsAt + seasonBytes * j in
-      season-set sheet j m ∙ set-same sheet bytes i (sheetPlace + i) (λ k o. byte i k (omega arith)) ∙ ap (setFrom bytes) (omega arith)
+      season-set sheet j m ∙ set-same sheet bytes i (sheetAt + i) (λ k o. byte i k (omega arith)) ∙ ap (setFrom bytes) (omega arith)
 
   -- the number of each field, by the test that the opening makes: the sheet
   pub mark-tested : numberIf (unmarked sheet) 12 ≡ l .refusal 2
-  mark-tested = mark-no bytes sheetPlace mark (other-mark-same sheet bytes 0 sheetPlace mark (λ k o. byte 0 k (omega arith))) ∙ refusal-first bytes 2 (omega arith)
+  mark-tested = mark-no bytes sheetAt mark (other-mark-same sheet bytes 0 sheetAt mark (λ k o. byte 0 k (omega arith))) ∙ refusal-first bytes 2 (omega arith)
 
   pub version-tested : numberIf (versionOut sheet versionAt) 12 ≡ l .refusal 3
   version-tested = version-no bytes 8 (two versionAt (omega arith)) ∙ refusal-first bytes 3 (omega arith)
@@ -85,7 +85,7 @@ module _ (bytes : List ℕ) where
   holiday-tested j m = ap (λ (y : ℕ). numberIf (badEntry y hs j) 3) year-is ∙ holiday-refused bytes j m
 
   pub holidays-long : length hs ≡ n
-  holidays-long = length-table (λ j. twoAt bytes (holidaysPlace + 2 * j)) n
+  holidays-long = length-table (λ j. twoAt bytes (holidaysAt + 2 * j)) n
 
   -- the prices, each with its limit
   abbrev pub priceOut : ℕ → Bool
@@ -94,11 +94,11 @@ module _ (bytes : List ℕ) where
   pub price-tested : (j : ℕ) → j < 4 → numberIf (priceOut j) 6 ≡ l .refusal (12 + (n + j))
   price-tested j m = go j m ∙ price-refused bytes j m
     where
-      go : (j : ℕ) → j < 4 → numberIf (priceOut j) 6 ≡ fieldAt (priceFields bytes) j .refusedAt (pricesPlace bytes + 4 * j)
-      go zero m = capacity-no bytes (pricesPlace bytes + 4 * 0) 0 m refl refl
-      go (suc zero) m = energy-no bytes (pricesPlace bytes + 4 * 1) 1 m (omega arith) refl
-      go (suc (suc zero)) m = capacity-no bytes (pricesPlace bytes + 4 * 2) 2 m refl refl
-      go (suc (suc (suc zero))) m = energy-no bytes (pricesPlace bytes + 4 * 3) 3 m (omega arith) refl
+      go : (j : ℕ) → j < 4 → numberIf (priceOut j) 6 ≡ fieldAt (priceFields bytes) j .refusedAt (pricesAt bytes + 4 * j)
+      go zero m = capacity-no bytes (pricesAt bytes + 4 * 0) 0 m refl refl
+      go (suc zero) m = energy-no bytes (pricesAt bytes + 4 * 1) 1 m (omega arith) refl
+      go (suc (suc zero)) m = capacity-no bytes (pricesAt bytes + 4 * 2) 2 m refl refl
+      go (suc (suc (suc zero))) m = energy-no bytes (pricesAt bytes + 4 * 3) 3 m (omega arith) refl
       go (suc (suc (suc (suc j)))) m = absurd (omega arith)
 
   -- the first m fields pass: what the opening tests of them passes, too
@@ -106,7 +106,7 @@ module _ (bytes : List ℕ) where
     pub formed : headSize l ≤ length bytes → 4 ≤ m → Formed sheet
     formed whole o =
         record {
-          size = part-long bytes sheetPlace sheetSize (omega (arith, size-is bytes));
+          size = part-long bytes sheetAt sheetSize (omega (arith, size-is bytes));
           marked = marked sheet .0 (unrefused _ 11 (mark-tested ∙ passed 2 (omega arith)));
           version = eqb-true _ _ (not-false _ (unrefused _ 11 (version-tested ∙ passed 3 (omega arith))));
         }

@@ -86,7 +86,7 @@ pub fn read(b: &[u8]) -> SheetRead
     if encoding::other_mark(b, 0, b"HLZ") {
         return refused(SheetAnswer::Malformed);
     }
-    if encoding::two_at(b, VERSION_AT) != encoding::VERSION {
+    if encoding::two_at(b, VERSION_AT) != encoding::FORMAT_VERSION {
         return refused(SheetAnswer::Malformed);
     }
     let year = encoding::two_at(b, YEAR_AT);

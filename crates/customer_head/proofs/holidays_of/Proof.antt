@@ -8,13 +8,13 @@ use lib.ListN.{take}
 use lib.Seq.{length-take-le, getD-take}
 use Rattle.answers.specs.Ruling.{holidaysMost}
 use Rattle.encoding.specs.Bytes.{twoAt}
-use Rattle.customer_head.specs.Header.{holidaysPlace, holidayCount}
+use Rattle.customer_head.specs.Header.{holidaysAt, holidayCount}
 use Rattle.ranges.proofs.Tables.{is-table, Filled, filled-none, filled-more}
 use Rattle.customer_head.proofs.holidays_of.Statement.{statement}
 use Rattle.customer_head.proofs.holidays_of.Tie as tie
 
 abbrev Inv-loop : tie.InvT-loop
-Inv-loop head out₀ j₀ j-end out j = (j ≤ j-end) × Filled (λ (i : ℕ). twoAt head (holidaysPlace + 2 * i)) holidaysMost 0 j out
+Inv-loop head out₀ j₀ j-end out j = (j ≤ j-end) × Filled (λ (i : ℕ). twoAt head (holidaysAt + 2 * i)) holidaysMost 0 j out
 
 abbrev μ-loop : tie.MeasureT-loop
 μ-loop head out₀ j₀ j-end out j = j-end - j
@@ -27,7 +27,7 @@ returns c =
     let b = c .before .before .before .before .args .head .now in
     let out = c .before .loop .out in
     let f = c .before .loop .inv .1 in
-    is-table (λ i. twoAt b (holidaysPlace + 2 * i)) (holidayCount b) 0 (take (holidayCount b) out)
+    is-table (λ i. twoAt b (holidaysAt + 2 * i)) (holidayCount b) 0 (take (holidayCount b) out)
     (length-take-le (holidayCount b) out (omega (arith, f .long)))
     (λ i l. getD-take (holidayCount b) out i 0 l ∙ f .each i (omega arith))
 

@@ -5,7 +5,7 @@ use Prim.Native.Nat.{_+_, _*_}
 use native.Mathlib.Omega.{arith}
 use borrow.Author.Needs.{needs}
 use Rattle.encoding.specs.Bytes.{fourAt}
-use Rattle.customer_head.specs.Header.{pricesPlace}
+use Rattle.customer_head.specs.Header.{pricesAt}
 use Rattle.customer_head.proofs.prices_of.Statement.{statement}
 use Rattle.customer_head.proofs.prices_of.Tie as tie
 
@@ -14,10 +14,10 @@ returns c =
     let counted = c .before .before .before .before in
     let b = counted .before .before .args .head .now in
     let at = counted .count-of in
-    let first : 63 + 2 * at .result ≡ pricesPlace b + 4 * 0 = omega (arith, at .ensures .0) in
-    let second : 63 + 2 * at .result + 4 ≡ pricesPlace b + 4 * 1 = omega (arith, at .ensures .0) in
-    let third : 63 + 2 * at .result + 8 ≡ pricesPlace b + 4 * 2 = omega (arith, at .ensures .0) in
-    let fourth : 63 + 2 * at .result + 12 ≡ pricesPlace b + 4 * 3 = omega (arith, at .ensures .0) in
+    let first : 63 + 2 * at .result ≡ pricesAt b + 4 * 0 = omega (arith, at .ensures .0) in
+    let second : 63 + 2 * at .result + 4 ≡ pricesAt b + 4 * 1 = omega (arith, at .ensures .0) in
+    let third : 63 + 2 * at .result + 8 ≡ pricesAt b + 4 * 2 = omega (arith, at .ensures .0) in
+    let fourth : 63 + 2 * at .result + 12 ≡ pricesAt b + 4 * 3 = omega (arith, at .ensures .0) in
     λ i. record {
       few = record {
         capacity = (c .before .before .before .four-at .ensures ∙ ap (fourAt b) first) i;
