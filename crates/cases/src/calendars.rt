@@ -25,17 +25,12 @@ fn mark(answer: DayAnswer) -> u8 {
     }
 }
 
-// Is the day one from Monday to Friday that is free under the list?
-fn is_freed(year: u16, list: &[u16], day: u16) -> bool {
-    if 5 <= dates::weekday(year, day) {
-        return false;
-    }
-    mark(calendar::carries_windows(year, list, day)) == b'-'
-}
-
+// A day from Monday to Friday that is free under the list.
 fn write_if_freed(year: u16, list: &[u16], day: u16) {
-    if is_freed(year, list, day) {
-        output::next(day as u64);
+    if dates::weekday(year, day) < 5 {
+        if mark(calendar::carries_windows(year, list, day)) == b'-' {
+            output::next(day as u64);
+        }
     }
 }
 
@@ -58,22 +53,21 @@ fn write_days(line: u8, year: u16, list: &[u16]) {
     }
 }
 
-fn write_line(line: u8, year: u16, list: &[u16]) {
-    write_days(line, year, list);
-    output::end();
-}
-
 // Y: a whole year.
 fn whole_year(year: u16, list: &[u16]) {
     output::letter(b'Y');
     output::next(year as u64);
     output::next(dates::year_days(year) as u64);
     output::next(periods::period_days(year) as u64);
-    output::end();
-    write_line(b'W', year, list);
-    write_line(b'S', year, list);
-    write_line(b'P', year, list);
-    write_line(b'A', year, list);
+    output::letter(b'\n');
+    write_days(b'W', year, list);
+    output::letter(b'\n');
+    write_days(b'S', year, list);
+    output::letter(b'\n');
+    write_days(b'P', year, list);
+    output::letter(b'\n');
+    write_days(b'A', year, list);
+    output::letter(b'\n');
 }
 
 struct Tally {
@@ -112,7 +106,7 @@ fn whole_list(year: u16, list: &[u16]) {
     output::text(b" /");
     output::next(tally.count);
     output::next(tally.sum);
-    output::end();
+    output::letter(b'\n');
 }
 
 // D: one day.

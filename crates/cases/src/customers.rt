@@ -34,7 +34,7 @@ fn ask(series: &[u32]) -> Customer {
     let count = input::room();
     let holidays = input::list(count);
     let prices = next_prices();
-    let option = input::yes();
+    let option = input::byte() != 0;
     write_answer(
         b'W',
         customer::decide(&sheet[0..len], &holidays[0..count], prices, option, series),
@@ -78,7 +78,7 @@ fn days(series: &[u32], customer: Customer) -> Customer {
     output::letter(b'D');
     output::next(offered.taken as u64);
     output::answer(decision_numbers::of_decision(answer));
-    output::end();
+    output::letter(b'\n');
     offered.customer
 }
 

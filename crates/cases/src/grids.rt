@@ -24,22 +24,18 @@ struct Offered {
     answer: GridAnswer,
 }
 
-fn write_number(answer: GridAnswer) {
-    output::answer(grid_numbers::of_answer(answer));
-}
-
 fn write_answer(call: u8, answer: GridAnswer) {
     output::letter(call);
-    write_number(answer);
-    output::end();
+    output::answer(grid_numbers::of_answer(answer));
+    output::letter(b'\n');
 }
 
 // What a call that was lent a buffer did.
 fn write_sheet(call: u8, answer: GridAnswer, buffer: [u8; ROOM]) {
     output::letter(call);
-    write_number(answer);
+    output::answer(grid_numbers::of_answer(answer));
     output::bytes(buffer);
-    output::end();
+    output::letter(b'\n');
 }
 
 // W: the whole series. The state of the days is handed on.
@@ -94,8 +90,8 @@ fn days(series: &[u32], grid: Grid) -> Grid {
     let answer = offered.answer;
     output::letter(b'D');
     output::next(offered.taken as u64);
-    write_number(answer);
-    output::end();
+    output::answer(grid_numbers::of_answer(answer));
+    output::letter(b'\n');
     offered.grid
 }
 

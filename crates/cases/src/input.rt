@@ -10,10 +10,6 @@ pub(crate) fn byte() -> u8 {
     b[0]
 }
 
-pub(crate) fn yes() -> bool {
-    byte() != 0
-}
-
 fn wide(x: u8) -> u16
     ensures { λ r. ⌜ r < 256 ⌝ }
 {

@@ -11,10 +11,6 @@ pub(crate) fn letter(x: u8) {
     text(&[x]);
 }
 
-pub(crate) fn end() {
-    letter(b'\n');
-}
-
 pub(crate) fn number(n: u64) {
     io::print_decimal(STDOUT_FILENO, n);
 }

@@ -97,13 +97,6 @@ pub(crate) fn part(series: &[u32]) -> &[u32] {
     &series[at..end]
 }
 
-fn all_calls(kind: u8, series: &[u32], count: u8) {
-    match kind {
-        b'G' => grids::all_calls(series, count),
-        _ => customers::all_calls(series, count),
-    }
-}
-
 pub(crate) fn one_series(kind: u8) {
     let len = input::smaller(input::size(), MOST);
     let base = input::four();
@@ -113,6 +106,9 @@ pub(crate) fn one_series(kind: u8) {
     all_patches(&mut series, patches);
     output::letter(b'S');
     output::next(len as u64);
-    output::end();
-    all_calls(kind, &series[0..len], calls);
+    output::letter(b'\n');
+    match kind {
+        b'G' => grids::all_calls(&series[0..len], calls),
+        _ => customers::all_calls(&series[0..len], calls),
+    }
 }

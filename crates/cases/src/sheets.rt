@@ -58,7 +58,7 @@ pub(crate) fn one_writing() {
     output::letter(b'W');
     output::next(number(answer));
     output::bytes(buffer);
-    output::end();
+    output::letter(b'\n');
 }
 
 fn write_if_set(set: bool, place: u64) {
@@ -88,5 +88,5 @@ pub(crate) fn one_reading() {
     output::next(meaning.year as u64);
     output::next(meaning.level as u64);
     write_windows(windows);
-    output::end();
+    output::letter(b'\n');
 }

@@ -19,7 +19,7 @@ use tariff::Row;
 fn next_figures() -> Figures {
     let peak = input::four();
     let sum = input::eight();
-    let any = input::yes();
+    let any = input::byte() != 0;
     let high = input::four();
     let day = input::two();
     let quarter = input::byte();
@@ -33,15 +33,15 @@ fn next_figures() -> Figures {
     }
 }
 
-fn next_row() -> Row {
-    let capacity = input::four();
-    let energy = input::four();
-    Row { capacity, energy }
-}
-
 pub(crate) fn next_prices() -> Prices {
-    let few = next_row();
-    let many = next_row();
+    let few = Row {
+        capacity: input::four(),
+        energy: input::four(),
+    };
+    let many = Row {
+        capacity: input::four(),
+        energy: input::four(),
+    };
     Prices { few, many }
 }
 
@@ -49,7 +49,7 @@ pub(crate) fn next_prices() -> Prices {
 fn next_rates() -> Rates {
     let level = input::byte();
     let prices = next_prices();
-    let option = input::yes();
+    let option = input::byte() != 0;
     Rates {
         year: 2025,
         level,
@@ -62,22 +62,16 @@ fn next_rates() -> Rates {
 pub(crate) fn write_answer(call: u8, answer: Decision) {
     output::letter(call);
     output::answer(decision_numbers::of_decision(answer));
-    output::end();
-}
-
-fn write_prices(out: bool) {
-    if out {
-        output::text(b"P 1\n");
-    } else {
-        output::text(b"P 0\n");
-    }
+    output::letter(b'\n');
 }
 
 // T: one set of figures.
 pub(crate) fn one_set() {
     let figures = next_figures();
     let rates = next_rates();
-    write_prices(charges::prices_out(rates.prices));
+    output::letter(b'P');
+    output::next(charges::prices_out(rates.prices) as u64);
+    output::letter(b'\n');
     write_answer(b'E', decision::eligible(figures, rates));
     write_answer(b'C', decision::charge(figures, rates));
     write_answer(b'J', decision::judge(figures, rates));
