@@ -18,7 +18,7 @@ use Rattle.holidays.specs.Holidays.{badHolidays}
 use Rattle.holidays.proofs.Lists.{legal-holidays}
 use Rattle.calendar.specs.declared.DayAnswer.{DayAnswer}
 use Rattle.calendar.specs.declared.DayAnswer.the-variants.{Carries, YearOut, BadList, DayOut}
-use Rattle.calendar.specs.Free.{carries}
+use Rattle.day_kinds.specs.Kinds.{carries}
 use Rattle.calendar.specs.Answer.DayRow.{one, three, thirteen, zero}
 use Rattle.calendar.specs.Answer.{saidOfDay, dayOut, calendarAnswer, DayOfYear, DayRow}
 

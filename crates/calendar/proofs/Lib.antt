@@ -1,4 +1,2 @@
 pub mod Marked
-pub mod Rules
 pub mod Answers
-pub mod Weeks

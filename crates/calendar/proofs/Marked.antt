@@ -14,7 +14,7 @@ use Rattle.ranges.specs.Ranges.{anyOver}
 use Rattle.ranges.proofs.Tests.{any-none, any-more}
 use Rattle.dates.specs.Dates.{mostDays}
 use Rattle.holidays.specs.Holidays.{listed}
-use Rattle.calendar.specs.Free.{candidate, free, bridge, kindBy, kindOf}
+use Rattle.day_kinds.specs.Kinds.{candidate, free, bridge, kindBy, kindOf}
 use Rattle.calendar.specs.Marks.{lastMark, markPlaces, markPlace, marked, Marks}
 
 -- entry j is day d

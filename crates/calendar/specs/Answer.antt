@@ -10,7 +10,7 @@ use Rattle.dates.specs.Dates.{yearDays}
 use Rattle.holidays.specs.Holidays.{badHolidays, LegalHolidays}
 use Rattle.calendar.specs.declared.DayAnswer.{DayAnswer}
 use Rattle.calendar.specs.declared.DayAnswer.the-variants.{Carries, YearOut, BadList, DayOut}
-use Rattle.calendar.specs.Free.{carries}
+use Rattle.day_kinds.specs.Kinds.{carries}
 
 -- the number and the figures of each case of the code's answer
 abbrev pub saidOfDay : DayAnswer → Said

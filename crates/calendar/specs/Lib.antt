@@ -1,3 +1,2 @@
-pub mod Free
 pub mod Answer
 pub mod Marks

@@ -1,13 +1,14 @@
-// Which days of a year carry windows (Rules 3.3 to 3.5). It meets specs/Answer and specs/Free; how listed days are
-// marked inside is in specs/Marks. Days count from 1, weekdays from 0.
+// Which days of a year carry windows (Rules 3.3 to 3.5). It meets specs/Answer and `day_kinds`, specs/Kinds; how listed
+// days are marked inside is in specs/Marks. Days count from 1, weekdays from 0.
 // Main theorem: whatever year, list and day are given, each number is answered exactly when its row of Rule 8.1 says,
 // and nothing else meets the contract (`exactly`, `carries-only`, proofs/Answers).
 ghost use mathlib.Core.Path.{_≡_};
 ghost use Prim.Native.Nat.{_-_, _≤_, _<_};
 ghost use Rattle.dates.specs.Dates.{mostDays};
-ghost use Rattle.calendar.specs.Free.{christmas, free, candidate, bridge, kindBy, isWindows, windowDays};
+ghost use Rattle.day_kinds.specs.Kinds.{christmas, free, candidate, bridge, kindBy, isWindows, windowDays};
 ghost use Rattle.calendar.specs.Answer.{saidOfDay, dayOut, calendarAnswer};
 ghost use Rattle.calendar.specs.Marks.{markPlaces, lastMark, markPlace, marked, Marks};
+use day_kinds::DayKind;
 
 // The places, from 0, that mark listed days: place d for day d, from 0 to 367, and a last one for days that no year
 // has.
@@ -21,15 +22,6 @@ const MONDAY: u8 = 0;
 const FRIDAY: u8 = 4;
 
 const SATURDAY: u8 = 5;
-
-// A day carries windows, or why it is free.
-enum DayKind {
-    Windows,
-    Weekend,
-    Listed,
-    Christmas,
-    Bridge,
-}
 
 // Does a day carry windows: yes or no (0), or the refusals 1, 3, 13.
 pub enum DayAnswer {

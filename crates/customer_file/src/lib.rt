@@ -85,7 +85,7 @@ impl CustomerFile {
         ensures { λ r. ⌜ (r ≡ customerWants self) × (r ≤ 400) ⌝ }
     {
         let stage = self.stage;
-        if fields::is_going(stage) {
+        if field_steps::is_going(stage) {
             let head = self.head;
             let size = customer_head::span_of(&head, self.field).width;
             if 0 < size {
@@ -136,7 +136,7 @@ impl CustomerFile {
         if b.len() < fields::READING_BYTES * n {
             return self.ended(Stage::Refused(4));
         }
-        let readings = fields::readings_in(b);
+        let readings = field_steps::readings_in(b);
         let step = self.customer.day(&readings[..n]);
         let answer = step.answer;
         let head = self.head;
@@ -164,7 +164,7 @@ impl CustomerFile {
         ensures { λ r. ⌜ r ≡ customerFed self (now (b .entry)) ⌝ }
     {
         let stage = self.stage;
-        if fields::is_going(stage) {
+        if field_steps::is_going(stage) {
             let head = self.head;
             let span = customer_head::span_of(&head, self.field);
             if 0 < span.width {

@@ -154,7 +154,7 @@ fn holiday_no(head: &[u8], j: usize) -> u8
 {
     let day = encoding::two_at(head, HOLIDAYS_AT + HOLIDAY_BYTES * j);
     let last = holiday_before(head, j);
-    fields::number_if(
+    field_steps::number_if(
         holidays::bad_holiday(encoding::two_at(head, YEAR_AT), last, day),
         3,
     )
@@ -170,9 +170,9 @@ fn price_no(head: &[u8], i: usize, j: usize) -> u8
     }
     let price = encoding::four_at(head, i);
     if j % 2 == 0 {
-        return fields::number_if(answers::capacity_out(price), 6);
+        return field_steps::number_if(answers::capacity_out(price), 6);
     }
-    fields::number_if(answers::energy_out(price), 6)
+    field_steps::number_if(answers::energy_out(price), 6)
 }
 
 // The number that refuses field k, from 0; 0 where it passes, and where there is no such field.
@@ -180,7 +180,7 @@ pub fn refusal(head: &[u8], k: usize) -> u8
     ensures { λ r. ⌜ r ≡ customerLayout (now (head .entry)) .refusal k ⌝ }
 {
     if k < FIRST_FIELDS {
-        return fields::number_if(first_fails(head, k), NUMBERS[k]);
+        return field_steps::number_if(first_fails(head, k), NUMBERS[k]);
     }
     let n = count_of(head);
     if k < FIRST_FIELDS + n {

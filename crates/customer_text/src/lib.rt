@@ -3,7 +3,7 @@
 ghost use mathlib.Core.Path.{_≡_};
 ghost use Prim.Native.Nat.{_≤_};
 ghost use Rattle.answer_numbers.specs.Numbers.{numbersOf};
-ghost use Rattle.lines.specs.Text.{Put};
+ghost use Rattle.texts.specs.Text.{Put};
 ghost use Rattle.customer_file.specs.CustomerMachine.{answerOf};
 ghost use Rattle.customer_text.specs.Text.{customerText};
 use answer_numbers::Numbers;

@@ -13,10 +13,10 @@ use Rattle.ranges.specs.Ranges.{bit}
 use Rattle.ranges.proofs.Bools.{decided, both, pair, neither, clash}
 use Rattle.dates.specs.Dates.{yearDays, saturday, weekdayOf}
 use Rattle.holidays.specs.Holidays.{listed}
-use Rattle.calendar.specs.Free.{weekend, christmas, free, candidate, mondayCandidate, fridayCandidate, bridge, carries}
+use Rattle.day_kinds.specs.Kinds.{weekend, christmas, free, candidate, mondayCandidate, fridayCandidate, bridge, carries}
 use Rattle.calendar.specs.Answer.{calendarAnswer}
-use Rattle.calendar.proofs.Rules.{christmas-by}
-use Rattle.calendar.proofs.Weeks.{carries-when}
+use Rattle.day_kinds.proofs.Rules.{christmas-by}
+use Rattle.day_kinds.proofs.Weeks.{carries-when}
 use Rattle.demands.specs.Module.{ours}
 use Rattle.demands.specs.Calendar.{Working, MondayBridge, FridayBridge, CarriesWindows, Calendar}
 use Rattle.demands.proofs.Carried.{carried}

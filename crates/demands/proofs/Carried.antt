@@ -16,7 +16,7 @@ use Rattle.answers.specs.Said.{Said, only, orElse}
 use Rattle.dates.specs.Dates.{yearDays}
 use Rattle.periods.specs.Period.{periodDays}
 use Rattle.holidays.specs.Holidays.{badHolidays}
-use Rattle.calendar.specs.Free.{carries}
+use Rattle.day_kinds.specs.Kinds.{carries}
 use Rattle.calendar.specs.Answer.{dayOut, calendarAnswer}
 use Rattle.readings.specs.declared.Run.{Run}
 use Rattle.readings.specs.declared.Run.the-variants.{Year, Period}

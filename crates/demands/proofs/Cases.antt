@@ -6,7 +6,7 @@ use Rattle.ranges.specs.Ranges.{joined, largestOver, sumOver, countOver, anyOve
 use Rattle.answers.specs.Ruling.{shareOf, levelOut}
 use Rattle.dates.specs.Dates.{leap, leapDay, daysTo, weekdayOf}
 use Rattle.holidays.specs.Holidays.{listed}
-use Rattle.calendar.specs.Free.{christmas, free, candidate, bridge}
+use Rattle.day_kinds.specs.Kinds.{christmas, free, candidate, bridge}
 use Rattle.readings.specs.Legal.{highestOf}
 use Rattle.sheet.specs.Windows.{flatWindows}
 use Rattle.sheet.specs.Bytes.{windowByte, bytesOf, sheetBytes}

@@ -17,7 +17,7 @@ use Rattle.ranges.proofs.Tests.{any-at, any-fails}
 use Rattle.answers.specs.Ruling.{ChargeYear}
 use Rattle.answers.specs.Said.{only}
 use Rattle.dates.specs.Dates.{seasonOf}
-use Rattle.calendar.specs.Free.{carries}
+use Rattle.day_kinds.specs.Kinds.{carries}
 use Rattle.calendar.specs.Answer.{calendarAnswer}
 use Rattle.calendar.specs.Answer.DayRow.{zero}
 use Rattle.calendar.proofs.Answers.{exactly}

@@ -12,7 +12,7 @@ use Rattle.answers.specs.Ruling.{yearOut, levelOut, shareOf}
 use Rattle.answers.specs.Said.{only}
 use Rattle.dates.specs.Dates.{leap, leapDay, daysTo, monthOf, seasonOf, weekdayOf, mostDays}
 use Rattle.holidays.specs.Holidays.{listed, badHolidays}
-use Rattle.calendar.specs.Free.{christmas, free, candidate, bridge, kindBy, carries, windowDays}
+use Rattle.day_kinds.specs.Kinds.{christmas, free, candidate, bridge, kindBy, carries, windowDays}
 use Rattle.readings.specs.Runs.{quarterOf}
 use Rattle.sheet.specs.Windows.{isSet, setIn, tooFull}
 use Rattle.encoding.specs.Bytes.{twoAt, otherMark}

@@ -9,7 +9,7 @@ use Rattle.answers.specs.Ruling.{dayQuarters}
 use Rattle.answers.specs.Said.{Said}
 use Rattle.dates.specs.Dates.{dayOf, weekdayOf, saturday}
 use Rattle.holidays.specs.Holidays.{listed}
-use Rattle.calendar.specs.Free.{bridge}
+use Rattle.day_kinds.specs.Kinds.{bridge}
 use Rattle.sheet.specs.Bytes.{sheetBytes}
 use Rattle.windows.specs.Chosen.{aboveLine, keptOf}
 use Rattle.grid.specs.Answers.{sheetOf}

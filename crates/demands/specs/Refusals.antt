@@ -14,7 +14,7 @@ use Rattle.ranges.specs.Ranges.{bit}
 use Rattle.answers.specs.Ruling.{gridMost, customerMost}
 use Rattle.answers.specs.Said.{Said, only}
 use Rattle.periods.specs.Period.{periodDays}
-use Rattle.calendar.specs.Free.{carries}
+use Rattle.day_kinds.specs.Kinds.{carries}
 use Rattle.readings.specs.declared.Run.the-variants.{Period}
 use Rattle.readings.specs.Illegal.{FirstIllegal, FirstIllegalIn}
 use Rattle.readings.specs.Days.{takenDays}

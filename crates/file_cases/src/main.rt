@@ -39,7 +39,7 @@ fn run_grid(fd: i32) -> GridFile {
 }
 
 fn print_windows(fd: i32) {
-    let mut text = [0u8; lines::TEXT_MOST];
+    let mut text = [0u8; texts::TEXT_MOST];
     let n = grid_text::text(run_grid(fd), &mut text);
     io::write_all(STDOUT_FILENO, &text[0..n]);
 }
@@ -69,7 +69,7 @@ fn run_customer(fd: i32) -> CustomerFile {
 }
 
 fn print_statement(fd: i32) {
-    let mut text = [0u8; lines::TEXT_MOST];
+    let mut text = [0u8; texts::TEXT_MOST];
     let n = customer_text::text(run_customer(fd), &mut text);
     io::write_all(STDOUT_FILENO, &text[0..n]);
 }

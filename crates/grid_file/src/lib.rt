@@ -75,7 +75,7 @@ impl GridFile {
         ensures { λ r. ⌜ (r ≡ gridWants self) × (r ≤ 400) ⌝ }
     {
         let stage = self.stage;
-        if fields::is_going(stage) {
+        if field_steps::is_going(stage) {
             let head = self.head;
             let size = grid_head::span_of(&head, self.field).width;
             if 0 < size {
@@ -123,7 +123,7 @@ impl GridFile {
         if b.len() < fields::READING_BYTES * n {
             return self.ended(Stage::Refused(4));
         }
-        let readings = fields::readings_in(b);
+        let readings = field_steps::readings_in(b);
         let step = self.grid.day(&readings[..n]);
         let answer = step.answer;
         let head = self.head;
@@ -151,7 +151,7 @@ impl GridFile {
         ensures { λ r. ⌜ r ≡ gridFed self (now (b .entry)) ⌝ }
     {
         let stage = self.stage;
-        if fields::is_going(stage) {
+        if field_steps::is_going(stage) {
             let head = self.head;
             let span = grid_head::span_of(&head, self.field);
             if 0 < span.width {

@@ -45,19 +45,19 @@ pub fn refusal(head: &[u8], k: usize) -> u8
     ensures { λ r. ⌜ r ≡ gridLayout (now (head .entry)) .refusal k ⌝ }
 {
     if k < 1 {
-        return fields::number_if(encoding::other_mark(head, 0, b"GRD"), 12);
+        return field_steps::number_if(encoding::other_mark(head, 0, b"GRD"), 12);
     }
     if k < 2 {
-        return fields::number_if(
+        return field_steps::number_if(
             encoding::two_at(head, VERSION_AT) != encoding::FORMAT_VERSION,
             12,
         );
     }
     if k < 3 {
-        return fields::number_if(answers::year_out(encoding::two_at(head, YEAR_AT)), 1);
+        return field_steps::number_if(answers::year_out(encoding::two_at(head, YEAR_AT)), 1);
     }
     if k < 4 {
-        return fields::number_if(answers::level_out(encoding::byte_at(head, LEVEL_AT, 0)), 2);
+        return field_steps::number_if(answers::level_out(encoding::byte_at(head, LEVEL_AT, 0)), 2);
     }
     0
 }

@@ -2,7 +2,7 @@
 // refusal. It meets specs/Text; `lines`, specs/Text, says how a text is put into a lent buffer. Rule 10.6.
 ghost use mathlib.Core.List.{[], _∷_};
 ghost use Rattle.answers.specs.Said.{badPlace};
-ghost use Rattle.lines.specs.Text.{Put};
+ghost use Rattle.texts.specs.Text.{Put};
 ghost use Rattle.lines.specs.Figures.{lineFigures, refusedLine};
 ghost use Rattle.grid_file.specs.GridMachine.{closedGrid};
 ghost use Rattle.grid_text.specs.Text.{windowLines, gridText};

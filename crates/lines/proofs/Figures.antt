@@ -13,9 +13,9 @@ use lib.Dec.{ltb, leb, lit<}
 use lib.ListN.{length, length-append}
 use Rattle.io.specs.Digits.{digits, glyph, Fewest}
 use Rattle.ranges.proofs.First.{first-at, first-le}
-use Rattle.lines.specs.Text.{textOver}
+use Rattle.texts.specs.Text.{textOver}
 use Rattle.lines.specs.Figures.{digitsIn, decimalOf, fieldOf, fieldIn, figuresLine, refusedMark, refusedLine}
-use Rattle.lines.proofs.Text.{text-more, text-room}
+use Rattle.texts.proofs.Text.{text-more, text-room}
 
 -- digits: how many, and the fewest that hold the number
 length-digits : (k n : ℕ) → length (digits 10 k n) ≡ k
@@ -89,6 +89,13 @@ refused-is figures = refl
 pub refused-long : (figures : List ℕ) → length (refusedLine figures) ≡ 8 + length (figuresLine figures)
 unfolding refusedLine
 refused-long figures = length-append refusedMark (figuresLine figures)
+
+-- neither line is empty
+pub some-figures : (figures : List ℕ) → 0 < length (figuresLine figures)
+some-figures figures = omega (arith, figures-long figures)
+
+pub some-refused : (figures : List ℕ) → 0 < length (refusedLine figures)
+some-refused figures = omega (arith, refused-long figures)
 
 -- does a line fit: i fields are counted, and what is left of the room
 module _ (figures : List ℕ) (left i : ℕ) {room : ℕ} (h : left + length (textOver (fieldIn figures) i) ≡ room) where

@@ -8,7 +8,7 @@ use lib.ListN.{length, getD}
 use Rattle.io.specs.Digits.{digits}
 use Rattle.ranges.specs.Ranges.{firstOver}
 use Rattle.answers.specs.Said.{Said}
-use Rattle.lines.specs.Text.{textOver}
+use Rattle.texts.specs.Text.{textOver}
 
 -- how many decimal digits a number below 10 ^ 20 has; every figure has 64 bits at most and is below that
 abbrev pub digitsIn : ℕ → ℕ

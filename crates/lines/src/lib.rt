@@ -1,34 +1,15 @@
 // The lines of figures that the two programs print, as bytes: a statement, and a refusal. Each public call writes its
 // whole text at the start of a lent buffer and answers the text's length; the bytes behind it stay. Where the buffer is
-// too short, it writes nothing and answers 0. It meets specs/Figures and specs/Text. Rules 10.1, 10.6 and 10.7.
+// too short, it writes nothing and answers 0. It meets specs/Figures and `texts`, specs/Text. Rules 10.1, 10.6 and 10.7.
 ghost use mathlib.Core.Path.{_≡_};
 ghost use Prim.Native.Nat.{_+_, _≤_};
 ghost use lib.Dec.{leb};
 ghost use lib.ListN.{length};
-ghost use Rattle.lines.specs.Text.{Put, Wrote};
+ghost use Rattle.texts.specs.Text.{Put, Wrote};
 ghost use Rattle.lines.specs.Figures.{decimalOf, fieldOf, figuresLine, refusedLine};
 
 // How many bytes the word `REFUSED` and the space behind it have.
 const REFUSED_SIZE: usize = 8;
-
-// So many bytes are enough for every text that a program prints: that of windows has never more than 49 for its first
-// line and 14 for each of the 384 quarters, and all others are shorter.
-pub const TEXT_MOST: usize = 5425;
-
-// Each `add` writes from place `at` on, counted from 0, and answers the place behind what it wrote. Bytes that do not
-// fit are not written, and the place itself is answered.
-pub fn add_bytes(buf: &mut [u8], at: usize, bytes: &[u8]) -> usize
-    ensures { λ r. ⌜ Put at (now (bytes .entry)) (now (buf .entry)) (now (buf .exit)) r ⌝ }
-{
-    if buf.len() < bytes.len() {
-        return at;
-    }
-    if buf.len() - bytes.len() < at {
-        return at;
-    }
-    encoding::lay(buf, at, bytes);
-    at + bytes.len()
-}
 
 // How many decimal digits a number has.
 fn number_len(x: u64) -> usize
@@ -45,7 +26,7 @@ fn add_number(buf: &mut [u8], at: usize, x: u64) -> usize
 {
     let mut digits = [0u8; 20];
     let k = io::decimal(x, &mut digits);
-    add_bytes(buf, at, &digits[..k])
+    texts::add_bytes(buf, at, &digits[..k])
 }
 
 // How many bytes field i of a line has, from 0: with a space before it, unless it is the first.
@@ -67,7 +48,7 @@ fn add_field(buf: &mut [u8], at: usize, i: usize, x: u64) -> usize
     if i == 0 {
         return add_number(buf, at, x);
     }
-    let n = add_bytes(buf, at, b" ");
+    let n = texts::add_bytes(buf, at, b" ");
     add_number(buf, n, x)
 }
 
@@ -96,7 +77,7 @@ fn add_figures(buf: &mut [u8], at: usize, figures: &[u64]) -> usize
     for i in 0..figures.len() {
         n = add_field(buf, n, i, figures[i]);
     }
-    add_bytes(buf, n, b"\n")
+    texts::add_bytes(buf, n, b"\n")
 }
 
 // The statement program's line: an answer's number and its figures, any number of them.
@@ -118,7 +99,7 @@ pub fn refused_text(figures: &[u64], buf: &mut [u8]) -> usize
         return 0;
     }
     if figures_fit(figures, room - REFUSED_SIZE) {
-        let n = add_bytes(buf, 0, b"REFUSED ");
+        let n = texts::add_bytes(buf, 0, b"REFUSED ");
         return add_figures(buf, n, figures);
     }
     0

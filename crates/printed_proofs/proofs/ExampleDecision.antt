@@ -13,7 +13,7 @@ use Rattle.answers.specs.Ruling.{customerMost, levelOut, shareOf}
 use Rattle.answers.specs.Said.{only}
 use Rattle.dates.specs.Dates.{leap, leapDay, yearDays, daysTo, weekdayOf}
 use Rattle.holidays.specs.Holidays.{listed}
-use Rattle.calendar.specs.Free.{christmas, free, candidate, bridge, kindBy, carries}
+use Rattle.day_kinds.specs.Kinds.{christmas, free, candidate, bridge, kindBy, carries}
 use Rattle.readings.specs.declared.Run.the-variants.{Year}
 use Rattle.readings.specs.Runs.{runDays, dayLen, runReadings, reading}
 use Rattle.readings.specs.Days.{seriesAnswer}

@@ -23,7 +23,7 @@ use Rattle.sheet.specs.Answers.{readAnswer, readSheet}
 use Rattle.fields.specs.Layout.{layoutOf, startOf, headSize}
 use Rattle.fields.specs.Common.{markField, versionField, yearField, levelField}
 use Rattle.fields.specs.Series.{seriesIn, fileSize}
-use Rattle.lines.specs.Text.{textOver}
+use Rattle.texts.specs.Text.{textOver}
 use Rattle.lines.specs.Figures.{decimalOf, fieldOf, figuresLine}
 use Rattle.window_lines.specs.Runs.{headLine, timeOf, runLine, runText, seasonText, windowsText}
 use Rattle.grid_head.specs.Header.{gridLayout, gridYear, gridLevel}

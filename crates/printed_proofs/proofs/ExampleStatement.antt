@@ -22,7 +22,7 @@ use Rattle.customer.specs.Answers.{decideAnswer}
 use Rattle.fields.specs.Layout.{layoutOf, headSize}
 use Rattle.fields.specs.Common.{markField, versionField, yearField, levelField}
 use Rattle.fields.specs.Series.{readingsOf, seriesIn, fileSize}
-use Rattle.lines.specs.Text.{textOver}
+use Rattle.texts.specs.Text.{textOver}
 use Rattle.lines.specs.Figures.{decimalOf, fieldOf, figuresLine, statementLine}
 use Rattle.customer_head.specs.Header.{sheetPart, customerYear, optionOf, holidaysOf, pricesIn, seasonField, optionField, countField, holidayField, capacityField, energyField, customerLayout}
 use Rattle.customer_head.proofs.CustomerLayout as Head

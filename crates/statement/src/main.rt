@@ -41,7 +41,7 @@ fn run() -> CustomerFile {
 }
 
 fn main() {
-    let mut text = [0u8; lines::TEXT_MOST];
+    let mut text = [0u8; texts::TEXT_MOST];
     let n = customer_text::text(run(), &mut text);
     io::write_all(STDOUT_FILENO, &text[0..n]);
 }

@@ -8,7 +8,7 @@ use lib.ListN.{replicate}
 use Rattle.answers.specs.Said.{Said, only, after, orElse}
 use Rattle.dates.specs.Dates.{mostDays}
 use Rattle.holidays.specs.Holidays.{badHolidays}
-use Rattle.calendar.specs.Free.{windowDays}
+use Rattle.day_kinds.specs.Kinds.{windowDays}
 use Rattle.sheet.specs.Windows.{windowPlaces}
 use Rattle.sheet.specs.Answers.{readAnswer}
 use Rattle.tariff.specs.declared.Row.{Row}

@@ -10,7 +10,7 @@ use lib.ListN.{replicate}
 use Rattle.ranges.specs.Ranges.{joined, anyOver, firstOver}
 use Rattle.answers.specs.Said.{only, badPlace}
 use Rattle.sheet.specs.Windows.{isSet}
-use Rattle.lines.specs.Text.{textOver}
+use Rattle.texts.specs.Text.{textOver}
 use Rattle.lines.specs.Figures.{decimalOf, fieldOf, figuresLine, lineFigures, statementLine, refusedLine}
 use Rattle.window_lines.specs.Runs.{headLine, timeOf, runLine, runText, seasonText, windowsText}
 

@@ -13,10 +13,10 @@ use Rattle.ranges.proofs.Tests.{Passed}
 use Rattle.ranges.proofs.First.{first-at, first-fails}
 use Rattle.answers.specs.Ruling.{dayQuarters}
 use Rattle.sheet.specs.Windows.{seasons, isSet}
-use Rattle.lines.specs.Text.{textMost, textOver}
+use Rattle.texts.specs.Text.{textMost, textOver}
 use Rattle.lines.specs.Figures.{fieldIn, figuresLine}
 use Rattle.window_lines.specs.Runs.{headMark, headLine, timeOf, runLine, noneLine, begins, runEnd, runText, seasonText, seasonIn, windowsText}
-use Rattle.lines.proofs.Text.{text-short}
+use Rattle.texts.proofs.Text.{text-short}
 use Rattle.lines.proofs.Figures.{field-short, figures-long}
 
 -- the head

@@ -8,7 +8,7 @@ use lib.Dec.{eqb}
 use Rattle.ranges.specs.Ranges.{anyOver, firstOver}
 use Rattle.answers.specs.Ruling.{dayQuarters}
 use Rattle.sheet.specs.Windows.{seasons, isSet}
-use Rattle.lines.specs.Text.{textOver}
+use Rattle.texts.specs.Text.{textOver}
 use Rattle.lines.specs.Figures.{figuresLine}
 
 -- the word `HLZ` and a space; and the first line, with year and level

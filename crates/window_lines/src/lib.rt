@@ -9,7 +9,7 @@ ghost use lib.ListN.{length};
 ghost use Rattle.ranges.specs.Ranges.{anyOver};
 ghost use Rattle.answers.specs.Ruling.{dayQuarters};
 ghost use Rattle.sheet.specs.Windows.{seasons, isSet};
-ghost use Rattle.lines.specs.Text.{textOver, Put, Wrote};
+ghost use Rattle.texts.specs.Text.{textOver, Put, Wrote};
 ghost use Rattle.window_lines.specs.Runs.{headLine, timeOf, runLine, runEnd, runText, seasonText, seasonIn, windowsText};
 ghost use Rattle.window_lines.specs.Runs.{begins as beginsAt};
 
@@ -29,7 +29,7 @@ fn add_time(buf: &mut [u8], at: usize, q: usize) -> usize
         (48 + q % 4 * 15 / 10) as u8,
         (48 + q % 4 * 15 % 10) as u8,
     ];
-    lines::add_bytes(buf, at, &time)
+    texts::add_bytes(buf, at, &time)
 }
 
 // A run's line, 14 bytes: from the start of quarter `from` to that of quarter `to`, which is not in the run.
@@ -38,11 +38,11 @@ fn add_line(buf: &mut [u8], at: usize, season: u8, from: usize, to: usize) -> us
     ensures { λ r. ⌜ Wrote (now (buf .entry)) at (runLine season from to) (now (buf .exit)) r ⌝ }
 {
     let number = [48 + season, b' '];
-    let a = lines::add_bytes(buf, at, &number);
+    let a = texts::add_bytes(buf, at, &number);
     let b = add_time(buf, a, from);
-    let c = lines::add_bytes(buf, b, b"-");
+    let c = texts::add_bytes(buf, b, b"-");
     let d = add_time(buf, c, to);
-    lines::add_bytes(buf, d, b"\n")
+    texts::add_bytes(buf, d, b"\n")
 }
 
 // Is quarter `quarter`, from 0, of season `season`, from 1, set? Outside both nothing is.
@@ -148,7 +148,7 @@ fn add_season(
         return add_runs(buf, at, windows, season);
     }
     let line = [48 + season, b' ', b'n', b'o', b'n', b'e', b'\n'];
-    lines::add_bytes(buf, at, &line)
+    texts::add_bytes(buf, at, &line)
 }
 
 // The lines of the seasons 1 to 4.
@@ -171,8 +171,8 @@ fn add_head(buf: &mut [u8], year: u16, level: u8) -> usize
     let figures = [year as u64, level as u64];
     let mut line = [0u8; PAIR_MOST];
     let n = lines::figures_text(&figures, &mut line);
-    let a = lines::add_bytes(buf, 0, b"HLZ ");
-    lines::add_bytes(buf, a, &line[..n])
+    let a = texts::add_bytes(buf, 0, b"HLZ ");
+    texts::add_bytes(buf, a, &line[..n])
 }
 
 // The first line, then the seasons.
@@ -198,10 +198,10 @@ pub fn windows_text(
 ) -> usize
     ensures { λ r. ⌜ Put 0 (windowsText year level (now (windows .entry))) (now (buf .entry)) (now (buf .exit)) r ⌝ }
 {
-    let mut text = [0u8; lines::TEXT_MOST];
+    let mut text = [0u8; texts::TEXT_MOST];
     let n = add_windows(&mut text, year, level, windows);
     if buf.len() < n {
         return 0;
     }
-    lines::add_bytes(buf, 0, &text[..n])
+    texts::add_bytes(buf, 0, &text[..n])
 }

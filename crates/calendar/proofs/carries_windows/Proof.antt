@@ -5,7 +5,7 @@ use mathlib.Core.Bool.{false}
 use borrow.Author.Needs.{needs}
 use Rattle.answers.specs.Ruling.{yearOut}
 use Rattle.holidays.specs.Holidays.{badHolidays}
-use Rattle.calendar.specs.Free.{isWindows}
+use Rattle.day_kinds.specs.Kinds.{isWindows}
 use Rattle.calendar.specs.Answer.{dayOut}
 use Rattle.calendar.proofs.Marked.{by-marks}
 use Rattle.calendar.proofs.Answers.{day-inside, said-year, said-list, said-day, said-carries}

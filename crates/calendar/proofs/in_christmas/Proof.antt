@@ -1,7 +1,7 @@
 -- `calendar::in_christmas` meets its contract: 24 December is the eighth day from the end.
 -- Assumes nothing.
 use borrow.Author.Needs.{needs}
-use Rattle.calendar.proofs.Rules.{christmas-by}
+use Rattle.day_kinds.proofs.Rules.{christmas-by}
 use Rattle.calendar.proofs.in_christmas.Statement.{statement}
 use Rattle.calendar.proofs.in_christmas.Tie as tie
 

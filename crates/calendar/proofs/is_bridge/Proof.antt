@@ -3,9 +3,9 @@
 use mathlib.Core.Path.{_≡_, sym, ap, _∙_}
 use mathlib.Core.Bool.{false, not}
 use borrow.Author.Needs.{needs}
-use Rattle.calendar.specs.Free.{mondayCandidate}
+use Rattle.day_kinds.specs.Kinds.{mondayCandidate}
 use Rattle.calendar.specs.Marks.{marked}
-use Rattle.calendar.proofs.Rules.{bridge-monday, bridge-friday, bridge-none}
+use Rattle.day_kinds.proofs.Rules.{bridge-monday, bridge-friday, bridge-none}
 use Rattle.calendar.proofs.is_bridge.Statement.{statement}
 use Rattle.calendar.proofs.is_bridge.Tie as tie
 

@@ -4,7 +4,7 @@ use mathlib.Core.Path.{ap, _∙_}
 use mathlib.Core.Bool.{not}
 use native.Mathlib.Omega.{arith}
 use borrow.Author.Needs.{needs}
-use Rattle.calendar.proofs.Rules.{candidate-other, candidate-unlisted, candidate-rest}
+use Rattle.day_kinds.proofs.Rules.{candidate-other, candidate-unlisted, candidate-rest}
 use Rattle.calendar.proofs.is_candidate.Statement.{statement}
 use Rattle.calendar.proofs.is_candidate.Tie as tie
 

@@ -3,7 +3,7 @@
 use mathlib.Core.Path.{_∙_}
 use native.Mathlib.Omega.{arith}
 use borrow.Author.Needs.{needs}
-use Rattle.calendar.proofs.Rules.{free-weekend, free-listed, free-rest}
+use Rattle.day_kinds.proofs.Rules.{free-weekend, free-listed, free-rest}
 use Rattle.calendar.proofs.is_free.Statement.{statement}
 use Rattle.calendar.proofs.is_free.Tie as tie
 

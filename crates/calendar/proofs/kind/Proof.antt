@@ -4,8 +4,8 @@ use mathlib.Core.Path.{_≡_, sym, _∙_}
 use mathlib.Core.Bool.{false}
 use native.Mathlib.Omega.{arith}
 use borrow.Author.Needs.{needs}
-use Rattle.calendar.specs.Free.{christmas}
-use Rattle.calendar.proofs.Rules.{kind-weekend, kind-listed, kind-christmas, kind-bridge, kind-windows}
+use Rattle.day_kinds.specs.Kinds.{christmas}
+use Rattle.day_kinds.proofs.Rules.{kind-weekend, kind-listed, kind-christmas, kind-bridge, kind-windows}
 use Rattle.calendar.proofs.kind.Statement.{statement}
 use Rattle.calendar.proofs.kind.Tie as tie
 

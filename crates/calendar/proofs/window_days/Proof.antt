@@ -6,7 +6,7 @@ use Prim.Native.Nat.{ℕ, _-_, _+_}
 use native.Mathlib.Omega.{arith}
 use borrow.Author.Needs.{needs}
 use Rattle.dates.specs.Dates.{mostDays}
-use Rattle.calendar.specs.Free.{isWindows, carries, windowDays}
+use Rattle.day_kinds.specs.Kinds.{isWindows, carries, windowDays}
 use Rattle.ranges.proofs.Tables.{Filled, filled-none, filled-more, filled-all}
 use Rattle.calendar.proofs.Marked.{by-marks}
 use Rattle.calendar.proofs.window_days.Statement.{statement}

@@ -6,7 +6,7 @@ use borrow.Author.Needs.{needs}
 use lib.ListN.{length}
 use lib.Seq.{length-take-le}
 use Rattle.lines.specs.Figures.{figuresLine}
-use Rattle.lines.proofs.Text.{put-as}
+use Rattle.texts.proofs.Text.{put-as}
 use Rattle.customer_file.specs.CustomerMachine.{answerOf}
 use Rattle.answer_numbers.proofs.Line.{line-of}
 use Rattle.customer_text.proofs.text.Statement.{statement}

@@ -1,7 +1,7 @@
 -- `file_cases::print_statement` takes no more out of its array than the text that the machine wrote there.
 -- Assumes nothing.
 use borrow.Author.Needs.{needs}
-use Rattle.lines.proofs.Text.{within}
+use Rattle.texts.proofs.Text.{within}
 use Rattle.file_cases.proofs.print_statement.Statement.{statement}
 use Rattle.file_cases.proofs.print_statement.Tie as tie
 

@@ -8,7 +8,7 @@ use Rattle.sheet.specs.Answers.{ReadSaid, readSheet}
 use Rattle.grid_days.specs.declared.Grid.{Grid}
 use Rattle.grid_days.specs.Days.{gridCloseAnswer}
 use Rattle.answer_numbers.specs.declared.Numbers.{Numbers}
-use Rattle.lines.proofs.Text.{put-as}
+use Rattle.texts.proofs.Text.{put-as}
 use Rattle.grid_text.specs.Text.{sheetText}
 use Rattle.grid_text.proofs.Closing.{closed-refused, closed-done}
 use Rattle.grid_text.proofs.closed.Statement.{statement}

@@ -1,7 +1,7 @@
 -- `hlz::main` writes no more of its array than the text that `grid_text` laid there.
 -- Assumes nothing.
 use borrow.Author.Needs.{needs}
-use Rattle.lines.proofs.Text.{within}
+use Rattle.texts.proofs.Text.{within}
 use Rattle.hlz.proofs.main.Statement.{statement}
 use Rattle.hlz.proofs.main.Tie as tie
 

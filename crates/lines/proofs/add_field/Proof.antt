@@ -5,8 +5,8 @@ use mathlib.Core.List.{[], _∷_}
 use native.Mathlib.Omega.{arith}
 use borrow.Author.Needs.{needs}
 use lib.ListN.{length}
-use Rattle.lines.specs.Text.{Wrote}
-use Rattle.lines.proofs.Text.{wrote-as, then, fitted}
+use Rattle.texts.specs.Text.{Wrote}
+use Rattle.texts.proofs.Text.{wrote-as, then, fitted}
 use Rattle.lines.proofs.Figures.{field-first, field-next}
 use Rattle.lines.proofs.add_field.Statement.{statement}
 use Rattle.lines.proofs.add_field.Tie as tie

@@ -6,7 +6,7 @@ use native.Mathlib.Omega.{arith}
 use borrow.Author.Needs.{needs}
 use lib.ListN.{length}
 use Rattle.lines.specs.Figures.{fieldIn}
-use Rattle.lines.proofs.Text.{wrote-as, then, fitted, Laid, laid-none, laid-room, laid-more, laid-all}
+use Rattle.texts.proofs.Text.{wrote-as, then, fitted, Laid, laid-none, laid-room, laid-more, laid-all}
 use Rattle.lines.proofs.Figures.{figures-long, figures-is}
 use Rattle.lines.proofs.add_figures.Statement.{statement}
 use Rattle.lines.proofs.add_figures.Tie as tie

@@ -4,7 +4,7 @@ use mathlib.Core.Path.{ap, _∙_}
 use native.Mathlib.Omega.{arith}
 use borrow.Author.Needs.{needs}
 use lib.ListN.{length}
-use Rattle.lines.proofs.Text.{wrote-as, fitted}
+use Rattle.texts.proofs.Text.{wrote-as, fitted}
 use Rattle.lines.proofs.Figures.{decimal-is}
 use Rattle.lines.proofs.add_number.Statement.{statement}
 use Rattle.lines.proofs.add_number.Tie as tie

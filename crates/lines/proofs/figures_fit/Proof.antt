@@ -5,9 +5,9 @@ use Prim.Native.Nat.{_+_, _-_, _≤_}
 use native.Mathlib.Omega.{arith}
 use borrow.Author.Needs.{needs}
 use lib.ListN.{length}
-use Rattle.lines.specs.Text.{textOver}
+use Rattle.texts.specs.Text.{textOver}
 use Rattle.lines.specs.Figures.{fieldIn}
-use Rattle.lines.proofs.Text.{text-none}
+use Rattle.texts.proofs.Text.{text-none}
 use Rattle.lines.proofs.Figures.{fit-stops, fit-more, fit-all}
 use Rattle.lines.proofs.figures_fit.Statement.{statement}
 use Rattle.lines.proofs.figures_fit.Tie as tie

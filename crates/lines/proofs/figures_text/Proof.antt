@@ -7,7 +7,7 @@ use denote.Ref.{now}
 use borrow.Author.Tests.{leb-true, leb-false}
 use lib.ListN.{length}
 use Rattle.lines.specs.Figures.{figuresLine}
-use Rattle.lines.proofs.Text.{fits, short}
+use Rattle.texts.proofs.Text.{fits, short}
 use Rattle.lines.proofs.figures_text.Statement.{statement}
 use Rattle.lines.proofs.figures_text.Tie as tie
 

@@ -7,9 +7,9 @@ use borrow.Author.Needs.{needs}
 use denote.Ref.{now}
 use borrow.Author.Tests.{leb-true, leb-false}
 use lib.ListN.{length}
-use Rattle.lines.specs.Text.{Wrote}
+use Rattle.texts.specs.Text.{Wrote}
 use Rattle.lines.specs.Figures.{refusedMark, figuresLine}
-use Rattle.lines.proofs.Text.{wrote-as, then, fits, fitted, short}
+use Rattle.texts.proofs.Text.{wrote-as, then, fits, fitted, short}
 use Rattle.lines.proofs.Figures.{refused-is, refused-long}
 use Rattle.lines.proofs.refused_text.Statement.{statement}
 use Rattle.lines.proofs.refused_text.Tie as tie

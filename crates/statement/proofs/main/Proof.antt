@@ -1,7 +1,7 @@
 -- `statement::main` writes no more of its array than the text that `customer_text` laid there.
 -- Assumes nothing.
 use borrow.Author.Needs.{needs}
-use Rattle.lines.proofs.Text.{within}
+use Rattle.texts.proofs.Text.{within}
 use Rattle.statement.proofs.main.Statement.{statement}
 use Rattle.statement.proofs.main.Tie as tie
 

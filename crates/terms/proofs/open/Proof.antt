@@ -3,7 +3,7 @@
 use mathlib.Core.Path.{_≡_, sym, ap, _∙_}
 use borrow.Author.Needs.{needs}
 use types.Run.{miss}
-use Rattle.calendar.specs.Free.{windowDays}
+use Rattle.day_kinds.specs.Kinds.{windowDays}
 use Rattle.sheet.specs.declared.Sheet.{Sheet}
 use Rattle.sheet.specs.Answers.{ReadSaid}
 use Rattle.sheet.proofs.Exactly.{read-never}

@@ -8,9 +8,9 @@ use native.Mathlib.Omega.{arith}
 use borrow.Author.Needs.{needs}
 use lib.ListN.{length, take}
 use lib.Seq.{length-take-le}
-use Rattle.lines.specs.Text.{Wrote}
+use Rattle.texts.specs.Text.{Wrote}
 use Rattle.lines.specs.Figures.{figuresLine}
-use Rattle.lines.proofs.Text.{wrote-as, then, fitted, taken}
+use Rattle.texts.proofs.Text.{wrote-as, then, fitted, taken}
 use Rattle.window_lines.specs.Runs.{headMark}
 use Rattle.window_lines.proofs.Runs.{head-is, head-long, head-short}
 use Rattle.window_lines.proofs.add_head.Statement.{statement}

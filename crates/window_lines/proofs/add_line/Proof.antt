@@ -4,9 +4,9 @@ use mathlib.Core.List.{List, [], _∷_, _++_}
 use Prim.Native.Nat.{ℕ}
 use native.Mathlib.Omega.{arith}
 use borrow.Author.Needs.{needs}
-use Rattle.lines.specs.Text.{Wrote}
+use Rattle.texts.specs.Text.{Wrote}
 use Rattle.window_lines.specs.Runs.{digit, timeOf, runLine}
-use Rattle.lines.proofs.Text.{then, fitted}
+use Rattle.texts.proofs.Text.{then, fitted}
 use Rattle.window_lines.proofs.add_line.Statement.{statement}
 use Rattle.window_lines.proofs.add_line.Tie as tie
 

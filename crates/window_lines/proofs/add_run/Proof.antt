@@ -6,7 +6,7 @@ use borrow.Author.Needs.{needs}
 use lib.ListN.{length}
 use Rattle.sheet.specs.Windows.{isSet}
 use Rattle.window_lines.specs.Runs.{runLine, runEnd, runText}
-use Rattle.lines.proofs.Text.{wrote-as, wrote-none}
+use Rattle.texts.proofs.Text.{wrote-as, wrote-none}
 use Rattle.window_lines.proofs.Runs.{line-long, run-yes, run-no}
 use Rattle.window_lines.proofs.add_run.Statement.{statement}
 use Rattle.window_lines.proofs.add_run.Tie as tie

@@ -6,7 +6,7 @@ use borrow.Author.Needs.{needs}
 use Rattle.answers.specs.Ruling.{dayQuarters}
 use Rattle.sheet.specs.Windows.{isSet}
 use Rattle.window_lines.specs.Runs.{runText}
-use Rattle.lines.proofs.Text.{Laid, laid-none, laid-room, laid-more, laid-all}
+use Rattle.texts.proofs.Text.{Laid, laid-none, laid-room, laid-more, laid-all}
 use Rattle.window_lines.proofs.add_runs.Statement.{statement}
 use Rattle.window_lines.proofs.add_runs.Tie as tie
 

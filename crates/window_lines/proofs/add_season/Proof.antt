@@ -6,8 +6,8 @@ use borrow.Author.Needs.{needs}
 use lib.ListN.{length}
 use Rattle.answers.specs.Ruling.{dayQuarters}
 use Rattle.sheet.specs.Windows.{isSet}
-use Rattle.lines.specs.Text.{textOver}
-use Rattle.lines.proofs.Text.{wrote-as, fitted}
+use Rattle.texts.specs.Text.{textOver}
+use Rattle.texts.proofs.Text.{wrote-as, fitted}
 use Rattle.window_lines.specs.Runs.{noneLine, runText, seasonText}
 use Rattle.window_lines.proofs.Runs.{season-runs, season-none}
 use Rattle.window_lines.proofs.add_season.Statement.{statement}

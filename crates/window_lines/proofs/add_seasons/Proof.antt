@@ -5,7 +5,7 @@ use native.Mathlib.Omega.{arith}
 use borrow.Author.Needs.{needs}
 use Rattle.sheet.specs.Windows.{seasons}
 use Rattle.window_lines.specs.Runs.{seasonIn}
-use Rattle.lines.proofs.Text.{Laid, laid-none, laid-room, laid-more, laid-all}
+use Rattle.texts.proofs.Text.{Laid, laid-none, laid-room, laid-more, laid-all}
 use Rattle.window_lines.proofs.add_seasons.Statement.{statement}
 use Rattle.window_lines.proofs.add_seasons.Tie as tie
 

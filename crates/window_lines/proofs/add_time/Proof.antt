@@ -2,7 +2,7 @@
 -- Assumes nothing.
 use native.Mathlib.Omega.{arith}
 use borrow.Author.Needs.{needs}
-use Rattle.lines.proofs.Text.{fitted}
+use Rattle.texts.proofs.Text.{fitted}
 use Rattle.window_lines.specs.Runs.{timeOf}
 use Rattle.window_lines.proofs.add_time.Statement.{statement}
 use Rattle.window_lines.proofs.add_time.Tie as tie

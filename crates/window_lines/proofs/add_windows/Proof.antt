@@ -2,7 +2,7 @@
 -- Assumes nothing.
 use native.Mathlib.Omega.{arith}
 use borrow.Author.Needs.{needs}
-use Rattle.lines.proofs.Text.{wrote-as, then}
+use Rattle.texts.proofs.Text.{wrote-as, then}
 use Rattle.window_lines.proofs.Runs.{windows-is, windows-long}
 use Rattle.window_lines.proofs.add_windows.Statement.{statement}
 use Rattle.window_lines.proofs.add_windows.Tie as tie

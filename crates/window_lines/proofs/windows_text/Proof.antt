@@ -6,7 +6,7 @@ use native.Mathlib.Omega.{arith}
 use borrow.Author.Needs.{needs}
 use lib.ListN.{length}
 use lib.Seq.{length-take-le}
-use Rattle.lines.proofs.Text.{wrote-as, fits, fitted, short, taken}
+use Rattle.texts.proofs.Text.{wrote-as, fits, fitted, short, taken}
 use Rattle.window_lines.proofs.Runs.{windows-short}
 use Rattle.window_lines.proofs.windows_text.Statement.{statement}
 use Rattle.window_lines.proofs.windows_text.Tie as tie

@@ -10,10 +10,8 @@ use native.Mathlib.Omega.{arith}
 use borrow.Author.Tests.{le-leb}
 use lib.ListN.{length}
 use Rattle.answers.proofs.Laws.{one-answer}
-use Rattle.lines.specs.Text.{endIn, Put}
-use Rattle.lines.specs.Figures.{figuresLine, refusedLine}
-use Rattle.lines.proofs.Text.{short}
-use Rattle.lines.proofs.Figures.{figures-long, refused-long}
+use Rattle.texts.specs.Text.{endIn, Put}
+use Rattle.texts.proofs.Text.{short}
 
 pub text-only :
     (at : ℕ) (text buffer : List ℕ) {r s : ℕ} {after later : List ℕ}
@@ -30,9 +28,3 @@ nothing text buffer some = (λ e. go (decLt (length buffer) (length text)) e, λ
     go : Dec (length buffer < length text) → endIn 0 text buffer ≡ 0 → length buffer < length text
     go (yes l) e = l
     go (no l) e = absurd (omega (arith, rw (le-leb (0 + length text) (length buffer) (omega arith)) at e))
-
-pub some-figures : (figures : List ℕ) → 0 < length (figuresLine figures)
-some-figures figures = omega (arith, figures-long figures)
-
-pub some-refused : (figures : List ℕ) → 0 < length (refusedLine figures)
-some-refused figures = omega (arith, refused-long figures)

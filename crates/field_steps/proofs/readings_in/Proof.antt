@@ -1,4 +1,4 @@
--- `fields::readings_in` meets its contract. The loop's invariant: the first i readings are filled in.
+-- `field_steps::readings_in` meets its contract. The loop's invariant: the first i readings are filled in.
 -- Assumes nothing.
 use mathlib.Core.Path.{refl}
 use Prim.Native.Nat.{_-_, _*_}
@@ -6,10 +6,10 @@ use native.Mathlib.Omega.{arith}
 use borrow.Author.Needs.{needs}
 use Rattle.encoding.specs.Bytes.{fourAt}
 use Rattle.readings.specs.Runs.{mostReadings}
 use Rattle.fields.specs.Series.{readingBytes}
 use Rattle.ranges.proofs.Tables.{Filled, filled-none, filled-more, filled-all}
-use Rattle.fields.proofs.readings_in.Statement.{statement}
-use Rattle.fields.proofs.readings_in.Tie as tie
+use Rattle.field_steps.proofs.readings_in.Statement.{statement}
+use Rattle.field_steps.proofs.readings_in.Tie as tie
 
 abbrev Inv-loop : tie.InvT-loop
 Inv-loop b out₀ i₀ out i = Filled (λ k. fourAt b (readingBytes * k)) mostReadings 0 i out

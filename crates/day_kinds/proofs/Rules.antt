@@ -6,9 +6,9 @@ use Prim.Native.Nat.{ℕ, _+_, _-_, _≤_, _<_}
 use native.Mathlib.Omega.{arith}
 use borrow.Author.Tests.{le-leb, lt-leb, eq-eqb, ne-eqb}
 use lib.Dec.{leb}
-use Rattle.calendar.specs.declared.DayKind.the-variants.{Windows, Weekend, Listed, Christmas, Bridge}
+use Rattle.day_kinds.specs.declared.DayKind.the-variants.{Windows, Weekend, Listed, Christmas, Bridge}
 use Rattle.dates.specs.Dates.{yearDays, dayOf, weekdayOf, saturday}
-use Rattle.calendar.specs.Free.{christmas, free, candidate, mondayCandidate, fridayCandidate, bridge, kindBy}
+use Rattle.day_kinds.specs.Kinds.{christmas, free, candidate, mondayCandidate, fridayCandidate, bridge, kindBy}
 use Rattle.dates.proofs.Months.{year-end}
 
 -- 24 December is the eighth day from the year's end

@@ -1,10 +1,10 @@
--- `lines::add_bytes` meets its contract: the bytes fit, and are laid over the buffer, or nothing is done.
+-- `texts::add_bytes` meets its contract: the bytes fit, and are laid over the buffer, or nothing is done.
 -- Assumes nothing.
 use native.Mathlib.Omega.{arith}
 use borrow.Author.Needs.{needs}
-use Rattle.lines.proofs.Text.{wrote-laid, fits, short}
-use Rattle.lines.proofs.add_bytes.Statement.{statement}
-use Rattle.lines.proofs.add_bytes.Tie as tie
+use Rattle.texts.proofs.Text.{wrote-laid, fits, short}
+use Rattle.texts.proofs.add_bytes.Statement.{statement}
+use Rattle.texts.proofs.add_bytes.Tie as tie
 
 pub add-bytes-spec : {M : Type 1} → statement M
 add-bytes-spec =

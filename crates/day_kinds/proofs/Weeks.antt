@@ -14,9 +14,9 @@ use Rattle.ranges.proofs.Bools.{decided, both, either, neither, clash}
 use Rattle.ranges.proofs.Tables.{getD-table}
 use Rattle.dates.specs.Dates.{yearDays, mostDays, weekdayOf, monday, friday}
 use Rattle.holidays.specs.Holidays.{listed}
-use Rattle.calendar.specs.declared.DayKind.the-variants.{Windows, Weekend, Listed, Christmas, Bridge}
-use Rattle.calendar.specs.Free.{weekend, christmas, free, candidate, mondayCandidate, fridayCandidate, bridge, kindBy, isWindows, carries, windowDays}
-use Rattle.calendar.proofs.Rules.{christmas-late}
+use Rattle.day_kinds.specs.declared.DayKind.the-variants.{Windows, Weekend, Listed, Christmas, Bridge}
+use Rattle.day_kinds.specs.Kinds.{weekend, christmas, free, candidate, mondayCandidate, fridayCandidate, bridge, kindBy, isWindows, carries, windowDays}
+use Rattle.day_kinds.proofs.Rules.{christmas-late}
 
 module _ (y : ℕ) (isListed : ℕ → Bool) where
   -- what a candidate is

@@ -15,7 +15,7 @@ use lib.Seq.{paste, length-paste, length-take-le, take-all, take-at, drop-append
 use Rattle.ranges.proofs.Joined.{joined-none, joined-suc, joined-more}
 use Rattle.encoding.specs.Bytes.{laid}
 use Rattle.encoding.proofs.Bytes.{laid-whole}
-use Rattle.lines.specs.Text.{textOver, endIn, putIn, Put, Wrote}
+use Rattle.texts.specs.Text.{textOver, endIn, putIn, Put, Wrote}
 
 -- the same text by another name
 pub wrote-as : {d t u e : List ℕ} {at r : ℕ} → t ≡ u → Wrote d at t e r → Wrote d at u e r

@@ -1,8 +1,8 @@
--- `fields::is_going` meets its contract, a case for each stage.
+-- `field_steps::is_going` meets its contract, a case for each stage.
 -- Assumes nothing.
 use borrow.Author.Needs.{needs}
-use Rattle.fields.proofs.is_going.Statement.{statement}
-use Rattle.fields.proofs.is_going.Tie as tie
+use Rattle.field_steps.proofs.is_going.Statement.{statement}
+use Rattle.field_steps.proofs.is_going.Tie as tie
 
 pub is-going-spec : {M : Type 1} → statement M
 is-going-spec =

@@ -7,8 +7,8 @@ use lib.Dec.{leb, eqb}
 use Rattle.ranges.specs.Ranges.{table}
 use Rattle.dates.specs.Dates.{mostDays, dayOf, weekdayOf, monday, friday, saturday}
 use Rattle.holidays.specs.Holidays.{listed}
-use Rattle.calendar.specs.declared.DayKind.{DayKind}
-use Rattle.calendar.specs.declared.DayKind.the-variants.{Windows, Weekend, Listed, Christmas, Bridge}
+use Rattle.day_kinds.specs.declared.DayKind.{DayKind}
+use Rattle.day_kinds.specs.declared.DayKind.the-variants.{Windows, Weekend, Listed, Christmas, Bridge}
 
 -- a Saturday or a Sunday
 abbrev pub weekend : ℕ → ℕ → Bool
