@@ -8,7 +8,7 @@ use lib.ListN.{getD}
 use Rattle.ranges.specs.Ranges.{numberIf, table}
 use Rattle.answers.specs.Ruling.{holidaysMost, capacityOut, energyOut}
 use Rattle.holidays.specs.Holidays.{badEntry}
-use Rattle.encoding.specs.Bytes.{twoAt, fourAt, markSize, versionSize}
+use Rattle.encoding.specs.Bytes.{ascii, twoAt, fourAt, markSize, versionSize}
 use Rattle.sheet.specs.Bytes.{mark, yearAt, sheetSize, seasonBytes, seasonFull}
 use Rattle.tariff.specs.declared.Prices.{Prices}
 use Rattle.terms.specs.Basis.{Basis, basis}
@@ -18,9 +18,9 @@ use Rattle.fields.specs.Layout.{Field, Layout, layoutOf}
 use Rattle.fields.specs.File.{part}
 use Rattle.fields.specs.Common.{markField, versionField, yearField, levelField}
 
--- the mark `CUS`, in ASCII
+-- the mark
 abbrev pub customerMark : List ℕ
-customerMark = 67 ∷ 85 ∷ 83 ∷ []
+customerMark = ascii "CUS"
 
 -- the places of the sheet, the option, the number of holidays, and the holidays
 abbrev pub sheetAt : ℕ

@@ -1,13 +1,23 @@
--- Numbers, marks and versions in the bytes b of a sheet or a file. A number has its high byte first; the sheet and both
--- files begin with a mark of three bytes and a version. Places i of bytes count from 0, and behind the last byte there
--- is 0. Rules 5.1 and 10.1 to 10.3.
+-- Text, numbers, marks and versions in the bytes b of a sheet or a file. A number has its high byte first; the sheet and
+-- both files begin with a mark of three bytes and a version. Places i of bytes count from 0, and behind the last byte
+-- there is 0. Rules 5.1 and 10.1 to 10.3.
 use mathlib.Core.Bool.{Bool, not}
-use mathlib.Core.List.{List}
-use Prim.Native.Nat.{ℕ, _+_, _-_, min}
+use mathlib.Core.List.{List, [], _∷_}
+use Prim.Native.Nat.{ℕ, zero, suc, _+_, _-_, min}
+use Prim.Native.Char.{code}
+use Prim.Native.String.{String, len, charAt}
 use lib.Dec.{eqb}
 use lib.ListN.{length, getD}
 use lib.Seq.{paste}
 use Rattle.ranges.specs.Ranges.{anyOver, inBase}
+
+-- a text as bytes, in ASCII: the codes of its n characters from place i on; and all of them
+abbrev pub codesFrom : String → ℕ → ℕ → List ℕ
+codesFrom text i zero = []
+codesFrom text i (suc n) = code (charAt text i) ∷ codesFrom text (suc i) n
+
+abbrev pub ascii : String → List ℕ
+ascii text = codesFrom text 0 (len text)
 
 -- the number of 16 bits at place i, and the number of 32 bits
 unfoldable pub twoAt : List ℕ → ℕ → ℕ

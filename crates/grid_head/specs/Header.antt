@@ -3,15 +3,15 @@
 use mathlib.Core.List.{List, [], _∷_}
 use Prim.Native.Nat.{ℕ, _+_}
 use lib.ListN.{getD}
-use Rattle.encoding.specs.Bytes.{twoAt, markSize, versionSize, yearSize}
+use Rattle.encoding.specs.Bytes.{ascii, twoAt, markSize, versionSize, yearSize}
 use Rattle.grid_days.specs.declared.Grid.{Grid}
 use Rattle.grid_days.specs.Days.{openGrid}
 use Rattle.fields.specs.Layout.{Field, Layout, layoutOf}
 use Rattle.fields.specs.Common.{markField, versionField, yearField, levelField}
 
--- the mark `GRD`, in ASCII
+-- the mark
 abbrev pub gridMark : List ℕ
-gridMark = 71 ∷ 82 ∷ 68 ∷ []
+gridMark = ascii "GRD"
 
 -- the fields of the header, in order, the first being field 0
 abbrev pub gridFields : List ℕ → List Field

@@ -14,6 +14,7 @@ use Rattle.periods.specs.Period.{lateDays}
 use Rattle.readings.specs.declared.Run.{Run}
 use Rattle.readings.specs.declared.Run.the-variants.{Year, Period}
 use Rattle.readings.specs.Runs.{runDays, dayLen, quarterOf}
+use Rattle.encoding.specs.Bytes.{ascii}
 use Rattle.sheet.specs.Bytes.{sheetSize}
 use Rattle.grid.specs.Answers.{windowsAnswer, windowsBuffer}
 use Rattle.terms.specs.Basis.{Basis, basis}
@@ -90,37 +91,21 @@ customerHeader = customerMark ++ ((0x00 ∷ 0x01 ∷ []) ++ (exampleSheet ++ ((0
 unfoldable pub customerBytes : List ℕ
 customerBytes = customerHeader ++ seriesBytes customerSeries
 
--- what the window program prints, as the bytes of its characters
+-- what the window program prints
 abbrev pub exampleWindows : List ℕ
-exampleWindows =
-    -- `HLZ 2025 5`
-    (72 ∷ 76 ∷ 90 ∷ 32 ∷ 50 ∷ 48 ∷ 50 ∷ 53 ∷ 32 ∷ 53 ∷ 10 ∷ [])
-    -- `1 18:00-18:15`
-    ++ ((49 ∷ 32 ∷ 49 ∷ 56 ∷ 58 ∷ 48 ∷ 48 ∷ 45 ∷ 49 ∷ 56 ∷ 58 ∷ 49 ∷ 53 ∷ 10 ∷ [])
-    -- `2 none`
-    ++ ((50 ∷ 32 ∷ 110 ∷ 111 ∷ 110 ∷ 101 ∷ 10 ∷ [])
-    -- `3 none`
-    ++ ((51 ∷ 32 ∷ 110 ∷ 111 ∷ 110 ∷ 101 ∷ 10 ∷ [])
-    -- `4 none`
-    ++ (52 ∷ 32 ∷ 110 ∷ 111 ∷ 110 ∷ 101 ∷ 10 ∷ []))))
+exampleWindows = ascii "HLZ 2025 5\n1 18:00-18:15\n2 none\n3 none\n4 none\n"
 
 -- the customer's basis: that sheet, no holidays, the prices of the cases, and no option
 abbrev pub exampleBasis : Basis
 exampleBasis = basis exampleSheet [] prices false
 
--- what the year is answered, and the statement program's line: `0 1001500 2001500 1000000 1500000 500000 2 72`, which
--- are the number, c, g, M, S, H, and its day, from 1, and quarter, from 0
+-- what the year is answered: the number, c, g, M, S, H, and its day, from 1, and quarter, from 0; and the statement
+-- program's line
 abbrev pub customerSaid : Said
 customerSaid = record { number = 0; figures = 1001500 ∷ 2001500 ∷ 1000000 ∷ 1500000 ∷ 500000 ∷ 2 ∷ 72 ∷ [] }
 
 abbrev pub exampleStatement : List ℕ
-exampleStatement =
-    -- `0 1001500 2001500`
-    (48 ∷ 32 ∷ 49 ∷ 48 ∷ 48 ∷ 49 ∷ 53 ∷ 48 ∷ 48 ∷ 32 ∷ 50 ∷ 48 ∷ 48 ∷ 49 ∷ 53 ∷ 48 ∷ 48 ∷ [])
-    -- ` 1000000 1500000`
-    ++ ((32 ∷ 49 ∷ 48 ∷ 48 ∷ 48 ∷ 48 ∷ 48 ∷ 48 ∷ 32 ∷ 49 ∷ 53 ∷ 48 ∷ 48 ∷ 48 ∷ 48 ∷ 48 ∷ [])
-    -- ` 500000 2 72`
-    ++ (32 ∷ 53 ∷ 48 ∷ 48 ∷ 48 ∷ 48 ∷ 48 ∷ 32 ∷ 50 ∷ 32 ∷ 55 ∷ 50 ∷ 10 ∷ []))
+exampleStatement = ascii "0 1001500 2001500 1000000 1500000 500000 2 72\n"
 
 -- the grid's series writes the sheet of case 12 into every buffer with room for it, and the bytes behind it stay
 pub record ExampleLaid (buffer : List ℕ) : Type 0 where

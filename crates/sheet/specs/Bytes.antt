@@ -7,13 +7,13 @@ use lib.Dec.{ltb, eqb}
 use lib.ListN.{getD}
 use Rattle.ranges.specs.Ranges.{bit, countOver, table, inBase, digitOf}
 use Rattle.answers.specs.Ruling.{dayQuarters}
-use Rattle.encoding.specs.Bytes.{markSize, versionSize, yearSize, levelSize, otherMark, formatVersion, twoAt}
+use Rattle.encoding.specs.Bytes.{ascii, markSize, versionSize, yearSize, levelSize, otherMark, formatVersion, twoAt}
 use Rattle.sheet.specs.declared.Sheet.{Sheet}
 use Rattle.sheet.specs.Windows.{windowPlaces, tooMany}
 
 -- the mark, and the places where the fields start, in order: each starts where the one before it ends
 abbrev pub mark : List ℕ
-mark = 72 ∷ 76 ∷ 90 ∷ []
+mark = ascii "HLZ"
 
 abbrev pub versionAt : ℕ
 versionAt = markSize

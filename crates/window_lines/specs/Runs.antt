@@ -7,13 +7,14 @@ use Prim.Native.Nat.{ℕ, _+_, _-_, _*_, _/_, _%_}
 use lib.Dec.{eqb}
 use Rattle.ranges.specs.Ranges.{anyOver, firstOver}
 use Rattle.answers.specs.Ruling.{dayQuarters}
+use Rattle.encoding.specs.Bytes.{ascii}
 use Rattle.sheet.specs.Windows.{seasons, isSet}
 use Rattle.texts.specs.Text.{textOver}
 use Rattle.lines.specs.Figures.{figuresLine}
 
 -- the word `HLZ` and a space; and the first line, with year and level
 abbrev pub headMark : List ℕ
-headMark = 72 ∷ 76 ∷ 90 ∷ 32 ∷ []
+headMark = ascii "HLZ "
 
 unfoldable pub headLine : ℕ → ℕ → List ℕ
 headLine year level = headMark ++ figuresLine (year ∷ level ∷ [])
@@ -27,15 +28,15 @@ two n = digit (n / 10) ∷ digit (n % 10) ∷ []
 
 -- the time at which quarter q begins, as `hh:mm`; for 96 it is 24:00, where the day ends
 unfoldable pub timeOf : ℕ → List ℕ
-timeOf q = two (q / 4) ++ (58 ∷ two (q % 4 * 15))
+timeOf q = two (q / 4) ++ (ascii ":" ++ two (q % 4 * 15))
 
 -- a run's line: the season's number, the time of its first quarter, and the time at which it ends
 unfoldable pub runLine : ℕ → ℕ → ℕ → List ℕ
-runLine season from to = (digit season ∷ 32 ∷ []) ++ timeOf from ++ (45 ∷ []) ++ timeOf to ++ (10 ∷ [])
+runLine season from to = (digit season ∷ ascii " ") ++ timeOf from ++ ascii "-" ++ timeOf to ++ ascii "\n"
 
 -- the line of a season without windows: its number and `none`
 abbrev pub noneLine : ℕ → List ℕ
-noneLine season = digit season ∷ 32 ∷ 110 ∷ 111 ∷ 110 ∷ 101 ∷ 10 ∷ []
+noneLine season = digit season ∷ ascii " none\n"
 
 -- a run begins at quarter q: the quarter is set, and it is the day's first or the one before is not set
 abbrev pub begins : (ℕ → Bool) → ℕ → Bool
