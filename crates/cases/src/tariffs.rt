@@ -70,7 +70,7 @@ pub(crate) fn one_set() {
     let figures = next_figures();
     let rates = next_rates();
     output::letter(b'P');
-    output::next(charges::prices_out(rates.prices) as u64);
+    output::next(price_limits::prices_out(rates.prices) as u64);
     output::letter(b'\n');
     write_answer(b'E', decision::eligible(figures, rates));
     write_answer(b'C', decision::charge(figures, rates));

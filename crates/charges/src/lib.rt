@@ -1,8 +1,8 @@
-// Tests a price list, and works out the charges of a year's figures. Any figures and any prices have an answer. It
-// meets `tariff`, specs/Prices, specs/Charges and specs/Decision. Rules 2.1, 6.6 and 7.1 to 7.5.
+// Works out the charges of a year's figures. Any figures and any prices have an answer. It meets `tariff`, specs/Charges
+// and specs/Decision. Rules 6.6 and 7.1 to 7.5.
 ghost use mathlib.Core.Path.{_≡_};
 ghost use Prim.Native.Nat.{_≤_, max};
-ghost use Rattle.tariff.specs.Prices.{rowOut, pricesOut, LegalRow, LegalPrices};
+ghost use Rattle.tariff.specs.Prices.{LegalRow, LegalPrices};
 ghost use Rattle.tariff.specs.Charges.{fewHours, rowOf, chargeFor, chargeMost, general, reduced, floorOf};
 ghost use Rattle.tariff.specs.Answers.{saidOfGeneral, saidOfCharges};
 ghost use Rattle.tariff.specs.Decision.{generalAnswer, chargesAnswer};
@@ -26,22 +26,6 @@ const CENT_PARTS: u64 = 4_000_000;
 const CAPACITY_PARTS: u64 = 4_000;
 
 const HALF_CENT: u64 = CENT_PARTS / 2;
-
-// Is one of the two prices of a row above its limit?
-fn row_out(row: Row) -> bool
-    ensures { λ r. ⌜ r ≡ rowOut row ⌝ }
-{
-    answers::capacity_out(row.capacity) | answers::energy_out(row.energy)
-}
-
-// Is one of the four prices of a list above its limit (answer 6)? Any list has an answer.
-pub fn prices_out(prices: Prices) -> bool
-    ensures { λ r. ⌜ r ≡ pricesOut prices ⌝ }
-{
-    let low = prices.few;
-    let high = prices.many;
-    row_out(low) | row_out(high)
-}
 
 // A charge in cent for a capacity figure in W, rounded once. The sum is taken apart into a multiple of 4,000,000 and
 // the rest: the multiple makes whole cents and needs no rounding, and so no product is too large, whatever the sum.
@@ -110,7 +94,7 @@ pub fn general_charge(figures: Figures, rates: Rates) -> General
     ensures { λ r. ⌜ saidOfGeneral r ≡ generalAnswer figures rates ⌝ }
 {
     let prices = rates.prices;
-    if prices_out(prices) {
+    if price_limits::prices_out(prices) {
         return General::PriceOut;
     }
     General::Cents(general_cents(figures, rates))
@@ -122,7 +106,7 @@ pub fn both_charges(figures: Figures, rates: Rates) -> BothCharges
     ensures { λ r. ⌜ saidOfCharges r ≡ chargesAnswer figures rates ⌝ }
 {
     let prices = rates.prices;
-    if prices_out(prices) {
+    if price_limits::prices_out(prices) {
         return BothCharges::PriceOut;
     }
     let general = general_cents(figures, rates);

@@ -111,7 +111,7 @@ impl CustomerFile {
         }
         let k = self.field;
         let mut head = self.head;
-        encoding::lay(&mut head, span.start, &b[..span.width]);
+        buffers::lay(&mut head, span.start, &b[..span.width]);
         let number = customer_head::refusal(&head, k);
         if number != 0 {
             return self.ended(Stage::Refused(number));

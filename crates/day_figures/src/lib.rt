@@ -103,7 +103,7 @@ fn tops_of(day: &[u32]) -> Tops
     requires { ⌜ length (now day) ≤ 100 ⌝ }
     ensures { λ r. ⌜ (r ≡ topsOf (now (day .entry))) × (r .sum ≤ dayMost) ⌝ }
 {
-    let peak = legal_readings::highest(day);
+    let peak = peaks::highest(day);
     let sum = sum_of(day, peak);
     Tops { peak, sum }
 }
@@ -163,7 +163,7 @@ fn masked_high(masks: &[u32; answers::DAY_QUARTERS], run: Run, d: u16, day: &[u3
 {
     let mut high = 0;
     for p in 0..day.len() {
-        high = legal_readings::larger(high, masked(day[p], masks[readings::quarter_of(run, d, p)]));
+        high = peaks::larger(high, masked(day[p], masks[readings::quarter_of(run, d, p)]));
     }
     high
 }
@@ -195,7 +195,7 @@ fn take_plain(f: Figures, t: Tops) -> Figures
     ensures { λ r. ⌜ r ≡ plainly f t ⌝ }
 {
     Figures {
-        peak: legal_readings::larger(f.peak, t.peak),
+        peak: peaks::larger(f.peak, t.peak),
         sum: f.sum + t.sum,
         any: f.any,
         high: f.high,

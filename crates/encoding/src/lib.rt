@@ -2,9 +2,9 @@
 // It meets specs/Bytes. Places and bytes count from 0. Behind the last byte there is 0, so that every call answers for
 // any bytes and any place.
 ghost use mathlib.Core.Path.{_≡_};
-ghost use Prim.Native.Nat.{_+_, _-_, _<_, min};
+ghost use Prim.Native.Nat.{_+_, _<_};
 ghost use lib.ListN.{getD};
-ghost use Rattle.encoding.specs.Bytes.{twoAt, fourAt, laid};
+ghost use Rattle.encoding.specs.Bytes.{twoAt, fourAt};
 ghost use Rattle.encoding.specs.Bytes.{otherMark};
 
 // How many bytes a mark has, and the one version of sheets and files.
@@ -59,24 +59,4 @@ pub fn other_mark(b: &[u8], i: usize, mark: &[u8; MARK_SIZE]) -> bool
     ensures { λ r. ⌜ r ≡ otherMark (now (mark .entry)) (now (b .entry)) i ⌝ }
 {
     (byte_at(b, i, 0) != mark[0]) | (byte_at(b, i, 1) != mark[1]) | (byte_at(b, i, 2) != mark[2])
-}
-
-// How many of `size` bytes fit into `room` bytes from place `at` on.
-fn fitting(size: usize, room: usize, at: usize) -> usize
-    ensures { λ r. ⌜ r ≡ min size (room - at) ⌝ }
-{
-    if room < at {
-        return 0;
-    }
-    if size < room - at { size } else { room - at }
-}
-
-// Lays bytes over a lent buffer from place `at` on, those that fit; all others stay.
-pub fn lay(out: &mut [u8], at: usize, b: &[u8])
-    ensures { λ r. ⌜ now (out .exit) ≡ laid (now (out .entry)) at (now (b .entry)) ⌝ }
-{
-    let n = fitting(b.len(), out.len(), at);
-    for i in 0..n {
-        out[at + i] = b[i];
-    }
 }

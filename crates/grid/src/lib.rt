@@ -88,7 +88,7 @@ pub fn finish(
     ensures { λ r. ⌜ Gives r (finishAnswer year level (now (curves .entry)) (length (now (out .entry))))
         (now (out .exit)) (finished year level (now (curves .entry)) (now (out .entry))) ⌝ }
 {
-    finish_by(year, level, curves, legal_readings::highest(curves), out)
+    finish_by(year, level, curves, peaks::highest(curves), out)
 }
 
 // The windows of a whole series, as a sheet in a lent buffer. Refuses 14, 1, 2, 4, 5, 7 in this order, and then changes
@@ -111,7 +111,7 @@ pub fn windows(year: u16, level: u8, series: &[u32], out: &mut [u8]) -> GridAnsw
         return GridAnswer::WrongLength;
     }
     let curves = grid_curves::collect(year, series);
-    let peak = legal_readings::highest(&curves);
+    let peak = peaks::highest(&curves);
     if answers::GRID_MOST < peak {
         return GridAnswer::BadReading(legal_readings::first_illegal(
             run,

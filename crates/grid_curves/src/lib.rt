@@ -47,7 +47,7 @@ fn lay(curves: &mut [u32; sheet::WINDOW_PLACES], year: u16, d: u16, season: u8, 
     let base = answers::DAY_QUARTERS * (season as usize - 1);
     for p in 0..day.len() {
         let at = base + readings::quarter_of(Run::Period(year), d, p);
-        curves[at] = legal_readings::larger(curves[at], day[p]);
+        curves[at] = peaks::larger(curves[at], day[p]);
     }
 }
 
@@ -67,13 +67,13 @@ fn lay_four(curves: &mut [u32; sheet::WINDOW_PLACES], season: u8, four: &[u32])
 {
     let base = answers::DAY_QUARTERS * (season as usize - 1);
     for q in 0..answers::DAY_QUARTERS {
-        let early = legal_readings::larger(four[q], four[answers::DAY_QUARTERS + q]);
-        let late = legal_readings::larger(
+        let early = peaks::larger(four[q], four[answers::DAY_QUARTERS + q]);
+        let late = peaks::larger(
             four[2 * answers::DAY_QUARTERS + q],
             four[3 * answers::DAY_QUARTERS + q],
         );
         let at = base + q;
-        curves[at] = legal_readings::larger(curves[at], legal_readings::larger(early, late));
+        curves[at] = peaks::larger(curves[at], peaks::larger(early, late));
     }
 }
 

@@ -101,7 +101,7 @@ impl GridFile {
         }
         let k = self.field;
         let mut head = self.head;
-        encoding::lay(&mut head, span.start, &b[..span.width]);
+        buffers::lay(&mut head, span.start, &b[..span.width]);
         let number = grid_head::refusal(&head, k);
         if number != 0 {
             return self.ended(Stage::Refused(number));

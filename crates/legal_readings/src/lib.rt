@@ -1,31 +1,12 @@
-// Legal readings: the highest of some readings, the first above a limit, and the first illegal reading of a run (Rules
-// 2.1, 2.2 and 8.4). It meets `readings`, specs/Legal.
+// Legal readings: the first of some readings above a limit, and the first illegal reading of a run (Rules 2.1, 2.2 and
+// 8.4). It meets `readings`, specs/Legal.
 // Main theorem: the first illegal reading is found by its day and then by its position, in any series, and nothing is
 // read past the series' end.
 ghost use mathlib.Core.Path.{_≡_};
-ghost use Prim.Native.Nat.{max};
 ghost use lib.ListN.{getD};
 ghost use Rattle.readings.specs.Legal.{illegal, highestOf, firstAbove, firstIllegal};
 use answers::Place;
 use readings::Run;
-
-// The larger of two readings.
-pub fn larger(a: u32, b: u32) -> u32
-    ensures { λ r. ⌜ r ≡ max a b ⌝ }
-{
-    if a < b { b } else { a }
-}
-
-// The highest of some readings, and 0 of none.
-pub fn highest(readings: &[u32]) -> u32
-    ensures { λ r. ⌜ r ≡ highestOf (now (readings .entry)) ⌝ }
-{
-    let mut top = 0;
-    for i in 0..readings.len() {
-        top = larger(top, readings[i]);
-    }
-    top
-}
 
 // Is any reading above a limit? One comparison for each and no way out of the loop: less work than to find the highest.
 fn any_above(readings: &[u32], limit: u32) -> bool

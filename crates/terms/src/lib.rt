@@ -54,7 +54,7 @@ fn open_answer(read: SheetAnswer, year: u16, holidays: &[u16], prices: Prices) -
     if holidays::bad_holidays(year, holidays) {
         return Decision::BadHolidays;
     }
-    if charges::prices_out(prices) {
+    if price_limits::prices_out(prices) {
         return Decision::PriceOut;
     }
     Decision::Taken

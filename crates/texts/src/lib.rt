@@ -16,6 +16,6 @@ pub fn add_bytes(buf: &mut [u8], at: usize, bytes: &[u8]) -> usize
     if buf.len() - bytes.len() < at {
         return at;
     }
-    encoding::lay(buf, at, bytes);
+    buffers::lay(buf, at, bytes);
     at + bytes.len()
 }

@@ -127,7 +127,7 @@ fn cut_of(peak: u32, curve: &[u32; answers::DAY_QUARTERS]) -> Cut
             equals: 0,
         };
     }
-    let limit = limit_between(curve, line, legal_readings::highest(curve));
+    let limit = limit_between(curve, line, peaks::highest(curve));
     Cut {
         limit,
         equals: answers::WINDOWS_MOST - count_above(curve, limit),

@@ -1,4 +1,4 @@
--- `legal_readings::highest` meets its contract. The loop's invariant: `top` is the highest of the first i readings.
+-- `peaks::highest` meets its contract. The loop's invariant: `top` is the highest of the first i readings.
 -- Assumes nothing.
 use mathlib.Core.Path.{_≡_, sym}
 use Prim.Native.Nat.{ℕ, _≤_, _-_}
@@ -8,8 +8,8 @@ use lib.ListN.{length, getD}
 use Rattle.ranges.specs.Ranges.{largestOver}
 use Rattle.readings.specs.Legal.{highestOf}
 use Rattle.ranges.proofs.Largest.{largest-none, largest-more}
-use Rattle.legal_readings.proofs.highest.Statement.{statement}
-use Rattle.legal_readings.proofs.highest.Tie as tie
+use Rattle.peaks.proofs.highest.Statement.{statement}
+use Rattle.peaks.proofs.highest.Tie as tie
 
 abbrev Inv-loop : tie.InvT-loop
 Inv-loop readings top₀ i₀ i-end top i = (i ≤ length readings) × (top ≡ largestOver (λ (k : ℕ). getD readings k 0) i)

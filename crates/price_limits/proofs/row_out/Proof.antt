@@ -1,11 +1,11 @@
--- `charges::row_out` meets its contract: it tests the two prices.
+-- `price_limits::row_out` meets its contract: it tests the two prices.
 -- Assumes nothing.
 use mathlib.Core.Path.{ap₂}
 use mathlib.Core.Bool.{_||_}
 use borrow.Author.Needs.{needs}
 use Rattle.tariff.specs.Prices.{rowOut}
-use Rattle.charges.proofs.row_out.Statement.{statement}
-use Rattle.charges.proofs.row_out.Tie as tie
+use Rattle.price_limits.proofs.row_out.Statement.{statement}
+use Rattle.price_limits.proofs.row_out.Tie as tie
 
 returns : tie.Need-returns
 unfolding rowOut

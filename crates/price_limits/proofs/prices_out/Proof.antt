@@ -1,11 +1,11 @@
--- `charges::prices_out` meets its contract: it tests the two rows.
+-- `price_limits::prices_out` meets its contract: it tests the two rows.
 -- Assumes nothing.
 use mathlib.Core.Path.{ap₂}
 use mathlib.Core.Bool.{_||_}
 use borrow.Author.Needs.{needs}
 use Rattle.tariff.specs.Prices.{pricesOut}
-use Rattle.charges.proofs.prices_out.Statement.{statement}
-use Rattle.charges.proofs.prices_out.Tie as tie
+use Rattle.price_limits.proofs.prices_out.Statement.{statement}
+use Rattle.price_limits.proofs.prices_out.Tie as tie
 
 returns : tie.Need-returns
 unfolding pricesOut

@@ -1,11 +1,11 @@
--- `encoding::lay` meets its contract. The loop's invariant: the first i bytes are there.
+-- `buffers::lay` meets its contract. The loop's invariant: the first i bytes are there.
 -- Assumes nothing.
 use Prim.Native.Nat.{_-_}
 use native.Mathlib.Omega.{arith}
 use borrow.Author.Needs.{needs}
 use Rattle.encoding.proofs.Bytes.{Laid, laid-none, laid-more, laid-all}
-use Rattle.encoding.proofs.lay.Statement.{statement}
-use Rattle.encoding.proofs.lay.Tie as tie
+use Rattle.buffers.proofs.lay.Statement.{statement}
+use Rattle.buffers.proofs.lay.Tie as tie
 
 abbrev Inv-loop : tie.InvT-loop
 Inv-loop out₀ at b n i₀ out i = Laid out₀ at b n i out
