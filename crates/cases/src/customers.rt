@@ -8,7 +8,6 @@
 //   P  place (from 0), length: that part of the series as a day.
 //   C  a closing, which leaves the state to the calls after it.
 // tests/customer_cases.py makes them, and what must come of them.
-ghost use Prim.Native.Nat.{_<_};
 use super::input;
 use super::output;
 use super::series;
@@ -19,13 +18,6 @@ use readings::Run;
 use tariff::Decision;
 use tariff::Prices;
 use tariff::Row;
-
-// The state after some days, how many of them were taken, and what the last one offered was answered.
-struct Offered {
-    customer: Customer,
-    taken: u16,
-    answer: Decision,
-}
 
 // A: the whole series, and an opening under the same terms.
 fn ask(series: &[u32]) -> Customer {
@@ -45,10 +37,17 @@ fn ask(series: &[u32]) -> Customer {
     opened.customer
 }
 
-// Days one after the other, `first` from 1, until one is refused.
-fn offer(series: &[u32], customer: Customer, first: usize, count: u16) -> Offered
-    requires { ⌜ first < 65536 ⌝ }
-{
+fn write_days(taken: u16, answer: Decision) {
+    output::letter(b'D');
+    output::next(taken as u64);
+    output::answer(decision_numbers::of_decision(answer));
+    output::letter(b'\n');
+}
+
+// D: days of the series one after the other, until one is refused.
+fn days(series: &[u32], customer: Customer) -> Customer {
+    let first = input::size();
+    let count = input::two();
     let run = Run::Year(customer.terms.rates.year);
     let mut state = customer;
     for k in 0..count {
@@ -56,30 +55,12 @@ fn offer(series: &[u32], customer: Customer, first: usize, count: u16) -> Offere
         let answer = stepped.answer;
         state = stepped.customer;
         let Decision::Taken = answer else {
-            return Offered {
-                customer: state,
-                taken: k,
-                answer,
-            };
+            write_days(k, answer);
+            return state;
         };
     }
-    Offered {
-        customer: state,
-        taken: count,
-        answer: Decision::Taken,
-    }
-}
-
-// D: days of the series.
-fn days(series: &[u32], customer: Customer) -> Customer {
-    let first = input::size();
-    let offered = offer(series, customer, first, input::two());
-    let answer = offered.answer;
-    output::letter(b'D');
-    output::next(offered.taken as u64);
-    output::answer(decision_numbers::of_decision(answer));
-    output::letter(b'\n');
-    offered.customer
+    write_days(count, Decision::Taken);
+    state
 }
 
 // P: a part of the series as a day, whatever its length.

@@ -8,7 +8,6 @@
 //   P  place (from 0), length: that part of the series as a day.
 //   C  room: a closing, which leaves the state to the calls after it. All 64 bytes stand behind the number.
 // tests/grid_cases.py makes them, and what must come of them.
-ghost use Prim.Native.Nat.{_<_};
 use super::input;
 use super::input::ROOM;
 use super::output;
@@ -16,13 +15,6 @@ use super::series;
 use grid::GridAnswer;
 use grid_days::Grid;
 use readings::Run;
-
-// The state after some days, how many of them were taken, and what the last one offered was answered.
-struct Offered {
-    grid: Grid,
-    taken: u16,
-    answer: GridAnswer,
-}
 
 fn write_answer(call: u8, answer: GridAnswer) {
     output::letter(call);
@@ -58,10 +50,17 @@ fn opening() -> Grid {
     opened.grid
 }
 
-// Days one after the other, `first` from 1, until one is refused.
-fn offer(series: &[u32], grid: Grid, first: usize, count: u16) -> Offered
-    requires { ⌜ first < 65536 ⌝ }
-{
+fn write_days(taken: u16, answer: GridAnswer) {
+    output::letter(b'D');
+    output::next(taken as u64);
+    output::answer(grid_numbers::of_answer(answer));
+    output::letter(b'\n');
+}
+
+// D: days of the series one after the other, until one is refused.
+fn days(series: &[u32], grid: Grid) -> Grid {
+    let first = input::size();
+    let count = input::two();
     let run = Run::Period(grid.year);
     let mut state = grid;
     for k in 0..count {
@@ -69,30 +68,12 @@ fn offer(series: &[u32], grid: Grid, first: usize, count: u16) -> Offered
         let answer = stepped.answer;
         state = stepped.grid;
         let GridAnswer::Done = answer else {
-            return Offered {
-                grid: state,
-                taken: k,
-                answer,
-            };
+            write_days(k, answer);
+            return state;
         };
     }
-    Offered {
-        grid: state,
-        taken: count,
-        answer: GridAnswer::Done,
-    }
-}
-
-// D: days of the series.
-fn days(series: &[u32], grid: Grid) -> Grid {
-    let first = input::size();
-    let offered = offer(series, grid, first, input::two());
-    let answer = offered.answer;
-    output::letter(b'D');
-    output::next(offered.taken as u64);
-    output::answer(grid_numbers::of_answer(answer));
-    output::letter(b'\n');
-    offered.grid
+    write_days(count, GridAnswer::Done);
+    state
 }
 
 // P: a part of the series as a day, whatever its length.

@@ -9,7 +9,8 @@ use Rattle.customer.specs.Answers.{decideAnswer}
 use Rattle.fields.specs.Layout.{headSize}
 use Rattle.fields.specs.Series.{seriesIn}
 use Rattle.fields.specs.File.{fileAnswer}
-use Rattle.customer_head.specs.Header.{customerYear, customerLayout, basisIn}
+use Rattle.customer_head.specs.Header.{customerYear, customerLayout}
+use Rattle.customer_opening.specs.Opening.{basisIn}
 
 -- what a customer file is answered: for its header, then for its days, and without a fault there, what the decision
 -- over its whole series is

@@ -14,7 +14,8 @@ use Rattle.fields.specs.declared.Stage.{Stage}
 use Rattle.fields.specs.declared.Stage.the-variants.{Going}
 use Rattle.fields.specs.Stages.{saidOfStage}
 use Rattle.fields.specs.Machine.{Reader, wants, fed}
-use Rattle.customer_head.specs.Header.{customerHeadMost, customerLayout, openedIn}
+use Rattle.customer_head.specs.Header.{customerHeadMost, customerLayout}
+use Rattle.customer_opening.specs.Opening.{openedIn}
 use Rattle.customer_file.specs.declared.CustomerFile.{CustomerFile}
 
 -- after k fields: the customer's year is opened once the header's last field is taken, and is the old one before

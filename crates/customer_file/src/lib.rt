@@ -48,7 +48,7 @@ fn opened_after(customer: Customer, head: &[u8], k: usize) -> Customer
     if 0 < customer_head::span_of(head, k).width {
         return customer;
     }
-    customer_head::opened(head)
+    customer_opening::opened(head)
 }
 
 impl CustomerFile {
@@ -60,7 +60,7 @@ impl CustomerFile {
         CustomerFile {
             field: 0,
             head,
-            customer: customer_head::opened(&head),
+            customer: customer_opening::opened(&head),
             stage: Stage::Going,
         }
     }

@@ -11,9 +11,6 @@ use Rattle.holidays.specs.Holidays.{badEntry}
 use Rattle.encoding.specs.Bytes.{ascii, twoAt, fourAt, markSize, versionSize}
 use Rattle.sheet.specs.Bytes.{mark, yearAt, sheetSize, seasonBytes, seasonFull}
 use Rattle.tariff.specs.declared.Prices.{Prices}
-use Rattle.terms.specs.Basis.{Basis, basis}
-use Rattle.customer_days.specs.declared.Customer.{Customer}
-use Rattle.customer_days.specs.Days.{openCustomer}
 use Rattle.fields.specs.Layout.{Field, Layout, layoutOf}
 use Rattle.fields.specs.File.{part}
 use Rattle.fields.specs.Common.{markField, versionField, yearField, levelField}
@@ -123,10 +120,3 @@ customerFields b = firstFields b ++ (table (holidayField b) (holidayCount b) ++ 
 
 unfoldable pub customerLayout : List ℕ → Layout
 customerLayout b = layoutOf (customerFields b)
-
--- what the header states for the decision, and the customer's year that it opens
-abbrev pub basisIn : List ℕ → Basis
-basisIn b = basis (sheetPart b) (holidaysOf b) (pricesIn b) (optionOf b)
-
-unfoldable pub openedIn : List ℕ → Customer
-openedIn b = openCustomer (basisIn b)

@@ -1,19 +1,15 @@
-// The header of a customer file: where its fields stand, the number that refuses each, and the customer's year that it
-// opens, by the header's bytes. It meets specs/Header, and `fields`, specs/Layout. Fields and places count from 0.
-// Behind the last byte there is 0, so that every call answers for any bytes. Rules 10.3 and 10.4.
+// The header of a customer file: where its fields stand, and the number that refuses each, by the header's bytes. It
+// meets specs/Header, and `fields`, specs/Layout. Fields and places count from 0. Behind the last byte there is 0, so
+// that every call answers for any bytes. Rules 10.3 and 10.4.
 ghost use mathlib.Core.Path.{_≡_};
 ghost use mathlib.Core.Bool.{not};
 ghost use Prim.Native.Nat.{_≤_, _<_, min};
 ghost use lib.Dec.{eqb};
-ghost use lib.ListN.{take};
 ghost use Rattle.ranges.specs.Ranges.{numberIf};
 ghost use Rattle.holidays.specs.Holidays.{before};
 ghost use Rattle.fields.specs.Layout.{fieldAt, fieldSpan};
-ghost use Rattle.customer_head.specs.Header.{holidayCount, holidaysOf, pricesIn, holidayOut, priceFields, customerLayout, openedIn};
-use customer_days::Customer;
+ghost use Rattle.customer_head.specs.Header.{holidayCount, holidaysOf, holidayOut, priceFields, customerLayout};
 use fields::Span;
-use tariff::Prices;
-use tariff::Row;
 
 // How many fields stand before the holidays, and how many prices behind them. Of the former, field 0 (the mark) first:
 // how many bytes each takes, where it starts, and the number that refuses it.
@@ -30,7 +26,7 @@ const NUMBERS: [u8; FIRST_FIELDS] = [12, 12, 12, 12, 1, 2, 12, 12, 12, 12, 12, 3
 // The places, from 0, of the version, the sheet with its fields, the option, the number of holidays, and the holidays.
 const VERSION_AT: usize = 3;
 
-const SHEET_AT: usize = 5;
+pub const SHEET_AT: usize = 5;
 
 const SHEET_VERSION_AT: usize = 8;
 
@@ -40,14 +36,14 @@ const LEVEL_AT: usize = 12;
 
 const SEASONS_AT: usize = 13;
 
-const OPTION_AT: usize = 61;
+pub const OPTION_AT: usize = 61;
 
 const COUNT_AT: usize = 62;
 
-const HOLIDAYS_AT: usize = 63;
+pub const HOLIDAYS_AT: usize = 63;
 
 // How many bytes a holiday has, a price, all prices, and a header with forty holidays.
-const HOLIDAY_BYTES: usize = 2;
+pub const HOLIDAY_BYTES: usize = 2;
 
 const PRICE_BYTES: usize = 4;
 
@@ -63,7 +59,7 @@ fn least(a: usize, b: usize) -> usize
 }
 
 // How many holidays there are, at most 40: a number above 40 is refused itself.
-fn count_of(head: &[u8]) -> usize
+pub fn holiday_count(head: &[u8]) -> usize
     ensures { λ r. ⌜ (r ≡ holidayCount (now (head .entry))) × (r ≤ 40) ⌝ }
 {
     least(
@@ -82,7 +78,7 @@ pub fn span_of(head: &[u8], k: usize) -> Span
             width: WIDTHS[k],
         };
     }
-    let n = count_of(head);
+    let n = holiday_count(head);
     if k < FIRST_FIELDS + n {
         return Span {
             start: HOLIDAYS_AT + HOLIDAY_BYTES * (k - FIRST_FIELDS),
@@ -182,51 +178,9 @@ pub fn refusal(head: &[u8], k: usize) -> u8
     if k < FIRST_FIELDS {
         return field_steps::number_if(first_fails(head, k), NUMBERS[k]);
     }
-    let n = count_of(head);
+    let n = holiday_count(head);
     if k < FIRST_FIELDS + n {
         return holiday_no(head, k - FIRST_FIELDS);
     }
     price_no(head, span_of(head, k).start, k - FIRST_FIELDS - n)
-}
-
-// The holidays, with 0 behind the last.
-fn holidays_of(head: &[u8]) -> [u16; answers::HOLIDAYS_MOST]
-    ensures { λ r. ⌜ take (holidayCount (now (head .entry))) r ≡ holidaysOf (now (head .entry)) ⌝ }
-{
-    let mut out = [0; answers::HOLIDAYS_MOST];
-    for j in 0..count_of(head) {
-        out[j] = encoding::two_at(head, HOLIDAYS_AT + HOLIDAY_BYTES * j);
-    }
-    out
-}
-
-// The prices: the low row's for capacity, the low row's for energy, then both of the high row (Rule 10.3).
-fn prices_of(head: &[u8]) -> Prices
-    ensures { λ r. ⌜ r ≡ pricesIn (now (head .entry)) ⌝ }
-{
-    let at = HOLIDAYS_AT + HOLIDAY_BYTES * count_of(head);
-    let few = Row {
-        capacity: encoding::four_at(head, at),
-        energy: encoding::four_at(head, at + 4),
-    };
-    let many = Row {
-        capacity: encoding::four_at(head, at + 8),
-        energy: encoding::four_at(head, at + 12),
-    };
-    Prices { few, many }
-}
-
-// The customer's year that the header opens. Where its sheet (one that is cut off, too), its holidays or its prices are
-// refused, this is the fixed state of a refused opening (Rule 9.5).
-pub fn opened(head: &[u8]) -> Customer
-    ensures { λ r. ⌜ r ≡ openedIn (now (head .entry)) ⌝ }
-{
-    let n = count_of(head);
-    let list = holidays_of(head);
-    let prices = prices_of(head);
-    let option = encoding::byte_at(head, OPTION_AT, 0) == 1;
-    let from = least(SHEET_AT, head.len());
-    let to = least(OPTION_AT, head.len());
-    let step = Customer::open(&head[from..to], &list[..n], prices, option);
-    step.customer
 }

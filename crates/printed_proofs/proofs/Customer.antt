@@ -40,7 +40,8 @@ use Rattle.lines.specs.Figures.{statementLine}
 use Rattle.fields.specs.declared.Stage.the-variants.{Going, Refused, Complete}
 use Rattle.customer_file.specs.declared.CustomerFile.{CustomerFile}
 use Rattle.fields.specs.Stages.{going, stageOf, saidOfStage}
-use Rattle.customer_head.specs.Header.{customerHeadMost, customerLayout, basisIn, openedIn}
+use Rattle.customer_head.specs.Header.{customerHeadMost, customerLayout}
+use Rattle.customer_opening.specs.Opening.{basisIn, openedIn}
 use Rattle.customer_file.specs.Customer.{customerAnswer}
 use Rattle.customer_file.specs.CustomerMachine.{openedWith, customerHead, customerStart, customerEnded, customerReader, customerWants, customerFed, answerOf}
 use Rattle.customer_text.specs.Text.{customerText}

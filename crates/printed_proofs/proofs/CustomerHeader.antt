@@ -27,7 +27,8 @@ use Rattle.fields.proofs.Bytes.{part-long, part-at, Same}
 use Rattle.fields.proofs.Header.{field-more, field-rises}
 use Rattle.fields.proofs.Fed.{LooksBack}
 use Rattle.fields.proofs.Common.{Own, one-same, mark-own, version-own, year-own, level-own}
-use Rattle.customer_head.specs.Header.{customerMark, sheetAt, optionAt, sheetPart, optionOf, holidaysAt, holidayCount, holidaysOf, pricesAt, priceOf, pricesIn, holidayOut, seasonField, optionField, countField, capacityField, energyField, firstFields, priceFields, customerLayout, openedIn}
+use Rattle.customer_head.specs.Header.{customerMark, sheetAt, optionAt, sheetPart, optionOf, holidaysAt, holidayCount, holidaysOf, pricesAt, priceOf, pricesIn, holidayOut, seasonField, optionField, countField, capacityField, energyField, firstFields, priceFields, customerLayout}
+use Rattle.customer_opening.specs.Opening.{openedIn}
 use Rattle.customer_head.proofs.CustomerLayout.{firstWidths, firstStarts, count-is, width-first, width-holiday, width-price, start-first, start-holiday, start-price, refusal-first, refusal-holiday, refusal-price, holiday-is, size-is}
 
 -- the fields look at their own bytes

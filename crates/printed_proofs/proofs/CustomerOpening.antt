@@ -30,7 +30,8 @@ use Rattle.fields.specs.Layout.{Layout, fieldAt, headSize, stops}
 use Rattle.fields.proofs.Bytes.{part-long, part-at}
 use Rattle.fields.proofs.Common.{mark-no, version-no, year-no, level-no, unrefused}
 use Rattle.fields.proofs.Header.{field-held, fields-held}
-use Rattle.customer_head.specs.Header.{sheetAt, sheetPart, customerYear, holidaysAt, holidayCount, holidaysOf, pricesAt, priceOf, pricesIn, priceFields, customerLayout, basisIn}
+use Rattle.customer_head.specs.Header.{sheetAt, sheetPart, customerYear, holidaysAt, holidayCount, holidaysOf, pricesAt, priceOf, pricesIn, priceFields, customerLayout}
+use Rattle.customer_opening.specs.Opening.{basisIn}
 use Rattle.customer_head.proofs.CustomerLayout.{count-few, count-is, refusal-first, season-refused, holiday-refused, price-refused, size-is}
 use Rattle.customer_head.proofs.Refusals.{season-no, capacity-no, energy-no}
 

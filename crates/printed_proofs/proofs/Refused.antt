@@ -29,7 +29,8 @@ use Rattle.fields.specs.Layout.{Layout, headSize}
 use Rattle.fields.proofs.Common.{refused-as}
 use Rattle.grid_head.specs.Header.{gridLayout, gridYear, gridLevel}
 use Rattle.grid_head.proofs.GridLayout.{grid-count}
-use Rattle.customer_head.specs.Header.{sheetPart, holidayCount, holidaysOf, pricesIn, customerLayout, basisIn}
+use Rattle.customer_head.specs.Header.{sheetPart, holidayCount, holidaysOf, pricesIn, customerLayout}
+use Rattle.customer_opening.specs.Opening.{basisIn}
 use Rattle.customer_head.proofs.CustomerLayout.{count-is}
 use Rattle.printed_proofs.proofs.Grid as GridFields
 use Rattle.printed_proofs.proofs.CustomerOpening.{mark-tested, version-tested, year-tested, level-tested, season-tested, holiday-tested, holidays-long, priceOut, price-tested, formed, year-in, level-in, sheet-in, holidays-in}

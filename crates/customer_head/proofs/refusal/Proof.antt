@@ -28,7 +28,7 @@ returns-3 : tie.Need-returns-3
 returns-3 c =
     let numberIf = c .before .before .before in
     let a = numberIf .before .before .before .args in
-    let n = numberIf .count-of .ensures .0 in
+    let n = numberIf .holiday-count .ensures .0 in
     c .price-no .ensures
     ∙ (λ i. fieldAt (priceFields (a .head .now)) (a .k - 12 - n i) .refusedAt (c .before .span-of .ensures i .start))
     ∙ refusal-rest (a .head .now) (a .k) (omega arith)
@@ -41,7 +41,7 @@ refusal-spec =
     (λ c. search needs)  -- array-read-number-if
     (λ c κs. search needs)  -- number-if-requires
     returns
-    (λ c κs. search needs)  -- count-of-requires
+    (λ c κs. search needs)  -- holiday-count-requires
     (λ c. search needs)  -- add-if2
     (λ c κs. search needs)  -- holiday-no-requires
     returns-2

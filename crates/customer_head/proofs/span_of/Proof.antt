@@ -26,7 +26,7 @@ returns-2 c =
 returns-3 : tie.Need-returns-3
 returns-3 c =
     let a = c .before .before .before .before .before .args in
-    let n = c .before .before .count-of .ensures .0 in
+    let n = c .before .before .holiday-count .ensures .0 in
     let start = ap (λ (n : ℕ). 63 + 2 * n + 4 * (a .k - 12 - n)) n ∙ start-price (a .head .now) (a .k) (omega arith) (omega arith) in
     λ i. record { start = start i; width = width-price (a .head .now) (a .k) (omega arith) (omega arith) i }
 
@@ -34,7 +34,7 @@ returns-4 : tie.Need-returns-4
 returns-4 c =
     let a = c .before .before .before .before .before .args in
     let start = start-none (a .head .now) (a .k) (omega arith) in
-    let at : 63 + 2 * c .before .before .count-of .result + 16 ≡ startOf (customerLayout (a .head .now)) (a .k) = omega arith in
+    let at : 63 + 2 * c .before .before .holiday-count .result + 16 ≡ startOf (customerLayout (a .head .now)) (a .k) = omega arith in
     λ i. record { start = at i; width = width-none (a .head .now) (a .k) (omega arith) i }
 
 pub span-of-spec : {M : Type 1} → statement M
@@ -46,7 +46,7 @@ span-of-spec =
     (λ c. search needs)  -- mul-t13
     (λ c. search needs)  -- array-read-t16
     returns
-    (λ c κs. search needs)  -- count-of-requires
+    (λ c κs. search needs)  -- holiday-count-requires
     (λ c. search needs)  -- add-if2
     (λ c. search needs)  -- mul-t19
     (λ c. search needs)  -- add-t20

@@ -8,7 +8,8 @@ use Rattle.encoding.specs.Bytes.{otherMark}
 use Rattle.sheet.specs.Answers.{readAnswer}
 use Rattle.terms.specs.Opening.{customerOpenAnswer}
 use Rattle.customer_days.specs.Days.{shutCustomer, openCustomer}
-use Rattle.customer_head.specs.Header.{customerHeadMost, openedIn}
+use Rattle.customer_head.specs.Header.{customerHeadMost}
+use Rattle.customer_opening.specs.Opening.{openedIn}
 use Rattle.fields.specs.declared.Stage.the-variants.{Going}
 use Rattle.customer_file.proofs.CustomerFile.start.Statement.{statement}
 use Rattle.customer_file.proofs.CustomerFile.start.Tie as tie

@@ -1,4 +1,4 @@
--- `customer_head::holidays_of` meets its contract. The loop's invariant: the first j places hold the file's holidays.
+-- `customer_opening::holidays_of` meets its contract. The loop's invariant: the first j places hold the file's holidays.
 -- Assumes nothing.
 use mathlib.Core.Path.{refl, _∙_}
 use Prim.Native.Nat.{ℕ, _+_, _-_, _*_, _≤_}
@@ -8,10 +8,10 @@ use lib.ListN.{take}
 use lib.Seq.{length-take-le, getD-take}
 use Rattle.answers.specs.Ruling.{holidaysMost}
 use Rattle.encoding.specs.Bytes.{twoAt}
 use Rattle.customer_head.specs.Header.{holidaysAt, holidayCount}
 use Rattle.ranges.proofs.Tables.{is-table, Filled, filled-none, filled-more}
-use Rattle.customer_head.proofs.holidays_of.Statement.{statement}
-use Rattle.customer_head.proofs.holidays_of.Tie as tie
+use Rattle.customer_opening.proofs.holidays_of.Statement.{statement}
+use Rattle.customer_opening.proofs.holidays_of.Tie as tie
 
 abbrev Inv-loop : tie.InvT-loop
 Inv-loop head out₀ j₀ j-end out j = (j ≤ j-end) × Filled (λ (i : ℕ). twoAt head (holidaysAt + 2 * i)) holidaysMost 0 j out
@@ -37,7 +37,7 @@ holidays-of-spec =
     (tie.spec
     Inv-loop
     μ-loop
-    (λ c κs. search needs)  -- count-of-requires
+    (λ c κs. search needs)  -- holiday-count-requires
     (λ c. (omega arith, filled-none refl))  -- loop-holds
     (λ c. search needs)  -- mul-two-at
     (λ c. search needs)  -- add-two-at
