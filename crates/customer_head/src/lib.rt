@@ -3,7 +3,7 @@
 // that every call answers for any bytes. Rules 10.3 and 10.4.
 ghost use mathlib.Core.Path.{_≡_};
 ghost use mathlib.Core.Bool.{not};
-ghost use Prim.Native.Nat.{_≤_, _<_, min};
+ghost use Prim.Native.Nat.{_≤_, _<_};
 ghost use lib.Dec.{eqb};
 ghost use Rattle.ranges.specs.Ranges.{numberIf};
 ghost use Rattle.holidays.specs.Holidays.{before};
@@ -51,21 +51,16 @@ const PRICES_SIZE: usize = 16;
 
 pub const CUSTOMER_HEAD_MOST: usize = 159;
 
-// The smaller of two numbers.
-fn least(a: usize, b: usize) -> usize
-    ensures { λ r. ⌜ r ≡ min a b ⌝ }
-{
-    if a < b { a } else { b }
-}
-
 // How many holidays there are, at most 40: a number above 40 is refused itself.
 pub fn holiday_count(head: &[u8]) -> usize
     ensures { λ r. ⌜ (r ≡ holidayCount (now (head .entry))) × (r ≤ 40) ⌝ }
 {
-    least(
-        answers::HOLIDAYS_MOST,
-        encoding::byte_at(head, COUNT_AT, 0) as usize,
-    )
+    let n = encoding::byte_at(head, COUNT_AT, 0) as usize;
+    if n < answers::HOLIDAYS_MOST {
+        n
+    } else {
+        answers::HOLIDAYS_MOST
+    }
 }
 
 // Where field k, from 0, stands; behind the last field this is no byte, at the header's end.
