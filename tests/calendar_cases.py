@@ -41,6 +41,10 @@ def bridge_days(year, listed):
     return found
 
 
+def carries(year, listed, when):
+    return not free_by_others(when, year, listed) and when not in bridge_days(year, listed)
+
+
 def answer(year, holidays, day):
     """The number and, for 0, yes or no: order 1, 3, 13 (Rule 8.2)."""
     if not 2014 <= year <= 2028:
@@ -49,12 +53,11 @@ def answer(year, holidays, day):
         return (3,)
     if not 1 <= day <= days_of(year):
         return (13,)
-    when = date(year, day)
-    listed = frozenset(holidays)
-    return (0, int(not free_by_others(when, year, listed) and when not in bridge_days(year, listed)))
+    return (0, carries(year, frozenset(holidays), date(year, day)))
 
 
-LETTER = {(0, 1): "+", (0, 0): "-", (1,): "1", (3,): "3", (13,): "d"}
+SIGN = {True: "+", False: "-"}
+LETTER = {(0, yes): sign for yes, sign in SIGN.items()} | {(1,): "y", (3,): "h", (13,): "d"}
 
 
 def record(kind, year, day, holidays):
@@ -75,21 +78,22 @@ def whole_year(year, holidays):
 
 
 def whole_list(year, holidays):
-    """For a list that is taken: the days from Monday to Friday that are free, and window_days' count and sum.
+    """Whether the list is taken, the answers of all days under it, and the days of window_days.
 
     window_days answers for any list, so for one that is refused its rule is applied to the days that are listed all
-    the same.
+    the same. Its last place is of no day in a year of 365.
     """
     listed = frozenset(holidays)
-    bridges = bridge_days(year, listed)
-    carry = [d for d in range(1, days_of(year) + 1) if not free_by_others(date(year, d), year, listed) and date(year, d) not in bridges]
-    freed = [d for d in DAYS if date(year, d).weekday() < 5 and answer(year, holidays, d) == (0, 0)]
-    word = "taken" if legal_list(year, holidays) else "bad"
-    return [f"L {year} {word}" + "".join(f" {d}" for d in freed) + f" / {len(carry)} {sum(carry)}"]
+    days = [d <= days_of(year) and carries(year, listed, date(year, d)) for d in range(1, 367)]
+    return [
+        f"L {year}" + SIGN[legal_list(year, holidays)],
+        "".join(LETTER[answer(year, holidays, d)] for d in DAYS),
+        "".join(SIGN[carries] for carries in days),
+    ]
 
 
 def one_day(year, holidays, day):
-    return ["D " + " ".join(map(str, answer(year, holidays, day)))]
+    return [LETTER[answer(year, holidays, day)]]
 
 
 def cases():

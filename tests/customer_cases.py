@@ -25,6 +25,9 @@ bad_sheets = {  # what makes a legal sheet one that is malformed
 }
 
 
+REFUSED = Terms(b"", (), (0, 0, 0, 0), False)
+
+
 # Records
 
 def call_bytes(call):
@@ -51,11 +54,13 @@ def answered(days, series, call):
 
 
 def record(length, base, patches, calls):
-    assert len(patches) < 256 and len(calls) < 256
-    data = b"C" + struct.pack(">HIBB", length, base, len(patches), len(calls))
-    data += b"".join(struct.pack(">HHHIHH", *p) for p in patches) + b"".join(map(call_bytes, calls))
+    # every record opens first: under terms that are refused where a case begins with another call
+    first, *others = calls if calls[0][0] == "A" else [("A", REFUSED), *calls]
+    assert len(patches) < 256 and len(others) < 256
+    data = b"C" + struct.pack(">HIBB", length, base, len(patches), len(others))
+    data += b"".join(struct.pack(">HHHIHH", *p) for p in patches) + call_bytes(first)[1:] + b"".join(map(call_bytes, others))
     series, days = series_of(length, base, patches), Days()
-    lines = [("S", length)] + [line for call in calls for line in answered(days, series, call)]
+    lines = [("S", length)] + [line for call in (first, *others) for line in answered(days, series, call)]
     return data, [" ".join(map(str, line)) for line in lines]
 
 

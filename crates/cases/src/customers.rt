@@ -1,5 +1,6 @@
 // A customer's year, whole and by days: calls on a series (series.rt). Numbers have 16 bits where nothing else is said.
-// Each call prints a line: its letter, the answer's number, and its figures in the order of Rule 8.1.
+// Each call prints a line: its letter, the answer's number, and its figures in the order of Rule 8.1. The calls begin
+// with what follows the letter A.
 //   A  terms: sheet's length (a byte, at most 64) and bytes, count of holidays (a byte, at most 64) and holidays, the
 //      four prices of 32 bits each, low row before high row and capacity before energy, option (a byte). The decision
 //      over the whole series (W), and an opening (O).
@@ -17,9 +18,19 @@ use customer_days::Customer;
 use readings::Run;
 use tariff::Decision;
 use tariff::Prices;
-use tariff::Row;
 
 // A: the whole series, and an opening under the same terms.
+fn asked(series: &[u32], sheet: &[u8], holidays: &[u16], prices: Prices, option: bool) -> Customer {
+    write_answer(
+        b'W',
+        customer::decide(sheet, holidays, prices, option, series),
+    );
+    let opened = Customer::open(sheet, holidays, prices, option);
+    let answer = opened.answer;
+    write_answer(b'O', answer);
+    opened.customer
+}
+
 fn ask(series: &[u32]) -> Customer {
     let len = input::room();
     let sheet = input::bytes(len);
@@ -27,14 +38,7 @@ fn ask(series: &[u32]) -> Customer {
     let holidays = input::list(count);
     let prices = next_prices();
     let option = input::byte() != 0;
-    write_answer(
-        b'W',
-        customer::decide(&sheet[0..len], &holidays[0..count], prices, option, series),
-    );
-    let opened = Customer::open(&sheet[0..len], &holidays[0..count], prices, option);
-    let answer = opened.answer;
-    write_answer(b'O', answer);
-    opened.customer
+    asked(series, &sheet[0..len], &holidays[0..count], prices, option)
 }
 
 fn write_days(taken: u16, answer: Decision) {
@@ -87,22 +91,9 @@ fn one_call(series: &[u32], customer: Customer) -> Customer {
     }
 }
 
-// The calls of a record: the first ones, up to an opening, are made on the state of a refused opening.
+// The calls of a record: terms first, so that there is a state.
 pub(crate) fn all_calls(series: &[u32], count: u8) {
-    let none = Row {
-        capacity: 0,
-        energy: 0,
-    };
-    let refused = Customer::open(
-        &[],
-        &[],
-        Prices {
-            few: none,
-            many: none,
-        },
-        false,
-    );
-    let mut customer = refused.customer;
+    let mut customer = ask(series);
     for k in 0..count {
         customer = one_call(series, customer);
     }

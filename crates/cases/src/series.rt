@@ -97,6 +97,16 @@ pub(crate) fn part(series: &[u32]) -> &[u32] {
     &series[at..end]
 }
 
+fn all_calls(kind: u8, series: &[u32], calls: u8) {
+    output::letter(b'S');
+    output::next(series.len() as u64);
+    output::letter(b'\n');
+    match kind {
+        b'G' => grids::all_calls(series, calls),
+        _ => customers::all_calls(series, calls),
+    }
+}
+
 pub(crate) fn one_series(kind: u8) {
     let len = input::smaller(input::size(), MOST);
     let base = input::four();
@@ -104,11 +114,5 @@ pub(crate) fn one_series(kind: u8) {
     let calls = input::byte();
     let mut series = [base; MOST];
     all_patches(&mut series, patches);
-    output::letter(b'S');
-    output::next(len as u64);
-    output::letter(b'\n');
-    match kind {
-        b'G' => grids::all_calls(&series[0..len], calls),
-        _ => customers::all_calls(&series[0..len], calls),
-    }
+    all_calls(kind, &series[0..len], calls);
 }

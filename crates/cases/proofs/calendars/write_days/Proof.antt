@@ -18,8 +18,10 @@ write-days-spec =
     Inv-loop
     μ-loop
     (λ c. search needs)  -- loop-holds
-    (λ c κs. search needs)  -- write-day-requires
+    (λ c κs. search needs)  -- letter-of-requires
+    (λ c κs. search needs)  -- letter-requires
     (λ c. search needs)  -- add-day
     (λ c. search needs)  -- loop-less
     (λ c. search needs)  -- loop-again
+    (λ c κs. search needs)  -- letter-requires-2
     (λ c. search needs))

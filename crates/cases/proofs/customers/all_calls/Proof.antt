@@ -17,9 +17,7 @@ all-calls-spec =
     (tie.spec
     Inv-loop
     μ-loop
-    (λ c. search needs)  -- slice-aggregate-open
-    (λ c. search needs)  -- slice-aggregate-open-2
-    (λ c κs. search needs)  -- open-requires
+    (λ c κs. search needs)  -- ask-requires
     (λ c. search needs)  -- loop-holds
     (λ c κs. search needs)  -- one-call-requires
     (λ c. search needs)  -- add-k
