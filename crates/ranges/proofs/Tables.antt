@@ -8,8 +8,8 @@ use native.Mathlib.Nat.{not-suc-le-zero}
 use native.Mathlib.Decide.{decLt}
 use native.Mathlib.Omega.{arith}
 use borrow.Author.Count.{below-none, below-more}
-use lib.ListN.{length, getD, set, length-append, length-set, List·getD-append}
-use lib.Seq.{ext-getD, getD-at, getD-set-same, getD-set-other}
+use lib.ListN.{length, take, getD, set, length-append, length-set, List·getD-append}
+use lib.Seq.{ext-getD, getD-at, getD-take, getD-set-same, getD-set-other, length-take-le}
 use Rattle.ranges.specs.Ranges.{table}
 use Rattle.ranges.proofs.Joined.{joined-none, joined-suc, joined-more, joined-cong, joined-add}
 
@@ -73,6 +73,11 @@ module _ {A : Type 0} {f : ℕ → A} {n : ℕ} {d : A} {out : List A} where
             (λ k b. getD-set-other out i k v d (omega arith) ∙ h .each k b)
             (getD-set-same out i v d (omega arith) ∙ e);
       }
+
+  -- its first places are the table of as many
+  pub filled-part : {i : ℕ} (m : ℕ) → Filled f n d i out → m ≤ i → take m out ≡ table f m
+  filled-part m h l =
+      is-table f m d (take m out) (length-take-le m out (omega (arith, h .some, h .long))) (λ k b. getD-take m out k d b ∙ h .each k (omega arith))
 
   pub filled-all : {i : ℕ} → Filled f n d i out → n ≤ i → out ≡ table f n
   filled-all h m = is-table f n d out (h .long) (λ k l. h .each k (omega arith))

@@ -1,15 +1,13 @@
 -- `customer_opening::holidays_of` meets its contract. The loop's invariant: the first j places hold the file's holidays.
 -- Assumes nothing.
-use mathlib.Core.Path.{refl, _∙_}
+use mathlib.Core.Path.{refl}
 use Prim.Native.Nat.{ℕ, _+_, _-_, _*_, _≤_}
 use native.Mathlib.Omega.{arith}
 use borrow.Author.Needs.{needs}
-use lib.ListN.{take}
-use lib.Seq.{length-take-le, getD-take}
 use Rattle.answers.specs.Ruling.{holidaysMost}
 use Rattle.encoding.specs.Bytes.{twoAt}
-use Rattle.customer_head.specs.Header.{holidaysAt, holidayCount}
-use Rattle.ranges.proofs.Tables.{is-table, Filled, filled-none, filled-more}
+use Rattle.customer_head.specs.Header.{holidaysAt}
+use Rattle.ranges.proofs.Tables.{Filled, filled-none, filled-more, filled-part}
 use Rattle.customer_opening.proofs.holidays_of.Statement.{statement}
 use Rattle.customer_opening.proofs.holidays_of.Tie as tie
 
@@ -21,15 +19,6 @@ abbrev μ-loop : tie.MeasureT-loop
 
 loop-again : tie.Need-loop-again Inv-loop μ-loop
 loop-again c = (omega arith, filled-more (c .before .before .loop .inv .1) (omega arith) (c .two-at .ensures))
-
-returns : tie.Need-returns Inv-loop μ-loop
-returns c =
-    let b = c .before .before .before .before .args .head .now in
-    let out = c .before .loop .out in
-    let f = c .before .loop .inv .1 in
-    is-table (λ i. twoAt b (holidaysAt + 2 * i)) (holidayCount b) 0 (take (holidayCount b) out)
-    (length-take-le (holidayCount b) out (omega (arith, f .long)))
-    (λ i l. getD-take (holidayCount b) out i 0 l ∙ f .each i (omega arith))
 
 pub holidays-of-spec : {M : Type 1} → statement M
 holidays-of-spec =
@@ -47,4 +36,4 @@ holidays-of-spec =
     (λ c. search needs)  -- add-j
     (λ c. search needs)  -- loop-less
     loop-again
-    returns)
+    (λ c. filled-part _ (c .before .loop .inv .1) (omega arith)))
