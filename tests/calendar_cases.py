@@ -2,8 +2,8 @@
 Python's datetime: a part of tests/cases.py.
 
 It knows nothing of the code under test: weekdays and dates are datetime's, a week is the seven dates from a Monday on,
-and the days that carry windows are worked out week by week, as Rule 3.4 finds bridge days. Days of a year and of a
-reference period count from 1.
+and the kinds of days are worked out week by week, as Rule 3.4 finds bridge days. Days of a year and of a reference
+period count from 1.
 """
 import datetime
 import functools
@@ -41,23 +41,30 @@ def bridge_days(year, listed):
     return found
 
 
-def carries(year, listed, when):
-    return not free_by_others(when, year, listed) and when not in bridge_days(year, listed)
+def kind(year, listed, when):
+    """The code of Rule 3.5, by the grounds 2 to 5; 1 where none holds."""
+    grounds = {
+        2: when.weekday() >= 5,
+        3: day_of(when) in listed,
+        4: (when.month, when.day) == (1, 1) or when.month == 12 and when.day >= 24,
+        5: when in bridge_days(year, listed),
+    }
+    return min((code for code, applies in grounds.items() if applies), default=1)
 
 
 def answer(year, holidays, day):
-    """The number and, for 0, yes or no: order 1, 3, 13 (Rule 8.2)."""
+    """The number and, for 0, the kind: order 1, 3, 13 (Rule 8.2)."""
     if not 2014 <= year <= 2028:
         return (1,)
     if not legal_list(year, holidays):
         return (3,)
     if not 1 <= day <= days_of(year):
         return (13,)
-    return (0, carries(year, frozenset(holidays), date(year, day)))
+    return (0, kind(year, frozenset(holidays), date(year, day)))
 
 
 SIGN = {True: "+", False: "-"}
-LETTER = {(0, yes): sign for yes, sign in SIGN.items()} | {(1,): "y", (3,): "h", (13,): "d"}
+LETTER = {(1,): "y", (3,): "h", (13,): "d"} | {(0, code): str(code) for code in range(1, 6)}
 
 
 def record(kind, year, day, holidays):
@@ -84,7 +91,7 @@ def whole_list(year, holidays):
     the same. Its last place is of no day in a year of 365.
     """
     listed = frozenset(holidays)
-    days = [d <= days_of(year) and carries(year, listed, date(year, d)) for d in range(1, 367)]
+    days = [d <= days_of(year) and kind(year, listed, date(year, d)) == 1 for d in range(1, 367)]
     return [
         f"L {year}" + SIGN[legal_list(year, holidays)],
         "".join(LETTER[answer(year, holidays, d)] for d in DAYS),
@@ -107,7 +114,7 @@ def cases():
     # lists that are taken: the nationwide ones, then random ones of every length
     for year in years:
         yield "L", year, 0, nationwide(year)
-    for n in range(150):
+    for n in range(240):
         year = rng.choice(years)
         yield "L", year, 0, sorted(rng.sample(range(1, days_of(year) + 1), n % 41))
     # many Tuesdays and Thursdays, so that bridge days are frequent
@@ -141,6 +148,10 @@ def cases():
         (2019, 4, [1, 3]), (2019, 4, [3]), (2015, 2, [1]), (2015, 2, []), (2026, 2, [1]), (2026, 2, []),
         (2024, yday(2024, 12, 23), []), (2024, yday(2024, 12, 23), [yday(2024, 12, 24)]),
         (2016, 366, []), (2016, 367, []), (2015, 365, []), (2015, 366, []),
+        # the earliest ground that applies
+        (2025, yday(2025, 5, 1), [yday(2025, 5, 1)]), (2025, yday(2025, 5, 3), [yday(2025, 5, 1)]), (2025, yday(2025, 5, 3), [yday(2025, 5, 3)]),
+        (2017, 1, []), (2017, 1, [1]), (2025, yday(2025, 12, 25), [yday(2025, 12, 25)]), (2025, yday(2025, 12, 25), []),
+        (2025, yday(2025, 12, 26), [yday(2025, 12, 25)]), (2025, yday(2025, 12, 26), []),
     ]
     for year, day, listed in singles:
         yield "D", year, day, listed

@@ -10,17 +10,19 @@ use lib.Dec.{eqb}
 use lib.ListN.{getD}
 use Rattle.ranges.proofs.Bools.{decided, refutes, within}
 use Rattle.answers.specs.Ruling.{yearOut}
-use Rattle.answers.specs.Said.{Said, only, yesNo}
+use Rattle.answers.specs.Said.{Said, only}
 use Rattle.answers.proofs.Laws.{one-answer, charge-year}
 use Rattle.dates.specs.Dates.{yearDays, mostDays}
 use Rattle.dates.proofs.Leaps.{leap-small}
 use Rattle.holidays.specs.Holidays.{badHolidays}
 use Rattle.holidays.proofs.Lists.{legal-holidays}
 use Rattle.calendar.specs.declared.DayAnswer.{DayAnswer}
-use Rattle.calendar.specs.declared.DayAnswer.the-variants.{Carries, YearOut, BadList, DayOut}
-use Rattle.day_kinds.specs.Kinds.{carries}
+use Rattle.calendar.specs.declared.DayAnswer.the-variants.{Day, YearOut, BadList, DayOut}
+use Rattle.day_kinds.specs.declared.DayKind.{DayKind}
+use Rattle.day_kinds.specs.declared.DayKind.the-variants.{Windows, Weekend, Listed, Christmas, Bridge}
+use Rattle.day_kinds.specs.Kinds.{kindOf}
 use Rattle.calendar.specs.Answer.DayRow.{one, three, thirteen, zero}
-use Rattle.calendar.specs.Answer.{saidOfDay, dayOut, calendarAnswer, DayOfYear, DayRow}
+use Rattle.calendar.specs.Answer.{ofKind, saidOfDay, dayOut, calendarAnswer, DayOfYear, DayRow}
 
 -- a day is refused exactly when it is no day of the year
 pub day-of-year : (y d : ℕ) → (dayOut y d ≡ false) ↔ DayOfYear y d
@@ -49,9 +51,9 @@ module _ (y : ℕ) (hs : List ℕ) (d : ℕ) where
       unfolding calendarAnswer
       said-day e = rw (a, b, e)
 
-      pub said-carries : dayOut y d ≡ false → {r : Bool} → r ≡ carries y hs d → yesNo r ≡ calendarAnswer y hs d
+      pub said-kind : dayOut y d ≡ false → {r : DayKind} → r ≡ kindOf y hs d → ofKind r ≡ calendarAnswer y hs d
       unfolding calendarAnswer
-      said-carries e {r} f = rw (a, b, e, f)
+      said-kind e {r} f = rw (a, b, e, f)
 
 -- each number is answered exactly when its row holds and none before it does
 module _ (y : ℕ) (hs : List ℕ) (d : ℕ) where
@@ -60,7 +62,7 @@ module _ (y : ℕ) (hs : List ℕ) (d : ℕ) where
       ⊎-elim (λ p. rw (← said-year y hs d p) (one (refutes _ (charge-year y) .0 p))) (λ a.
       ⊎-elim (λ p. rw (← said-list y hs d a p) (three (charge-year y .0 a) (refutes _ (legal-holidays y hs) .0 p))) (λ b.
       ⊎-elim (λ p. rw (← said-day y hs d a b p) (thirteen (charge-year y .0 a) (legal-holidays y hs .0 b) (refutes _ (day-of-year y d) .0 p))) (λ c.
-      rw (← said-carries y hs d a b c refl) (zero (charge-year y .0 a) (legal-holidays y hs .0 b) (day-of-year y d .0 c)))
+      rw (← said-kind y hs d a b c refl) (zero (charge-year y .0 a) (legal-holidays y hs .0 b) (day-of-year y d .0 c)))
       (decided (dayOut y d))) (decided (badHolidays y hs))) (decided (yearOut y))
 
   given : {n : ℕ} → DayRow y hs d n → calendarAnswer y hs d .number ≡ n
@@ -69,35 +71,47 @@ module _ (y : ℕ) (hs : List ℕ) (d : ℕ) where
   given (thirteen a b c) =
       rw (← said-day y hs d (charge-year y .1 a) (legal-holidays y hs .1 b) (refutes _ (day-of-year y d) .1 c))
   given (zero a b c) =
-      rw (← said-carries y hs d (charge-year y .1 a) (legal-holidays y hs .1 b) (day-of-year y d .1 c) refl)
+      rw (← said-kind y hs d (charge-year y .1 a) (legal-holidays y hs .1 b) (day-of-year y d .1 c) refl)
 
   pub exactly : (n : ℕ) → (calendarAnswer y hs d .number ≡ n) ↔ DayRow y hs d n
   exactly n = (λ e. rw e at holds, given)
 
-  -- and 0 tells whether the day carries windows
-  pub zero-says : calendarAnswer y hs d .number ≡ 0 → calendarAnswer y hs d ≡ yesNo (carries y hs d)
+  -- and 0 tells the day's kind
+  pub zero-says : calendarAnswer y hs d .number ≡ 0 → calendarAnswer y hs d ≡ ofKind (kindOf y hs d)
   zero-says e = go (exactly 0 .0 e)
     where
-      go : DayRow y hs d 0 → calendarAnswer y hs d ≡ yesNo (carries y hs d)
-      go (zero a b c) = sym (said-carries y hs d (charge-year y .1 a) (legal-holidays y hs .1 b) (day-of-year y d .1 c) refl)
+      go : DayRow y hs d 0 → calendarAnswer y hs d ≡ ofKind (kindOf y hs d)
+      go (zero a b c) = sym (said-kind y hs d (charge-year y .1 a) (legal-holidays y hs .1 b) (day-of-year y d .1 c) refl)
 
 -- an answer, back from what it says: so two answers that say the same are equal, without a case for each pair
+abbrev kindBack : ℕ → DayKind
+kindBack code =
+    cond (eqb code 1) Windows
+    (cond (eqb code 2) Weekend
+    (cond (eqb code 3) Listed
+    (cond (eqb code 4) Christmas
+    Bridge)))
+
 abbrev dayBack : Said → DayAnswer
 dayBack a =
     cond (eqb (a .number) 1) YearOut
     (cond (eqb (a .number) 3) BadList
-    (cond (eqb (a .number) 13) DayOut (Carries (eqb (getD (a .figures) 0 0) 1))))
+    (cond (eqb (a .number) 13) DayOut
+    (Day (kindBack (getD (a .figures) 0 0)))))
 
 back : (a : DayAnswer) → dayBack (saidOfDay a) ≡ a
-back (Carries true) = refl
-back (Carries false) = refl
+back (Day Windows) = refl
+back (Day Weekend) = refl
+back (Day Listed) = refl
+back (Day Christmas) = refl
+back (Day Bridge) = refl
 back YearOut = refl
 back BadList = refl
 back DayOut = refl
 
--- what an answer says fixes the answer, so nothing else meets the promise of `carries_windows`
+-- what an answer says fixes the answer, so nothing else meets the promise of `day_kind`
 pub day-said : {a b : DayAnswer} → saidOfDay a ≡ saidOfDay b → a ≡ b
 day-said {a} {b} e = sym (back a) ∙ ap dayBack e ∙ back b
 
-pub carries-only : (y : ℕ) (hs : List ℕ) (d : ℕ) {r s : DayAnswer} → saidOfDay r ≡ calendarAnswer y hs d → saidOfDay s ≡ calendarAnswer y hs d → r ≡ s
-carries-only y hs d p q = day-said (one-answer p q)
+pub kind-only : (y : ℕ) (hs : List ℕ) (d : ℕ) {r s : DayAnswer} → saidOfDay r ≡ calendarAnswer y hs d → saidOfDay s ≡ calendarAnswer y hs d → r ≡ s
+kind-only y hs d p q = day-said (one-answer p q)

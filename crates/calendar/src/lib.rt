@@ -1,7 +1,7 @@
-// Which days of a year carry windows (Rules 3.3 to 3.5). It meets specs/Answer and `day_kinds`, specs/Kinds; how listed
-// days are marked inside is in specs/Marks. Days count from 1, weekdays from 0.
+// Which days of a year carry windows, and why the others are free (Rules 3.3 to 3.5). It meets specs/Answer and
+// `day_kinds`, specs/Kinds; how listed days are marked inside is in specs/Marks. Days count from 1, weekdays from 0.
 // Main theorem: whatever year, list and day are given, each number is answered exactly when its row of Rule 8.1 says,
-// and nothing else meets the contract (`exactly`, `carries-only`, proofs/Answers).
+// and nothing else meets the contract (`exactly`, `kind-only`, proofs/Answers).
 ghost use mathlib.Core.Path.{_≡_};
 ghost use Prim.Native.Nat.{_-_, _≤_, _<_};
 ghost use Rattle.dates.specs.Dates.{mostDays};
@@ -23,9 +23,9 @@ const FRIDAY: u8 = 4;
 
 const SATURDAY: u8 = 5;
 
-// Does a day carry windows: yes or no (0), or the refusals 1, 3, 13.
+// Of which kind a day is (0), or the refusals 1, 3, 13.
 pub enum DayAnswer {
-    Carries(bool),
+    Day(DayKind),
     YearOut,
     BadList,
     DayOut,
@@ -160,8 +160,8 @@ fn day_out(year: u16, day: u16) -> bool
     (day < 1) | (dates::year_days(year) < day)
 }
 
-// Does a day, from 1, of a charge year carry windows? Refuses 1, 3, 13 in this order; else yes or no.
-pub fn carries_windows(year: u16, holidays: &[u16], day: u16) -> DayAnswer
+// Of which kind is a day, from 1, of a charge year? Refuses 1, 3, 13 in this order.
+pub fn day_kind(year: u16, holidays: &[u16], day: u16) -> DayAnswer
     ensures { λ r. ⌜ saidOfDay r ≡ calendarAnswer year (now (holidays .entry)) day ⌝ }
 {
     if answers::year_out(year) {
@@ -174,5 +174,5 @@ pub fn carries_windows(year: u16, holidays: &[u16], day: u16) -> DayAnswer
         return DayAnswer::DayOut;
     }
     let m = marks(holidays);
-    DayAnswer::Carries(is_windows(kind(year, &m, day)))
+    DayAnswer::Day(kind(year, &m, day))
 }

@@ -4,11 +4,12 @@
 //      period's seasons and the answers, a character each
 //   L  a holiday list: bad_holidays, then the answers for days 0 to 367 and the days of window_days, a character each
 //   D  one day: its answer
-// An answer as a character: + and - say whether the day carries windows, and y, h, d are the refusals 1, 3, 13.
+// An answer as a character: a kind is its code, and y, h, d are the refusals 1, 3, 13.
 // tests/calendar_cases.py makes them, and what must come of them by Python's datetime.
 use super::input;
 use super::output;
 use calendar::DayAnswer;
+use day_kinds::DayKind;
 
 fn digit(n: u8) -> u8 {
     if n < 10 { b'0' + n } else { b'?' }
@@ -18,9 +19,19 @@ fn sign(yes: bool) -> u8 {
     if yes { b'+' } else { b'-' }
 }
 
+fn code(kind: DayKind) -> u8 {
+    match kind {
+        DayKind::Windows => b'1',
+        DayKind::Weekend => b'2',
+        DayKind::Listed => b'3',
+        DayKind::Christmas => b'4',
+        DayKind::Bridge => b'5',
+    }
+}
+
 fn mark(answer: DayAnswer) -> u8 {
     match answer {
-        DayAnswer::Carries(yes) => sign(yes),
+        DayAnswer::Day(kind) => code(kind),
         DayAnswer::YearOut => b'y',
         DayAnswer::BadList => b'h',
         DayAnswer::DayOut => b'd',
@@ -34,7 +45,7 @@ fn letter_of(line: u8, year: u16, list: &[u16], day: u16) -> u8 {
         b'W' => digit(dates::weekday(year, day)),
         b'S' => digit(dates::season(year, day)),
         b'P' => digit(periods::period_season(year, day)),
-        _ => mark(calendar::carries_windows(year, list, day)),
+        _ => mark(calendar::day_kind(year, list, day)),
     }
 }
 

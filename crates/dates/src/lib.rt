@@ -4,7 +4,7 @@
 // every year (`weekday-by-leaps`, proofs/Weekdays).
 ghost use mathlib.Core.Path.{_≡_};
 ghost use Prim.Native.Nat.{_<_};
-ghost use Rattle.dates.specs.Dates.{leap, leapDay, yearDays, daysTo, monthOf, weekdayOf, seasonOf, monthLeft};
+ghost use Rattle.dates.specs.Dates.{leap, leapDay, yearDays, daysTo, dayNumber, monthOf, weekdayOf, seasonOf, monthLeft};
 
 // The most days that a year has.
 pub const MOST_DAYS: usize = 366;
@@ -48,6 +48,21 @@ fn days_to(year: u16, month: usize) -> u16
     } else {
         DAYS_BEFORE[month] + leap_day(year)
     }
+}
+
+// The number of a date in its year, from 1; 0 where the year does not have it. Months and days count from 1.
+pub fn day_number(year: u16, month: u16, day: u16) -> u16
+    ensures { λ r. ⌜ r ≡ dayNumber year month day ⌝ }
+{
+    if (month < 1) | (12 < month) {
+        return 0;
+    }
+    let before = days_to(year, (month - 1) as usize);
+    let end = days_to(year, month as usize);
+    if (day < 1) | (end - before < day) {
+        return 0;
+    }
+    before + day
 }
 
 // The month of a day, 1 to 12: the first that does not end before it.

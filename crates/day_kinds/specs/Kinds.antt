@@ -48,6 +48,14 @@ kindBy y isListed d =
     (cond (bridge y isListed d) Bridge
     Windows)))
 
+-- a kind's code, from 1, in the order of Rule 3.5
+abbrev pub kindCode : DayKind → ℕ
+kindCode Windows = 1
+kindCode Weekend = 2
+kindCode Listed = 3
+kindCode Christmas = 4
+kindCode Bridge = 5
+
 -- does a day of this kind carry windows?
 abbrev pub isWindows : DayKind → Bool
 isWindows Windows = true

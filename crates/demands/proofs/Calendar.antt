@@ -1,30 +1,35 @@
 -- The calendar's tests say what specs/Calendar says without tests.
 -- Assumes nothing.
 use mathlib.Core.Path.{_≡_, refl, sym, ap, _∙_}
-use mathlib.Core.Bool.{Bool, true, false, not, _&&_, _||_}
-use mathlib.Core.Logic.{_↔_, ⊎-elim}
+use mathlib.Core.Bool.{Bool, true, false, not, _&&_, _||_, or-true}
+use mathlib.Core.Logic.{_↔_, _⊎_, inl, inr, ⊎-elim}
 use mathlib.Core.List.{List, [], _∷_}
 use Prim.Native.Nat.{ℕ, _+_, _-_, _≤_, _<_}
 use native.Mathlib.Omega.{arith}
-use borrow.Author.Tests.{lt-leb, leb-false, eq-eqb, eqb-true}
+use borrow.Author.Tests.{le-leb, lt-leb, leb-true, leb-false, eq-eqb, eqb-true}
 use lib.Dec.{leb, eqb}
 use lib.ListN.{getD}
-use Rattle.ranges.specs.Ranges.{bit}
-use Rattle.ranges.proofs.Bools.{decided, both, pair, neither, clash}
+use Rattle.ranges.proofs.Bools.{decided, both, pair, either, neither, clash}
 use Rattle.dates.specs.Dates.{yearDays, saturday, weekdayOf}
 use Rattle.holidays.specs.Holidays.{listed}
-use Rattle.day_kinds.specs.Kinds.{weekend, christmas, free, candidate, mondayCandidate, fridayCandidate, bridge, carries}
+use Rattle.day_kinds.specs.declared.DayKind.{DayKind}
+use Rattle.day_kinds.specs.declared.DayKind.the-variants.{Windows, Weekend, Listed, Christmas, Bridge}
+use Rattle.day_kinds.specs.Kinds.{weekend, christmas, free, candidate, mondayCandidate, fridayCandidate, bridge, kindCode, isWindows, kindOf}
 use Rattle.calendar.specs.Answer.{calendarAnswer}
-use Rattle.day_kinds.proofs.Rules.{christmas-by}
-use Rattle.day_kinds.proofs.Weeks.{carries-when}
+use Rattle.day_kinds.proofs.Rules.{christmas-by, kind-weekend, kind-listed, kind-christmas, kind-bridge, kind-windows}
 use Rattle.demands.specs.Module.{ours}
-use Rattle.demands.specs.Calendar.{Working, MondayBridge, FridayBridge, CarriesWindows, Calendar}
+use Rattle.demands.specs.Calendar.{Working, MondayBridge, FridayBridge, CarriesWindows, KindRow, Calendar}
+use Rattle.demands.specs.Calendar.KindRow.{windows as is-window, weekend as is-weekend, holiday as is-holiday, christmas as is-christmas, bridge as is-bridge}
 use Rattle.demands.proofs.Carried.{carried}
 
 -- a test that fails, turned round
 not-so : (b : Bool) → (not b ≡ true) ↔ (b ≡ false)
 not-so true = ((λ e. sym e), (λ e. sym e))
 not-so false = ((λ e. refl), (λ e. refl))
+
+-- the first figure of a list
+abbrev first-of : List ℕ → ℕ
+first-of figures = getD figures 0 0
 
 module _ (y : ℕ) (hs : List ℕ) where
   -- 24 December is seven days before the year's end
@@ -98,58 +103,90 @@ module _ (y : ℕ) (hs : List ℕ) where
           pair (parts 4 (d - 1) d .1 (b .friday, (b .thursday, b .working)))
           (⊎-elim (λ e. absurd (b .first (monday-is (d - 4) .0 e))) (λ e. not-so _ .1 e) (decided (mondayCandidate y (listed hs) (d - 4))))
 
-  -- so the day carries windows
-  carries-plain : (d : ℕ) → (carries y hs d ≡ true) ↔ CarriesWindows y hs d
-  unfolding bridge
-  carries-plain d = ((λ e. there (sym (carries-when y hs d) ∙ e)), λ w. carries-when y hs d ∙ back w)
+  -- in the Christmas period, and a bridge day
+  period : (d : ℕ) → (christmas y d ≡ true) ↔ ((d ≤ 1) ⊎ (yearDays y ≤ d + 7))
+  period d = rw (← christmas-by y d (yearDays y) refl) (there, back)
     where
-      there : (not (weekend y d) && (not (listed hs d) && (not (christmas y d) && not (bridge y (listed hs) d)))) ≡ true → CarriesWindows y hs d
-      there e =
-          let a = both _ _ e in
-          let b = both _ _ (a .1) in
-          let c = both _ _ (b .1) in
-          let x = away d .0 (not-so _ .0 (c .0)) in
-          let n = neither _ _ (not-so _ .0 (c .1)) in
-          record {
-            working = record { week = workday d (not-so _ .0 (a .0)); unlisted = not-so _ .0 (b .0); new-year = x .0; christmas = x .1 };
-            no-monday = λ h. clash (monday-is d .1 h) (n .0);
-            no-friday = λ h. clash (friday-is d .1 h) (n .1);
-          }
+      there : (leb d 1 || leb (yearDays y - 7) d) ≡ true → (d ≤ 1) ⊎ (yearDays y ≤ d + 7)
+      there e = ⊎-elim (λ p. inl (leb-true d 1 p)) (λ p. inr (omega (arith, leb-true (yearDays y - 7) d p))) (either _ _ e)
 
-      none : {A : Type 0} (b : Bool) → (b ≡ true → A) → (A → ⊥) → b ≡ false
-      none b f n = ⊎-elim (λ e. absurd (n (f e))) (λ e. e) (decided b)
+      back : (d ≤ 1) ⊎ (yearDays y ≤ d + 7) → (leb d 1 || leb (yearDays y - 7) d) ≡ true
+      back h = ⊎-elim (λ l. simp (le-leb d 1 l)) (λ l. simp (le-leb (yearDays y - 7) d (omega (arith, l))) (or-true (leb d 1))) h
 
-      back : CarriesWindows y hs d → (not (weekend y d) && (not (listed hs d) && (not (christmas y d) && not (bridge y (listed hs) d)))) ≡ true
-      back w =
-          let o = w .working in
-          let m = none (mondayCandidate y (listed hs) d) (monday-is d .0) (w .no-monday) in
-          let f = none (fridayCandidate y (listed hs) d && not (mondayCandidate y (listed hs) (d - 4))) (friday-is d .0) (w .no-friday) in
-          simp (lt-leb saturday (weekdayOf y d) (omega (arith, o .week)), o .unlisted, away d .1 (o .new-year, o .christmas), m, f)
+  bridge-is : (d : ℕ) → (bridge y (listed hs) d ≡ true) ↔ (MondayBridge y hs d ⊎ FridayBridge y hs d)
+  unfolding bridge
+  bridge-is d = (there, back)
+    where
+      there :
+          (mondayCandidate y (listed hs) d || (fridayCandidate y (listed hs) d && not (mondayCandidate y (listed hs) (d - 4)))) ≡ true
+          → MondayBridge y hs d ⊎ FridayBridge y hs d
+      there e = ⊎-elim (λ m. inl (monday-is d .0 m)) (λ f. inr (friday-is d .0 f)) (either _ _ e)
 
--- the figure of an answer 0
-pub bit-one : (b : Bool) → (bit b ∷ [] ≡ 1 ∷ []) ↔ (b ≡ true)
-bit-one true = ((λ e. refl), (λ e. refl))
-bit-one false = ((λ e. absurd (omega (arith, ap (λ (x : List ℕ). getD x 0 0) e))), (λ e. absurd (clash e refl)))
+      back :
+          MondayBridge y hs d ⊎ FridayBridge y hs d
+          → (mondayCandidate y (listed hs) d || (fridayCandidate y (listed hs) d && not (mondayCandidate y (listed hs) (d - 4)))) ≡ true
+      back h = ⊎-elim (λ m. simp (monday-is d .1 m)) (λ f. simp (friday-is d .1 f) (or-true (mondayCandidate y (listed hs) d))) h
 
-bit-zero : (b : Bool) → (bit b ∷ [] ≡ 0 ∷ []) ↔ (b ≡ false)
-bit-zero true = ((λ e. absurd (omega (arith, ap (λ (x : List ℕ). getD x 0 0) e))), (λ e. absurd (clash refl e)))
-bit-zero false = ((λ e. refl), (λ e. refl))
+  module _ (d : ℕ) where
+    -- a working day is no weekend, not listed, and not in the Christmas period
+    early : Working y hs d → weekdayOf y d < saturday
+    early o = omega (arith, o .week)
 
-module _ (y : ℕ) (hs : List ℕ) (d : ℕ) (z : calendarAnswer y hs d .number ≡ 0) where
-  carried-is : calendarAnswer y hs d .figures ≡ bit (carries y hs d) ∷ []
-  carried-is = carried .calendar y hs d .listed ∙ simp (eq-eqb _ _ z)
+    no-christmas : Working y hs d → christmas y d ≡ false
+    no-christmas o = away d .1 (o .new-year, o .christmas)
 
-  yes-when : (calendarAnswer y hs d .figures ≡ 1 ∷ []) ↔ CarriesWindows y hs d
-  yes-when =
-      rw carried-is
-      ((λ e. carries-plain y hs d .0 (bit-one _ .0 e)), λ w. bit-one _ .1 (carries-plain y hs d .1 w))
+    -- the row of the day's own kind holds
+    row : KindRow y hs d (kindCode (kindOf y hs d))
+    row =
+        ⊎-elim (λ e. let h = leb-true saturday (weekdayOf y d) e in rw (← kind-weekend y (listed hs) d h) (is-weekend h)) (λ a.
+        let w = leb-false saturday (weekdayOf y d) a in
+        ⊎-elim (λ e. rw (← kind-listed y (listed hs) d w e) (is-holiday (workday d a) e)) (λ b.
+        ⊎-elim (λ e. rw (← kind-christmas y (listed hs) d w b e) (is-christmas (workday d a) b (period d .0 e))) (λ c.
+        ⊎-elim (λ e. rw (← kind-bridge y (listed hs) d w b c e) (is-bridge (bridge-is d .0 e))) (λ e.
+        rw (← kind-windows y (listed hs) d w b c e) (is-window (plain (workday d a) b (away d .0 c) e)))
+        (decided (bridge y (listed hs) d))) (decided (christmas y d))) (decided (listed hs d))) (decided (weekend y d))
+      where
+        plain : weekdayOf y d ≤ 4 → listed hs d ≡ false → (1 < d) × (d + 7 < yearDays y) → bridge y (listed hs) d ≡ false → CarriesWindows y hs d
+        plain w u n e =
+            record {
+              working = record { week = w; unlisted = u; new-year = n .0; christmas = n .1 };
+              no-monday = λ h. clash (bridge-is d .1 (inl h)) e;
+              no-friday = λ h. clash (bridge-is d .1 (inr h)) e;
+            }
 
-  no-when : (calendarAnswer y hs d .figures ≡ 0 ∷ []) ↔ (CarriesWindows y hs d → ⊥)
-  no-when =
-      rw carried-is (
-        (λ e w. clash (carries-plain y hs d .1 w) (bit-zero _ .0 e)),
-        λ n. bit-zero _ .1 (⊎-elim (λ e. absurd (n (carries-plain y hs d .0 e))) (λ e. e) (decided (carries y hs d))),
-      )
+    -- and no other
+    no-bridge : CarriesWindows y hs d → bridge y (listed hs) d ≡ false
+    no-bridge w = ⊎-elim (λ e. absurd (⊎-elim (w .no-monday) (w .no-friday) (bridge-is d .0 e))) (λ e. e) (decided (bridge y (listed hs) d))
+
+    bridged : Working y hs d → bridge y (listed hs) d ≡ true → kindCode (kindOf y hs d) ≡ 5
+    bridged o e = ap kindCode (sym (kind-bridge y (listed hs) d (early o) (o .unlisted) (no-christmas o) e))
+
+    code-is : {code : ℕ} → KindRow y hs d code → kindCode (kindOf y hs d) ≡ code
+    code-is (is-window w) =
+        let o = w .working in
+        ap kindCode (sym (kind-windows y (listed hs) d (early o) (o .unlisted) (no-christmas o) (no-bridge w)))
+    code-is (is-weekend h) = ap kindCode (sym (kind-weekend y (listed hs) d h))
+    code-is (is-holiday w e) = ap kindCode (sym (kind-listed y (listed hs) d (omega (arith, w)) e))
+    code-is (is-christmas w u p) = ap kindCode (sym (kind-christmas y (listed hs) d (omega (arith, w)) u (period d .1 p)))
+    code-is (is-bridge b) = bridged (⊎-elim (λ m. m .working) (λ f. f .working) b) (bridge-is d .1 b)
+
+-- the kind of an answer 0 is 1 exactly when the day carries windows
+pub code-one : (kind : DayKind) → (kindCode kind ∷ [] ≡ 1 ∷ []) ↔ (isWindows kind ≡ true)
+code-one Windows = ((λ e. refl), (λ e. refl))
+code-one Weekend = ((λ e. absurd (omega (arith, ap first-of e))), (λ e. absurd (clash e refl)))
+code-one Listed = ((λ e. absurd (omega (arith, ap first-of e))), (λ e. absurd (clash e refl)))
+code-one Christmas = ((λ e. absurd (omega (arith, ap first-of e))), (λ e. absurd (clash e refl)))
+code-one Bridge = ((λ e. absurd (omega (arith, ap first-of e))), (λ e. absurd (clash e refl)))
 
 pub calendar : Calendar ours
-calendar = record { yes = yes-when; no = no-when }
+calendar = record { kind = kind-when }
+  where
+    kind-when :
+        (y : ℕ) (hs : List ℕ) (d code : ℕ)
+        → calendarAnswer y hs d .number ≡ 0
+        → (calendarAnswer y hs d .figures ≡ code ∷ []) ↔ KindRow y hs d code
+    kind-when y hs d code z =
+        let is : calendarAnswer y hs d .figures ≡ kindCode (kindOf y hs d) ∷ [] = carried .calendar y hs d .listed ∙ simp (eq-eqb _ _ z) in (
+          (λ e. rw (ap first-of (sym is ∙ e)) at (row y hs d)),
+          λ r. is ∙ ap (λ (c : ℕ). c ∷ []) (code-is y hs d r),
+        )

@@ -9,14 +9,13 @@ use native.Mathlib.Omega.{arith}
 use borrow.Author.Tests.{lt-ltb, eq-eqb, ne-eqb}
 use lib.Dec.{leb, ltb, eqb}
 use lib.ListN.{length, getD}
-use Rattle.ranges.specs.Ranges.{bit}
 use Rattle.answers.specs.declared.Place.{Place}
 use Rattle.answers.specs.Ruling.{gridMost, customerMost, yearOut, levelOut}
 use Rattle.answers.specs.Said.{Said, only, orElse}
 use Rattle.dates.specs.Dates.{yearDays}
 use Rattle.periods.specs.Period.{periodDays}
 use Rattle.holidays.specs.Holidays.{badHolidays}
-use Rattle.day_kinds.specs.Kinds.{carries}
+use Rattle.day_kinds.specs.Kinds.{kindCode, kindOf}
 use Rattle.calendar.specs.Answer.{dayOut, calendarAnswer}
 use Rattle.readings.specs.declared.Run.{Run}
 use Rattle.readings.specs.declared.Run.the-variants.{Year, Period}
@@ -254,7 +253,7 @@ unfolding customerCloseAnswer
 customer-closes c =
     either (not (eqb (c .seen) (yearDays (c .terms .rates .year)))) (leaf refl) (judged-listed (c .figures) (c .terms .rates))
 
-calendar-listed : (y : ℕ) (hs : List ℕ) (d : ℕ) → Carries (calendarAnswer y hs d) (zeroAlone (bit (carries y hs d) ∷ []))
+calendar-listed : (y : ℕ) (hs : List ℕ) (d : ℕ) → Carries (calendarAnswer y hs d) (zeroAlone (kindCode (kindOf y hs d) ∷ []))
 unfolding calendarAnswer
 calendar-listed y hs d =
     either (yearOut y) (leaf refl) (either (badHolidays y hs) (leaf refl) (either (dayOut y d) (leaf refl) (leaf refl)))

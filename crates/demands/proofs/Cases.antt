@@ -3,10 +3,11 @@
 -- Assumes nothing.
 use mathlib.Core.Path.{_≡_, refl}
 use Rattle.ranges.specs.Ranges.{joined, largestOver, sumOver, countOver, anyOver, table, inBase}
-use Rattle.answers.specs.Ruling.{shareOf, levelOut}
+use Rattle.answers.specs.Ruling.{shareOf, yearOut, levelOut}
 use Rattle.dates.specs.Dates.{leap, leapDay, daysTo, weekdayOf}
-use Rattle.holidays.specs.Holidays.{listed}
-use Rattle.day_kinds.specs.Kinds.{christmas, free, candidate, bridge}
+use Rattle.holidays.specs.Holidays.{listed, badHolidays}
+use Rattle.day_kinds.specs.Kinds.{christmas, free, candidate, bridge, kindBy}
+use Rattle.calendar.specs.Answer.{dayOut, calendarAnswer}
 use Rattle.readings.specs.Legal.{highestOf}
 use Rattle.sheet.specs.Windows.{flatWindows}
 use Rattle.sheet.specs.Bytes.{windowByte, bytesOf, sheetBytes}
@@ -27,8 +28,9 @@ example-bytes = refl
 
 pub all-hold : AllHold
 unfolding
-    joined largestOver sumOver countOver anyOver table inBase shareOf levelOut leap leapDay daysTo weekdayOf listed christmas free candidate
-    bridge highestOf flatWindows windowByte bytesOf aboveLine comesBefore rank kept keptOf chosenOf curveOf curvesOf sheetOf rowOut pricesOut
+    joined largestOver sumOver countOver anyOver table inBase shareOf yearOut levelOut leap leapDay daysTo weekdayOf listed badHolidays
+    christmas free candidate bridge kindBy dayOut calendarAnswer
+    highestOf flatWindows windowByte bytesOf aboveLine comesBefore rank kept keptOf chosenOf curveOf curvesOf sheetOf rowOut pricesOut
     chargeFor general reduced floorOf charge eligibleRules chargeRules judgeRules judgeAnswer
 all-hold u =
-    (refl, (refl, (refl, (refl, (refl, (refl, (refl, (refl, (refl, (refl, (refl, (refl, (refl, (refl, (refl, (refl, (first-forty (u .peak) (u .positive), (refl, (refl, (refl, (example-bytes, tt)))))))))))))))))))))
+    (refl, (refl, (refl, (refl, (refl, (refl, (refl, (refl, (refl, (refl, (refl, (refl, (refl, (refl, (refl, (refl, (first-forty (u .peak) (u .positive), (refl, (refl, (refl, (refl, (refl, (refl, (refl, (example-bytes, tt)))))))))))))))))))))))))

@@ -10,14 +10,14 @@ use native.Mathlib.Nat.{le-trans}
 use native.Mathlib.Omega.{arith}
 use borrow.Author.Tests.{eq-eqb}
 use lib.ListN.{length, getD}
-use Rattle.ranges.specs.Ranges.{bit, sumOver}
+use Rattle.ranges.specs.Ranges.{sumOver}
 use Rattle.ranges.proofs.Largest.{largest-le}
 use Rattle.ranges.proofs.Bools.{both, pair}
 use Rattle.ranges.proofs.Tests.{any-at, any-fails}
 use Rattle.answers.specs.Ruling.{ChargeYear}
 use Rattle.answers.specs.Said.{only}
 use Rattle.dates.specs.Dates.{seasonOf}
-use Rattle.day_kinds.specs.Kinds.{carries}
+use Rattle.day_kinds.specs.Kinds.{kindCode, kindOf, carries}
 use Rattle.calendar.specs.Answer.{calendarAnswer}
 use Rattle.calendar.specs.Answer.DayRow.{zero}
 use Rattle.calendar.proofs.Answers.{exactly}
@@ -51,7 +51,7 @@ use Rattle.customer.proofs.Demand.{counts-window, whole-one}
 use Rattle.demands.specs.Module.{ours}
 use Rattle.demands.specs.Answers.{Eligibility}
 use Rattle.demands.proofs.Carried.{carried}
-use Rattle.demands.proofs.Calendar.{bit-one}
+use Rattle.demands.proofs.Calendar.{code-one}
 use Rattle.demands.proofs.Sheets.{handed}
 use Rattle.demands.proofs.Fair.{legal-basis}
 
@@ -136,8 +136,8 @@ module _ (k : Basis) (o : customerOpenAnswer k ≡ only 0) where
     answered : calendarAnswer (basisYear k) hs (d + 1) .number ≡ 0
     answered = exactly (basisYear k) hs (d + 1) 0 .1 (zero (legal-year (legal .read) refl) (legal .holidays) (record { from = omega arith; to = omega arith }))
 
-    yes-is : calendarAnswer (basisYear k) hs (d + 1) .figures ≡ bit (carries (basisYear k) hs (d + 1)) ∷ []
-    yes-is = carried .calendar (basisYear k) hs (d + 1) .listed ∙ simp (eq-eqb _ _ answered)
+    kind-is : calendarAnswer (basisYear k) hs (d + 1) .figures ≡ kindCode (kindOf (basisYear k) hs (d + 1)) ∷ []
+    kind-is = carried .calendar (basisYear k) hs (d + 1) .listed ∙ simp (eq-eqb _ _ answered)
 
     by-answers :
         (inWindow k d p ≡ true)
@@ -145,9 +145,9 @@ module _ (k : Basis) (o : customerOpenAnswer k ≡ only 0) where
         × (isSet (readSheet (k .sheet) .windows) (seasonOf (basisYear k) (d + 1)) (quarterOf (basisRun k) d p) ≡ true))
     unfolding setOn
     by-answers =
-        rw (yes-is, shown) (
-          (λ e. let b = both (carries (basisYear k) hs (d + 1)) _ e in (bit-one _ .1 (b .0), b .1)),
-          λ h. pair {a = carries (basisYear k) hs (d + 1)} (bit-one _ .0 (h .0)) (h .1),
+        rw (kind-is, shown) (
+          (λ e. let b = both (carries (basisYear k) hs (d + 1)) _ e in (code-one (kindOf (basisYear k) hs (d + 1)) .1 (b .0), b .1)),
+          λ h. pair {a = carries (basisYear k) hs (d + 1)} (code-one (kindOf (basisYear k) hs (d + 1)) .0 (h .0)) (h .1),
         )
 
 -- M and S, by the readings

@@ -135,8 +135,8 @@ module _ (m : Module) where
 -- quarters, and its place the first that has it. Days d and positions p in a day count from 0.
 pub record Eligibility (m : Module) : Type 0 where
   -- what Rule 12.3 calls in-window (customer, specs/Demand) is what the calendar and the sheet say: position p of day d
-  -- counts exactly when the calendar says yes (1) for the day, which is its day d + 1 from 1, and the quarter is a
-  -- window of the day's season
+  -- counts exactly when the calendar's answer for the day, which is its day d + 1 from 1, carries kind 1, and the
+  -- quarter is a window of the day's season
   pub in-window :
       (k : Basis) (d p : ℕ)
       → m .customerOpen k ≡ only 0

@@ -1,8 +1,9 @@
--- Which days carry windows, said by ≤, < and ≡ and not by the tests that the calendar computes with. Weekdays count
--- from 0 (Monday) to 6 (Sunday); year y, the listed days hs, day d, from 1. Rules 3.3 to 3.5.
+-- Which days carry windows, and why the others are free, said by ≤, < and ≡ and not by the tests that the calendar
+-- computes with, nor by their order. Weekdays count from 0 (Monday) to 6 (Sunday); year y, the listed days hs, day d,
+-- from 1. Rules 3.3 to 3.5.
 use mathlib.Core.Path.{_≡_}
 use mathlib.Core.Bool.{true, false}
-use mathlib.Core.Logic.{_↔_}
+use mathlib.Core.Logic.{_↔_, _⊎_}
 use mathlib.Core.List.{List, [], _∷_}
 use Prim.Native.Nat.{ℕ, _+_, _-_, _≤_, _<_}
 use Rattle.dates.specs.Dates.{yearDays, weekdayOf}
@@ -36,7 +37,16 @@ pub record CarriesWindows (y : ℕ) (hs : List ℕ) (d : ℕ) : Type 0 where
   pub no-monday : MondayBridge y hs d → ⊥
   pub no-friday : FridayBridge y hs d → ⊥
 
--- where the calendar answers 0, its figure is 1 (yes) exactly when the day carries windows, else 0 (no)
+-- a day's kind, by its code: 1 it carries windows; 2 a Saturday or Sunday; 3 a listed day from Monday to Friday; 4 one
+-- from Monday to Friday in the Christmas period (1 January, or one of the year's last eight days) that is not listed; 5
+-- a bridge day
+pub data KindRow (y : ℕ) (hs : List ℕ) (d : ℕ) : ℕ → Type 0 where
+  windows : CarriesWindows y hs d → KindRow y hs d 1
+  weekend : 5 ≤ weekdayOf y d → KindRow y hs d 2
+  holiday : weekdayOf y d ≤ 4 → listed hs d ≡ true → KindRow y hs d 3
+  christmas : weekdayOf y d ≤ 4 → listed hs d ≡ false → (d ≤ 1) ⊎ (yearDays y ≤ d + 7) → KindRow y hs d 4
+  bridge : MondayBridge y hs d ⊎ FridayBridge y hs d → KindRow y hs d 5
+
+-- where the calendar answers 0, its figure is a code exactly when the row of that code holds
 pub record Calendar (m : Module) : Type 0 where
-  pub yes : (y : ℕ) (hs : List ℕ) (d : ℕ) → m .calendar y hs d .number ≡ 0 → (m .calendar y hs d .figures ≡ 1 ∷ []) ↔ CarriesWindows y hs d
-  pub no : (y : ℕ) (hs : List ℕ) (d : ℕ) → m .calendar y hs d .number ≡ 0 → (m .calendar y hs d .figures ≡ 0 ∷ []) ↔ (CarriesWindows y hs d → ⊥)
+  pub kind : (y : ℕ) (hs : List ℕ) (d code : ℕ) → m .calendar y hs d .number ≡ 0 → (m .calendar y hs d .figures ≡ code ∷ []) ↔ KindRow y hs d code

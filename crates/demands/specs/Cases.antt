@@ -8,8 +8,7 @@ use lib.ListN.{replicate}
 use Rattle.answers.specs.Ruling.{dayQuarters}
 use Rattle.answers.specs.Said.{Said}
 use Rattle.dates.specs.Dates.{dayOf, weekdayOf, saturday}
-use Rattle.holidays.specs.Holidays.{listed}
-use Rattle.day_kinds.specs.Kinds.{bridge}
+use Rattle.calendar.specs.Answer.{calendarAnswer}
 use Rattle.sheet.specs.Bytes.{sheetBytes}
 use Rattle.windows.specs.Chosen.{aboveLine, keptOf}
 use Rattle.grid.specs.Answers.{sheetOf}
@@ -61,9 +60,12 @@ withHigh high = record { few = lowRow; many = high }
 abbrev pub prices : Prices
 prices = withHigh highRow
 
--- weekdays count from 0, Monday
+-- weekdays count from 0, Monday; and the answer 0 with a day's kind, by its code from 1
 abbrev pub thursday : ℕ
 thursday = 3
+
+abbrev pub kind : ℕ → Said
+kind code = record { number = 0; figures = code ∷ [] }
 
 -- the example of Rule 10.6: its four curves, 96 values each, one after the other, so that place 72, from 0, is quarter
 -- 72 of season 1; and its sheet
@@ -132,10 +134,15 @@ module _ (u : Unsaid) where
       ∷ test (aboveLine 2000 1901) true
       -- Case 10: a curve with the peak in every quarter keeps the first 40
       ∷ quarters (keptOf (u .peak) (replicate dayQuarters (u .peak))) (replicate 40 true ++ replicate 56 false)
-      -- Case 11: the weekdays of 2 March 2024 and of 1 May 2025; and 2 May 2025 is a bridge day if 1 May is listed
+      -- Case 11: the weekdays of 2 March 2024 and of 1 May 2025; if 1 May is listed, it is a holiday (3), 2 May a
+      -- bridge day (5) and 3 May on a weekend (2); so is Sunday 1 January 2017, listed or not
       ∷ number (weekdayOf 2024 (dayOf 2024 3 2)) saturday
       ∷ number (weekdayOf 2025 (dayOf 2025 5 1)) thursday
-      ∷ test (bridge 2025 (listed (dayOf 2025 5 1 ∷ [])) (dayOf 2025 5 2)) true
+      ∷ answer (calendarAnswer 2025 (dayOf 2025 5 1 ∷ []) (dayOf 2025 5 1)) (kind 3)
+      ∷ answer (calendarAnswer 2025 (dayOf 2025 5 1 ∷ []) (dayOf 2025 5 2)) (kind 5)
+      ∷ answer (calendarAnswer 2025 (dayOf 2025 5 1 ∷ []) (dayOf 2025 5 3)) (kind 2)
+      ∷ answer (calendarAnswer 2017 [] (dayOf 2017 1 1)) (kind 2)
+      ∷ answer (calendarAnswer 2017 (dayOf 2017 1 1 ∷ []) (dayOf 2017 1 1)) (kind 2)
       -- Case 12: the sheet of the example. Its four curves are 1,000, but 2,000 in season 1 at quarter 72.
       ∷ bytes (sheetBytes (sheetOf 2025 5 exampleCurves)) exampleSheet
       ∷ []

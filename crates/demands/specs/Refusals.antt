@@ -10,11 +10,10 @@ use mathlib.Core.List.{List, [], _∷_}
 use Prim.Native.Nat.{ℕ, _+_, _≤_, _<_}
 use lib.Dec.{eqb}
 use lib.ListN.{length}
-use Rattle.ranges.specs.Ranges.{bit}
 use Rattle.answers.specs.Ruling.{gridMost, customerMost}
 use Rattle.answers.specs.Said.{Said, only}
 use Rattle.periods.specs.Period.{periodDays}
-use Rattle.day_kinds.specs.Kinds.{carries}
+use Rattle.day_kinds.specs.Kinds.{kindCode, kindOf}
 use Rattle.readings.specs.declared.Run.the-variants.{Period}
 use Rattle.readings.specs.Illegal.{FirstIllegal, FirstIllegalIn}
 use Rattle.readings.specs.Days.{takenDays}
@@ -59,8 +58,8 @@ pub record FixedState (m : Module) : Type 0 where
 
 -- Some rows can hold only for a state that no call handed back (Rule 9.6). On a state that an opening, accepted or not,
 -- and days after it handed back, a day is answered 13 only where the opening was refused or all days are in: there the
--- sum is never above `sumMost` (customer_days, specs/Days), which would be 13, too. And closing never answers 1 or 2 for
--- the grid, 2 or 6 for a customer.
+-- sum is never above `sumMost` (customer_days, specs/Days), which would be 13, too. And closing never answers 1 or 2
+-- for the grid, 2 or 6 for a customer.
 pub record HandedBack (m : Module) : Type 0 where
   pub grid-thirteen :
       (y level : ℕ) (days : List (List ℕ)) (day : List ℕ)
@@ -121,7 +120,7 @@ pub record FirstToday (limit n : ℕ) (day : List ℕ) (d q : ℕ) : Type 0 wher
 
 -- Rule 8.1, of each call: its number has the figures that the table lists for it
 pub record Carried (m : Module) : Type 0 where
-  pub calendar : (y : ℕ) (hs : List ℕ) (d : ℕ) → Carries (m .calendar y hs d) (zeroAlone (bit (carries y hs d) ∷ []))
+  pub calendar : (y : ℕ) (hs : List ℕ) (d : ℕ) → Carries (m .calendar y hs d) (zeroAlone (kindCode (kindOf y hs d) ∷ []))
   pub read : (b : List ℕ) → Carries (m .read b) (zeroAlone [])
   pub write : (s : Sheet) (room : ℕ) → Carries (m .write s room) (zeroAlone [])
   pub windows :

@@ -1,4 +1,4 @@
--- What each program prints, for every list of bytes on standard input. A program has a machine, a state that takes
+-- What `hlz` and `statement` print, for every list of bytes on standard input. Each has a machine, a state that takes
 -- bytes (grid_file, specs/GridMachine; customer_file, specs/CustomerMachine), and hands it, turn by turn, as many as it
 -- wants (`driven`): a field, a day, or what comes behind the last day. With turns enough the machine's text is that of
 -- grid_text or customer_text, specs/Text, which goes by the file's bytes alone. The window program's header has 4

@@ -1,10 +1,9 @@
 -- The printed examples of Rules 10.6 and 10.7, and lines at the edges (a whole day, both ends of a day, refusals), are
 -- what the definitions say: one list of cases, one statement, computed by the checker.
 -- Assumes nothing.
-use mathlib.Core.Path.{_≡_, refl}
+use mathlib.Core.Path.{refl}
 use mathlib.Core.Bool.{true, false, _||_}
 use mathlib.Core.List.{List, [], _∷_, _++_}
-use Prim.Native.Nat.{ℕ}
 use lib.Dec.{eqb}
 use lib.ListN.{replicate}
 use Rattle.ranges.specs.Ranges.{joined, anyOver, firstOver}
@@ -12,18 +11,9 @@ use Rattle.answers.specs.Said.{only, badPlace}
 use Rattle.encoding.specs.Bytes.{ascii}
 use Rattle.sheet.specs.Windows.{isSet}
 use Rattle.texts.specs.Text.{textOver}
+use Rattle.texts.proofs.Cases.{Case, Hold}
 use Rattle.lines.specs.Figures.{decimalOf, fieldOf, figuresLine, lineFigures, statementLine, refusedLine}
 use Rattle.window_lines.specs.Runs.{headLine, timeOf, runLine, runText, seasonText, windowsText}
-
--- a text of the definitions, and the bytes that are printed
-pub record Case : Type 0 where
-  pub text : List ℕ
-  pub printed : List ℕ
-
--- every case of a list holds
-abbrev pub Hold : List Case → Type 0
-Hold [] = Unit {0}
-Hold (c ∷ cs) = (c .text ≡ c .printed) × Hold cs
 
 abbrev pub cases : List Case
 cases =

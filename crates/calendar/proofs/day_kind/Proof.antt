@@ -1,16 +1,15 @@
--- `calendar::carries_windows` meets its contract, a law for each return; each test that failed on the way is read once.
+-- `calendar::day_kind` meets its contract, a law for each return; each test that failed on the way is read once.
 -- Assumes nothing.
-use mathlib.Core.Path.{_≡_, sym, ap, _∙_}
+use mathlib.Core.Path.{_≡_, sym, _∙_}
 use mathlib.Core.Bool.{false}
 use borrow.Author.Needs.{needs}
 use Rattle.answers.specs.Ruling.{yearOut}
 use Rattle.holidays.specs.Holidays.{badHolidays}
-use Rattle.day_kinds.specs.Kinds.{isWindows}
 use Rattle.calendar.specs.Answer.{dayOut}
 use Rattle.calendar.proofs.Marked.{by-marks}
-use Rattle.calendar.proofs.Answers.{day-inside, said-year, said-list, said-day, said-carries}
-use Rattle.calendar.proofs.carries_windows.Statement.{statement}
-use Rattle.calendar.proofs.carries_windows.Tie as tie
+use Rattle.calendar.proofs.Answers.{day-inside, said-year, said-list, said-day, said-kind}
+use Rattle.calendar.proofs.day_kind.Statement.{statement}
+use Rattle.calendar.proofs.day_kind.Tie as tie
 
 year-at : (e : tie.Else1) → yearOut (e .before .before .before .args .year) ≡ false
 year-at e = sym (e .before .year-out .ensures) ∙ e .if1 .left
@@ -29,13 +28,12 @@ returns-3 c = let e = c .before .before in said-day _ _ _ (year-at (e .before .b
 
 returns-4 : tie.Need-returns-4
 returns-4 c =
-    let e = c .before .before .before .before in
-    said-carries _ _ _ (year-at (e .before .before .before .before)) (list-at (e .before .before)) (day-at e)
-    (c .is-windows .ensures
-    ∙ ap isWindows (c .before .kind .ensures ∙ by-marks _ _ _ _ (c .before .before .before .marks .ensures) (day-inside _ _ (day-at e) .1)))
+    let e = c .before .before .before in
+    said-kind _ _ _ (year-at (e .before .before .before .before)) (list-at (e .before .before)) (day-at e)
+    (c .kind .ensures ∙ by-marks _ _ _ _ (c .before .before .marks .ensures) (day-inside _ _ (day-at e) .1))
 
-pub carries-windows-spec : {M : Type 1} → statement M
-carries-windows-spec =
+pub day-kind-spec : {M : Type 1} → statement M
+day-kind-spec =
     tie.close
     (tie.spec
     (λ c κs. search needs)  -- year-out-requires
@@ -46,5 +44,4 @@ carries-windows-spec =
     returns-3
     (λ c κs. search needs)  -- marks-requires
     (λ c κs. day-inside _ _ (day-at (c .before .before)))  -- kind-requires
-    (λ c κs. search needs)  -- is-windows-requires
     returns-4)

@@ -1,0 +1,45 @@
+#!/usr/bin/env python3
+"""Every day of every charge year, 2014 to 2028, under many holiday lists each: the kinds that the program `cases` prints
+are held to those of tests/calendar_cases.py.
+
+Run at the project's root:  tests/kinds.py [N]   N lists for each year, 400 if not given
+"""
+import random
+import subprocess
+import sys
+
+from calendar_cases import lines, record
+from dates import date, days_of, nationwide, yday
+
+
+def lists(year, count):
+    """Nationwide lists, random ones, many days beside weekends, and the turn of the year listed in every way."""
+    rng = random.Random(year)
+    days = range(1, days_of(year) + 1)
+    beside = [d for d in days if date(year, d).weekday() in (0, 1, 3, 4)]
+    turn = [1, 2, 3, 4, 5] + list(range(yday(year, 12, 20), days_of(year) + 1))
+    yield nationwide(year)
+    for n in range(count - 1):
+        pool = (days, beside, turn)[n % 3]
+        yield sorted(rng.sample(pool, min(n // 3 % 41, len(pool))))
+
+
+def main():
+    count = int(sys.argv[1]) if len(sys.argv) > 1 else 400
+    starter = subprocess.run(["bash", "-c", ". ./run && build cases && starter"], capture_output=True, text=True, check=True).stdout.split("\n")[:-1]
+    wrong = passed = 0
+    for year in range(2014, 2029):
+        asked = [("L", year, 0, listed) for listed in lists(year, count)]
+        run = subprocess.run(starter + ["target/bin/cases"], input=b"".join(record(*one) for one in asked), capture_output=True, check=True)
+        printed = iter(run.stdout.decode().splitlines())
+        for one in asked:  # three lines each
+            good = [next(printed, None) for _ in range(3)] == lines(*one)
+            passed, wrong = passed + good, wrong + (not good)
+            if not good:
+                print(f"{year} {one[3]}: something else is printed")
+    print(f"{passed} lists passed, {wrong} failed")
+    sys.exit(wrong > 0)
+
+
+if __name__ == "__main__":
+    main()
