@@ -104,17 +104,9 @@ module _ (b : List ℕ) where
     unfolding whyText
     day-printed kind e = rw (f, ← e)
 
-    pub year-printed : only 1 ≡ whyAnswer b → wrongLine 1 ≡ whyText b
+    pub wrong-printed : (number : ℕ) → (number ≡ 0 → ⊥) → only number ≡ whyAnswer b → wrongLine number ≡ whyText b
     unfolding whyText
-    year-printed e = rw (f, ← e)
-
-    pub list-printed : only 3 ≡ whyAnswer b → wrongLine 3 ≡ whyText b
-    unfolding whyText
-    list-printed e = rw (f, ← e)
-
-    pub date-printed : only 13 ≡ whyAnswer b → wrongLine 13 ≡ whyText b
-    unfolding whyText
-    date-printed e = rw (f, ← e)
+    wrong-printed number some e = rw (f, ← e, ne-eqb number 0 some)
 
 -- a weekday's name, and a kind's word, by an equal number or kind
 pub named : (v w : ℕ) → v ≡ w → weekdayName v ≡ weekdayName w

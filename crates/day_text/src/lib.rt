@@ -34,7 +34,7 @@ const FORM: [u8; LINE_SIZE] = [
 const DATE_SIZE: usize = 10;
 
 // One holiday more than a list may have.
-const LISTED_MOST: usize = 41;
+const LISTED_MOST: usize = answers::HOLIDAYS_MOST + 1;
 
 // Does a byte not fit the form's byte?
 fn misfit(form: u8, byte: u8) -> bool

@@ -2,12 +2,13 @@
 -- Assumes nothing.
 use mathlib.Core.Path.{_≡_, sym, ap, _∙_}
 use mathlib.Core.Bool.{false}
+use native.Mathlib.Omega.{arith}
 use borrow.Author.Needs.{needs}
 use Rattle.calendar.specs.Answer.{saidOfDay}
 use Rattle.texts.proofs.Text.{put-as}
 use Rattle.day_text.specs.Asked.{noDates}
 use Rattle.day_text.specs.Text.{wrongLine, usageLine}
-use Rattle.day_text.proofs.Laws.{line-long, usage-printed, day-printed, year-printed, list-printed, date-printed}
+use Rattle.day_text.proofs.Laws.{line-long, usage-printed, day-printed, wrong-printed}
 use Rattle.day_text.proofs.text.Statement.{statement}
 use Rattle.day_text.proofs.text.Tie as tie
 
@@ -39,7 +40,8 @@ returns-3 c =
     let line = c .before .before in
     let known = line .before .before .before in
     let asked = known .before .before in
-    put-as (year-printed _ (dates asked) (sym (ap saidOfDay (known .enum-told .given .1)) ∙ asked .answer .ensures)) (line .add-bytes2 .ensures)
+    let said = sym (ap saidOfDay (known .enum-told .given .1)) ∙ asked .answer .ensures in
+    put-as (wrong-printed _ (dates asked) 1 (λ e. omega (arith, e)) said) (line .add-bytes2 .ensures)
 
 returns-4 : tie.Need-returns-4
 unfolding wrongLine
@@ -47,7 +49,8 @@ returns-4 c =
     let line = c .before .before in
     let known = line .before .before .before in
     let asked = known .before .before in
-    put-as (list-printed _ (dates asked) (sym (ap saidOfDay (known .enum-told2 .given .1)) ∙ asked .answer .ensures)) (line .add-bytes3 .ensures)
+    let said = sym (ap saidOfDay (known .enum-told2 .given .1)) ∙ asked .answer .ensures in
+    put-as (wrong-printed _ (dates asked) 3 (λ e. omega (arith, e)) said) (line .add-bytes3 .ensures)
 
 returns-5 : tie.Need-returns-5
 unfolding wrongLine
@@ -55,7 +58,8 @@ returns-5 c =
     let line = c .before .before in
     let known = line .before .before .before in
     let asked = known .before .before in
-    put-as (date-printed _ (dates asked) (sym (ap saidOfDay (known .enum-told3 .given .1)) ∙ asked .answer .ensures)) (line .add-bytes4 .ensures)
+    let said = sym (ap saidOfDay (known .enum-told3 .given .1)) ∙ asked .answer .ensures in
+    put-as (wrong-printed _ (dates asked) 13 (λ e. omega (arith, e)) said) (line .add-bytes4 .ensures)
 
 pub text-spec : {M : Type 1} → statement M
 text-spec =
