@@ -5,11 +5,11 @@ are held to those of tests/calendar_cases.py.
 Run at the project's root:  tests/kinds.py [N]   N lists for each year, 400 if not given
 """
 import random
-import subprocess
 import sys
 
 from calendar_cases import lines, record
 from dates import date, days_of, nationwide, yday
+from programs import program, tell
 
 
 def lists(year, count):
@@ -26,19 +26,17 @@ def lists(year, count):
 
 def main():
     count = int(sys.argv[1]) if len(sys.argv) > 1 else 400
-    starter = subprocess.run(["bash", "-c", ". ./run && build cases && starter"], capture_output=True, text=True, check=True).stdout.split("\n")[:-1]
-    wrong = passed = 0
+    cases = program("cases")
+    passed, wrong = 0, []
     for year in range(2014, 2029):
         asked = [("L", year, 0, listed) for listed in lists(year, count)]
-        run = subprocess.run(starter + ["target/bin/cases"], input=b"".join(record(*one) for one in asked), capture_output=True, check=True)
-        printed = iter(run.stdout.decode().splitlines())
+        printed = iter(cases(b"".join(record(*one) for one in asked)).splitlines())
         for one in asked:  # three lines each
-            good = [next(printed, None) for _ in range(3)] == lines(*one)
-            passed, wrong = passed + good, wrong + (not good)
-            if not good:
-                print(f"{year} {one[3]}: something else is printed")
-    print(f"{passed} lists passed, {wrong} failed")
-    sys.exit(wrong > 0)
+            if [next(printed, None) for _ in range(3)] == lines(*one):
+                passed += 1
+            else:
+                wrong.append(f"{year} {one[3]}: something else is printed")
+    tell("lists passed", passed, wrong)
 
 
 if __name__ == "__main__":

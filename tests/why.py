@@ -13,6 +13,7 @@ import sys
 
 from calendar_cases import answer
 from dates import day_of, days_of, nationwide
+from programs import program, tell
 
 NAMES = "Monday Tuesday Wednesday Thursday Friday Saturday Sunday".split()
 WORDS = {1: "window", 2: "weekend", 3: "holiday", 4: "Christmas", 5: "bridge day"}
@@ -87,27 +88,22 @@ def inputs(count):
         yield bytes(data)
 
 
+def by_words(words, status):
+    """./run why: the answer, or the usage with status 2."""
+    run = subprocess.run(["./run", "why", *words], capture_output=True, text=True)
+    text = expected("".join(f"{word}\n" for word in words).encode())
+    return run.returncode == status and (run.stdout == text if status == 0 else run.stdout == "" and "./run why" in run.stderr)
+
+
+WORDS_GIVEN = ((["2025-05-02", "2025-05-01"], 0), (["2025-02-30"], 0), (["today"], 2), ([], 2), (["2025-05-02\n2025-05-01"], 0), ([""], 2))
+
+
 def main():
-    count = int(sys.argv[1]) if len(sys.argv) > 1 else 2000
-    starter = subprocess.run(["bash", "-c", ". ./run && build why && starter"], capture_output=True, text=True, check=True).stdout.split("\n")[:-1]
-    wrong = passed = 0
-    for data in inputs(count):
-        printed = subprocess.run(starter + ["target/bin/why"], input=data, capture_output=True, check=True).stdout.decode()
-        if printed == expected(data):
-            passed += 1
-        else:
-            wrong += 1
-            print(f"{data!r}: printed {printed!r}, expected {expected(data)!r}")
-    # by its words: the answer, or the usage with status 2
-    for words, status in ((["2025-05-02", "2025-05-01"], 0), (["2025-02-30"], 0), (["today"], 2), ([], 2), (["2025-05-02\n2025-05-01"], 0), ([""], 2)):
-        run = subprocess.run(["./run", "why", *words], capture_output=True, text=True)
-        text = expected("".join(f"{word}\n" for word in words).encode())
-        good = run.returncode == status and (run.stdout == text if status == 0 else run.stdout == "" and "./run why" in run.stderr)
-        passed, wrong = passed + good, wrong + (not good)
-        if not good:
-            print(f"./run why {words}: status {run.returncode}, {run.stdout!r}")
-    print(f"{passed} passed, {wrong} failed")
-    sys.exit(wrong > 0)
+    why = program("why")
+    tried = list(inputs(int(sys.argv[1]) if len(sys.argv) > 1 else 2000))
+    wrong = [f"{data!r}: printed {why(data)!r}, expected {expected(data)!r}" for data in tried if why(data) != expected(data)]
+    wrong += [f"./run why {words}: something else" for words, status in WORDS_GIVEN if not by_words(words, status)]
+    tell("passed", len(tried) + len(WORDS_GIVEN) - len(wrong), wrong)
 
 
 if __name__ == "__main__":
