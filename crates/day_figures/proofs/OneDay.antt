@@ -10,7 +10,7 @@ use native.Mathlib.Omega.{arith}
 use borrow.Author.Tests.{lt-ltb, le-ltb}
 use lib.Bits.{bitAnd, and-mask, and-zero-r}
 use lib.Dec.{ltb, eqb}
-use lib.ListN.{length, getD}
+use lib.ListN.{length, getD, List·getD-eq-default}
 use Rattle.ranges.specs.Ranges.{largestOver, sumOver, anyOver, firstOver, numberIf, largestIn, placeIn, table}
 use Rattle.ranges.proofs.Bools.{decided, both}
 use Rattle.ranges.proofs.Largest.{largest-cong}
@@ -77,6 +77,10 @@ pub counts-none :
     → anyOver (inRow run (rowIf flag row) d) (dayLen run d) ≡ false
 counts-none run row d false h = any-fails _ _ (λ p l. refl)
 counts-none run row d true h = any-fails _ _ (λ p l. unset row (quarterOf run d p) h (quarter-in run d p l))
+
+-- nor by a row without quarters
+pub counts-empty : (run : Run) (row : List Bool) (d n : ℕ) → length row ≡ 0 → anyOver (inRow run row d) n ≡ false
+counts-empty run row d n e = any-fails _ _ (λ p l. List·getD-eq-default row false (omega arith))
 
 -- a day's tops, figure by figure
 pub tops-are :

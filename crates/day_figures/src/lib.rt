@@ -282,7 +282,7 @@ fn days_out(run: Run, from: u16, n: usize, sum: u64) -> bool
 }
 
 // The figures with day d of a run, from 0, taken in: position p counts where its quarter is set in the row. Refuses 13,
-// 4 in this order.
+// 4 in this order. Highest reading and sum come first: they do not wait until it is known whether the row has quarters.
 pub fn take_day(f: Figures, run: Run, d: u16, row: &[bool], day: &[u32]) -> Taking
     ensures { λ r. ⌜ r ≡ dayTaken f run d (now (row .entry)) (now (day .entry)) ⌝ }
 {
@@ -292,9 +292,12 @@ pub fn take_day(f: Figures, run: Run, d: u16, row: &[bool], day: &[u32]) -> Taki
     if day.len() != readings::day_span(run, d).len {
         return Taking::WrongLength;
     }
+    let next = plain_day(f, day);
+    if row.len() == 0 {
+        return Taking::Taken(next);
+    }
     let masks = masks_of(row);
     let some = some_left(&masks);
-    let next = plain_day(f, day);
     Taking::Taken(take_fit(f, next, run, d, true, some, row, &masks, day))
 }
 

@@ -29,7 +29,8 @@ fn season_row(year: u16, d: u16, windows: &[bool; sheet::WINDOW_PLACES]) -> &[bo
 }
 
 // The quarters that count on day d, from 0: those of its season's windows where the day carries windows, else an empty
-// row. Flag d of `carrying` is day d's.
+// row. Flag d of `carrying` is day d's. The season's row is cut out on every day: the flag then only chooses between two
+// rows, and no jump has to be guessed.
 pub fn day_row<'a>(
     year: u16,
     d: u16,
@@ -44,8 +45,9 @@ pub fn day_row<'a>(
     if flags.len() <= at {
         return &all[0..0];
     }
+    let row = season_row(year, d, windows);
     if flags[at] {
-        return season_row(year, d, windows);
+        return row;
     }
     &all[0..0]
 }

@@ -17,14 +17,14 @@ returns c =
 
 returns-2 : tie.Need-returns-2
 returns-2 c =
-    let inside = c .before .before .before in
-    let a = inside .before .before .before .args in
-    c .season-row .ensures ∙ row-some (a .year) (a .carrying .now) (a .windows .now) (a .d) (c .before .if2 .taken)
+    let row = c .before .before in
+    let a = row .before .before .before .before .args in
+    row .season-row .ensures ∙ row-some (a .year) (a .carrying .now) (a .windows .now) (a .d) (c .if2 .taken)
 
 returns-3 : tie.Need-returns-3
 returns-3 c =
-    let inside = c .before .before .before in
-    let a = inside .before .before .before .args in
+    let row = c .before .before .before in
+    let a = row .before .before .before .before .args in
     row-none (a .year) (a .carrying .now) (a .windows .now) (a .d) (c .before .if2 .left)
 
 pub day-row-spec : {M : Type 1} → statement M
@@ -35,8 +35,8 @@ day-row-spec =
     (λ c. search needs)  -- part-result-start
     (λ c. search needs)  -- part-result-end
     returns
-    (λ c. search needs)  -- shared-slice-read-if2
     (λ c κs. search needs)  -- season-row-requires
+    (λ c. search needs)  -- shared-slice-read-if2
     returns-2
     (λ c. search needs)  -- sub-result-2
     (λ c. search needs)  -- part-result-start-2
