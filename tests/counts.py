@@ -25,7 +25,7 @@ def counts(crate):
     proofs = [path for path in crate.glob("proofs/**/*.antt")]
     own = [path for path in proofs if path.name == "Proof.antt"]
     laws = [path for path in proofs if path.name != "Proof.antt"]
-    functions = sum(len(re.findall(r"(?m)^\s*(?:pub(?:\(crate\))? )?fn ", path.read_text())) for path in code)
+    functions = sum(len(re.findall(r'(?m)^\s*(?:pub(?:\(crate\))? )?(?:extern "C" )?fn ', path.read_text())) for path in code)
     return functions, lines(code), lines(crate.glob("specs/**/*.antt")), lines(laws), lines(own), len(list(crate.glob("must-fail/*.edit")))
 
 

@@ -1,5 +1,5 @@
-// Works out the charges of a year's figures. Any figures and any prices have an answer. It meets `tariff`, specs/Charges
-// and specs/Decision. Rules 6.6 and 7.1 to 7.5.
+// Works out the charges of a year's figures. Any figures and any prices have an answer. It meets `tariff`,
+// specs/Charges and specs/Decision. Rules 6.6 and 7.1 to 7.5.
 ghost use mathlib.Core.Path.{_≡_};
 ghost use Prim.Native.Nat.{_≤_, max};
 ghost use Rattle.tariff.specs.Prices.{LegalRow, LegalPrices};

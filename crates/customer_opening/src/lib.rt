@@ -1,5 +1,5 @@
-// The customer's year that the header of a customer file opens, by the header's bytes. It meets specs/Opening. Behind the
-// last byte there is 0, so that the call answers for any bytes. Rules 9.5 and 10.3.
+// The customer's year that the header of a customer file opens, by the header's bytes. It meets specs/Opening. Behind
+// the last byte there is 0, so that the call answers for any bytes. Rules 9.5 and 10.3.
 ghost use mathlib.Core.Path.{_≡_};
 ghost use Prim.Native.Nat.{min};
 ghost use lib.ListN.{take};

@@ -65,7 +65,8 @@ wrong-short number = go (decided (eqb number 1)) (decided (eqb number 3))
 
 said-short : (b : List ℕ) (said : Said) → length (saidLine b said) ≤ textMost
 said-short b said =
-    ⊎-elim (λ e. rw e (omega (arith, line-short b (getD (said .figures) 0 0)))) (λ f. rw f (omega (arith, wrong-short (said .number)))) (decided (eqb (said .number) 0))
+    ⊎-elim (λ e. rw e (omega (arith, line-short b (getD (said .figures) 0 0))))
+    (λ f. rw f (omega (arith, wrong-short (said .number)))) (decided (eqb (said .number) 0))
 
 -- every text fits into the buffer that the program lends
 pub text-short : (b : List ℕ) → length (whyText b) ≤ textMost

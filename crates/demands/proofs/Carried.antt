@@ -178,7 +178,9 @@ series-listed run limit xs others none =
     (choice (Refusing column) (ltb 0 (firstIllegal run limit xs .day)) (λ r. leaf refl)
     (λ r. absurd (r refl)))
 
-windows-listed : (y level : ℕ) (xs : List ℕ) (room : ℕ) → Carries (windowsAnswer y level xs room) (withPlace (firstIllegal (Period y) gridMost xs) (zeroAlone []))
+windows-listed :
+    (y level : ℕ) (xs : List ℕ) (room : ℕ)
+    → Carries (windowsAnswer y level xs room) (withPlace (firstIllegal (Period y) gridMost xs) (zeroAlone []))
 unfolding windowsAnswer
 windows-listed y level xs room =
     let place = firstIllegal (Period y) gridMost xs in

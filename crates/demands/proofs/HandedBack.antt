@@ -86,7 +86,9 @@ module _ (y level : ℕ) (days : List (List ℕ)) where
       → Refused (gridOpenAnswer y level) ⊎ (length (takenDays gridDayAnswer dayGrid (openGrid y level) days) ≡ periodDays y)
   grid-thirteen day e = go (ℕ-discrete (gridOpenAnswer y level .number) 0)
     where
-      go : Dec (gridOpenAnswer y level .number ≡ 0) → Refused (gridOpenAnswer y level) ⊎ (length (takenDays gridDayAnswer dayGrid (openGrid y level) days) ≡ periodDays y)
+      go :
+          Dec (gridOpenAnswer y level .number ≡ 0)
+          → Refused (gridOpenAnswer y level) ⊎ (length (takenDays gridDayAnswer dayGrid (openGrid y level) days) ≡ periodDays y)
       go (no r) = inl r
       go (yes z) = inr (thirteen-full (gridMachine y level) (grid-holds z) day e ∙ period-run y)
 
@@ -166,7 +168,9 @@ module _ (k : Basis) (days : List (List ℕ)) where
       → Refused (customerOpenAnswer k) ⊎ (length (takenDays customerDayAnswer dayCustomer (openCustomer k) days) ≡ basisDays k)
   customer-thirteen day e = go (ℕ-discrete (customerOpenAnswer k .number) 0)
     where
-      go : Dec (customerOpenAnswer k .number ≡ 0) → Refused (customerOpenAnswer k) ⊎ (length (takenDays customerDayAnswer dayCustomer (openCustomer k) days) ≡ basisDays k)
+      go :
+          Dec (customerOpenAnswer k .number ≡ 0)
+          → Refused (customerOpenAnswer k) ⊎ (length (takenDays customerDayAnswer dayCustomer (openCustomer k) days) ≡ basisDays k)
       go (no r) = inl r
       go (yes z) = inr (thirteen-full (customerMachine terms) (customer-holds z) day e ∙ year-run (terms .rates .year))
 

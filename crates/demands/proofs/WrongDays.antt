@@ -91,7 +91,8 @@ module _ (m : Module) (d : Demands m) where
 
     opens : customerOpenAnswer k ≡ only 0
     opens =
-        said-is (customerOpenAnswer k) (zeroAlone []) 0 (carried .customer-open k) (exactly-when .customer-open k 0 .1 (d .exactly-when .customer-open k 0 .0 (number-is o)))
+        let zero = d .exactly-when .customer-open k 0 .0 (number-is o) in
+        said-is (customerOpenAnswer k) (zeroAlone []) 0 (carried .customer-open k) (exactly-when .customer-open k 0 .1 zero)
 
     ends-year : (v : ℕ) → v ≤ customerMost → LegalYear k (ends year year-many v)
     ends-year v l = record { opens = opens; series = ends-legal year year-many v customerMost l }

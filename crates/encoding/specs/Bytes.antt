@@ -1,6 +1,6 @@
--- Text, numbers, marks and versions in the bytes b of a sheet or a file. A number has its high byte first; the sheet and
--- both files begin with a mark of three bytes and a version. Places i of bytes count from 0, and behind the last byte
--- there is 0. Rules 5.1 and 10.1 to 10.3.
+-- Text, numbers, marks and versions in the bytes b of a sheet or a file. A number has its high byte first; the sheet
+-- and both files begin with a mark of three bytes and a version. Places i of bytes count from 0, and behind the last
+-- byte there is 0. Rules 5.1 and 10.1 to 10.3.
 use mathlib.Core.Bool.{Bool, not}
 use mathlib.Core.List.{List, [], _∷_}
 use Prim.Native.Nat.{ℕ, zero, suc, _+_, _-_, min}

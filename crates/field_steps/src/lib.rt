@@ -1,5 +1,5 @@
-// The small steps that machines share which read a file (Rules 10.1, 10.4 and 10.5). They meet `fields`, specs/Series and
-// specs/Stages, and `numberIf` of `ranges`.
+// The small steps that machines share which read a file (Rules 10.1, 10.4 and 10.5). They meet `fields`, specs/Series
+// and specs/Stages, and `numberIf` of `ranges`.
 ghost use mathlib.Core.Path.{_≡_};
 ghost use Prim.Native.Nat.{ℕ, _*_};
 ghost use Rattle.ranges.specs.Ranges.{numberIf, table};

@@ -1,7 +1,7 @@
 // A file that is read field by field and day by day, whatever its header: definitions and laws, no code. The specs say
-// what any file is answered by its bytes (specs/Layout, specs/Common, specs/Series, specs/File), and what a machine does
-// that is handed these bytes piece by piece (specs/Machine, specs/Stages); that the one computes the other is proved in
-// proofs/Driven. Rules 10.1, 10.4 and 10.5.
+// what any file is answered by its bytes (specs/Layout, specs/Common, specs/Series, specs/File), and what a machine
+// does that is handed these bytes piece by piece (specs/Machine, specs/Stages); that the one computes the other is
+// proved in proofs/Driven. Rules 10.1, 10.4 and 10.5.
 use answers::Place;
 
 // How many bytes a reading has.

@@ -157,7 +157,11 @@ module _
     four = take size (drop at xs)
 
     -- a day of the four brings its reading
-    brings : (k q t : ℕ) → k < 4 → q < dayQuarters → topOf y (d + k) (reading (Period y) xs (d + k)) t q ≡ numberIf (eqb s t) (getD four (dayQuarters * k + q) 0)
+    brings :
+        (k q t : ℕ)
+        → k < 4
+        → q < dayQuarters
+        → topOf y (d + k) (reading (Period y) xs (d + k)) t q ≡ numberIf (eqb s t) (getD four (dayQuarters * k + q) 0)
     brings k q t l m =
         let stands : dayStart (Period y) (d + k) + q ≡ at + (dayQuarters * k + q) =
         omega (arith, start-formula (Period y) d, start-formula (Period y) (d + k)) in

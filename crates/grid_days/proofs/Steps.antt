@@ -88,7 +88,11 @@ module _ (g : Grid) (day : List ℕ) where
 
 -- closing
 module _ (g : Grid) (out : List ℕ) where
-  close-refused : (a : Said) → eqb (a .number) 0 ≡ false → a ≡ gridCloseAnswer g (length out) → (a ≡ gridCloseAnswer g (length out)) × (out ≡ gridCloseBuffer g out)
+  close-refused :
+      (a : Said)
+      → eqb (a .number) 0 ≡ false
+      → a ≡ gridCloseAnswer g (length out)
+      → (a ≡ gridCloseAnswer g (length out)) × (out ≡ gridCloseBuffer g out)
   unfolding gridCloseBuffer
   close-refused a z e = refusal-keeps a (finished (g .year) (g .level) (g .curves) out) out e z
 

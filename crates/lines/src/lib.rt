@@ -1,6 +1,7 @@
 // The lines of figures that the two programs print, as bytes: a statement, and a refusal. Each public call writes its
 // whole text at the start of a lent buffer and answers the text's length; the bytes behind it stay. Where the buffer is
-// too short, it writes nothing and answers 0. It meets specs/Figures and `texts`, specs/Text. Rules 10.1, 10.6 and 10.7.
+// too short, it writes nothing and answers 0. It meets specs/Figures and `texts`, specs/Text. Rules 10.1, 10.6 and
+// 10.7.
 ghost use mathlib.Core.Path.{_≡_};
 ghost use Prim.Native.Nat.{_+_, _≤_};
 ghost use lib.Dec.{leb};

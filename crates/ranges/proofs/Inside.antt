@@ -1,5 +1,5 @@
--- Laws of `numberIf`, `largestIn` and `placeIn`: the largest value at the places that pass a test, and the first of them that has
--- it. The test and the function are the first explicit arguments.
+-- Laws of `numberIf`, `largestIn` and `placeIn`: the largest value at the places that pass a test, and the first of
+-- them that has it. The test and the function are the first explicit arguments.
 -- Assumes nothing.
 use mathlib.Core.Path.{_≡_, refl, sym, ap, ap₂, _∙_}
 use mathlib.Core.Bool.{Bool, true, false, not, _&&_, _||_}

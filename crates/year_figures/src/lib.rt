@@ -29,8 +29,8 @@ fn season_row(year: u16, d: u16, windows: &[bool; sheet::WINDOW_PLACES]) -> &[bo
 }
 
 // The quarters that count on day d, from 0: those of its season's windows where the day carries windows, else an empty
-// row. Flag d of `carrying` is day d's. The season's row is cut out on every day: the flag then only chooses between two
-// rows, and no jump has to be guessed.
+// row. Flag d of `carrying` is day d's. The season's row is cut out on every day: the flag then only chooses between
+// two rows, and no jump has to be guessed.
 pub fn day_row<'a>(
     year: u16,
     d: u16,

@@ -1,4 +1,5 @@
--- `customer_opening::holidays_of` meets its contract. The loop's invariant: the first j places hold the file's holidays.
+-- `customer_opening::holidays_of` meets its contract. The loop's invariant: the first j places hold the file's
+-- holidays.
 -- Assumes nothing.
 use mathlib.Core.Path.{refl}
 use Prim.Native.Nat.{ℕ, _+_, _-_, _*_, _≤_}

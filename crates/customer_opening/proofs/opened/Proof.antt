@@ -23,7 +23,9 @@ slice-aggregate-open c =
     sym (length-take-le (listed .before .holiday-count .result) (listed .holidays-of .result) (omega arith))
 
 -- the holidays, as many as the header counts
-listed-are : (e : tie.After-holidays-of) → take (e .before .holiday-count .result) (e .holidays-of .result) ≡ holidaysOf (e .before .before .before .args .head .now)
+listed-are :
+    (e : tie.After-holidays-of)
+    → take (e .before .holiday-count .result) (e .holidays-of .result) ≡ holidaysOf (e .before .before .before .args .head .now)
 listed-are e = ap (λ (n : ℕ). take n (e .holidays-of .result)) (e .before .holiday-count .ensures .0) ∙ e .holidays-of .ensures
 
 returns : tie.Need-returns

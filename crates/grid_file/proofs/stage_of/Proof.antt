@@ -22,7 +22,9 @@ abbrev others : List ℕ
 others = 0 ∷ 1 ∷ 2 ∷ 3 ∷ 4 ∷ 6 ∷ 7 ∷ 8 ∷ []
 
 cast-number : tie.Need-cast-number
-cast-number c = let e = ap (λ (f : Numbers). f .number) (c .before .of-answer .ensures) in omega (arith, e, answer-small (c .before .before .before .args .answer))
+cast-number c =
+    let e = ap (λ (f : Numbers). f .number) (c .before .of-answer .ensures) in
+    omega (arith, e, answer-small (c .before .before .before .args .answer))
 
 returns : tie.Need-returns
 returns c = let e = ap (λ (f : Numbers). f .number) (c .before .before .of-answer .ensures) in rw (eq-eqb _ 0 (sym e ∙ c .if1 .taken))
