@@ -77,45 +77,56 @@ fn lay_four(curves: &mut [u32; sheet::WINDOW_PLACES], season: u8, four: &[u32])
     }
 }
 
-// Lays the next four of a season's days up to `end` over the curves, day d, from 0, being the first of them, or that
-// day alone where there are no four, or no readings for them. Hands back how many days of the period are laid then.
-fn lay_next(
+// Lays days of a season over the curves, four at once, from day `from`, from 0, on: as long as there are four before
+// `end`, and readings for them. Hands back how many days of the period are laid then. (Where the first of them stands
+// is asked once, and four days on stand 384 readings on.)
+fn lay_fours(
     curves: &mut [u32; sheet::WINDOW_PLACES],
     year: u16,
     season: u8,
     end: u16,
-    d: u16,
+    from: u16,
     series: &[u32],
 ) -> u16
-    requires { ⌜ (d < end) × (end ≤ periodDays year)
-        × ((k : ℕ) → d ≤ k → k < end → periodSeason year (k + 1) ≡ season)
-        × (now curves ≡ flatCurves year (now series) d) ⌝ }
-    ensures { λ r. ⌜ LaidTo year (now (series .entry)) d end r (now (curves .exit)) ⌝ }
+    requires { ⌜ (from < end) × (end ≤ periodDays year)
+        × ((k : ℕ) → from ≤ k → k < end → periodSeason year (k + 1) ≡ season)
+        × (now curves ≡ flatCurves year (now series) from) ⌝ }
+    ensures { λ r. ⌜ LaidTo year (now (series .entry)) from end r (now (curves .exit)) ⌝ }
 {
-    let span = readings::day_span(Run::Period(year), d);
-    let start = span.start;
-    let after = start + FOUR_DAYS;
-    if (d + 4 <= end) & (after <= series.len()) {
-        lay_four(&mut *curves, season, &series[start..after]);
-        return d + 4;
+    let mut d = from;
+    let mut at = readings::day_span(Run::Period(year), from).start;
+    while (d + 4 <= end) & (at + FOUR_DAYS <= series.len()) {
+        lay_four(&mut *curves, season, &series[at..at + FOUR_DAYS]);
+        d += 4;
+        at += FOUR_DAYS;
     }
-    let from = smaller(start, series.len());
-    let to = smaller(start + span.len, series.len());
-    lay(&mut *curves, year, d, season, &series[from..to]);
-    d + 1
+    d
 }
 
-// Lays the days from day `from`, from 0, to the end of their month over the curves: they lie in one season. Hands back
-// how many days of the period are laid then.
+// Lays day d, from 0, over the curve of its season, from 1, as far as a series holds the day.
+fn lay_held(curves: &mut [u32; sheet::WINDOW_PLACES], year: u16, season: u8, d: u16, series: &[u32])
+    requires { ⌜ (d < periodDays year) × (season ≡ periodSeason year (d + 1))
+        × (now curves ≡ flatCurves year (now series) d) ⌝ }
+    ensures { λ r. ⌜ now (curves .exit) ≡ flatCurves year (now (series .entry)) (d + 1) ⌝ }
+{
+    let span = readings::day_span(Run::Period(year), d);
+    let from = smaller(span.start, series.len());
+    let to = smaller(span.start + span.len, series.len());
+    lay(&mut *curves, year, d, season, &series[from..to]);
+}
+
+// Lays the days from day `from`, from 0, to the end of their month over the curves: they lie in one season. Those that
+// are left over from fours come one by one. Hands back how many days of the period are laid then.
 fn lay_month(curves: &mut [u32; sheet::WINDOW_PLACES], year: u16, from: u16, series: &[u32]) -> u16
     requires { ⌜ (from < periodDays year) × (now curves ≡ flatCurves year (now series) from) ⌝ }
-    ensures { λ r. ⌜ LaidTo year (now (series .entry)) from (periodDays year) r (now (curves .exit)) ⌝ }
+    ensures { λ r. ⌜ LaidTo year (now (series .entry)) (from + 1) (periodDays year) r (now (curves .exit)) ⌝ }
 {
     let season = periods::period_season(year, from + 1);
     let end = from + 1 + periods::period_left(year, from + 1);
-    let mut d = from;
+    let mut d = lay_fours(&mut *curves, year, season, end, from, series);
     while d < end {
-        d = lay_next(&mut *curves, year, season, end, d, series);
+        lay_held(&mut *curves, year, season, d, series);
+        d += 1;
     }
     d
 }

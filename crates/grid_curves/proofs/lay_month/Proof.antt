@@ -28,26 +28,50 @@ stays y from k a b =
     let e : k + 1 ≡ from + 1 + (k - from) = omega arith in
     ap (periodSeason y) e ∙ period-stays y (from + 1) (k - from) (omega arith)
 
-lay-next-requires : tie.Need-lay-next-requires Inv-loop μ-loop
-lay-next-requires c κs =
-    let at = c .before .before .loop in
-    let e = c .before .before .before in
+-- so have the days up to the month's end
+record Month (e : tie.After-period-left Inv-loop μ-loop) : Type 0 where
+  inside : e .before .before .before .args .from + 1 + e .period-left .result ≤ periodDays (e .before .before .before .args .year)
+  alike :
+      (k : ℕ)
+      → e .before .before .before .args .from ≤ k
+      → k < e .before .before .before .args .from + 1 + e .period-left .result
+      → periodSeason (e .before .before .before .args .year) (k + 1) ≡ e .before .period-season .result
+
+month : (e : tie.After-period-left Inv-loop μ-loop) → Month e
+month e =
     let s = e .before .before .before in
-    let r = room s in (
-      omega arith,
-      omega (arith, e .period-left .ensures),
-      λ k a b.
-          stays (s .args .year) (s .args .from) k (omega arith) (omega (arith, e .period-left .ensures))
-          ∙ sym (e .before .period-season .ensures),
-      at .inv .2,
-    )
+    let left = e .period-left .ensures in
+    record {
+      inside = omega (arith, left, room s);
+      alike =
+          λ k a b.
+          stays (s .args .year) (s .args .from) k a (omega (arith, left)) ∙ sym (e .before .period-season .ensures);
+    }
+
+lay-fours-requires : tie.Need-lay-fours-requires Inv-loop μ-loop
+lay-fours-requires c κs =
+    let m = month (c .before) in
+    (omega arith, m .inside, m .alike, c .before .before .before .before .pre .1)
+
+lay-held-requires : tie.Need-lay-held-requires Inv-loop μ-loop
+lay-held-requires c κs =
+    let at = c .before .before in
+    let m = month (at .before .before .before) in
+    let inv = at .loop .inv in
+    (omega (arith, m .inside), sym (m .alike (at .loop .d) (inv .0) (omega arith)), inv .2)
+
+add-d : tie.Need-add-d Inv-loop μ-loop
+add-d c =
+    let e = c .before .before .before .before in
+    let m = month (e .before .before) in
+    let few = period-most (e .before .before .before .before .before .args .year) in
+    omega (arith, m .inside)
 
 returns : tie.Need-returns Inv-loop μ-loop
 returns c =
-    let at = c .before .loop in
-    let e = c .before .before in
-    let r = room (e .before .before .before) in
-    record { more = omega arith; upto = omega (arith, e .period-left .ensures); are = at .inv .2 }
+    let at = c .before in
+    let m = month (at .before .before .before) in
+    record { from = omega arith; upto = omega (arith, m .inside); are = at .loop .inv .2 }
 
 pub lay-month-spec : {M : Type 1} → statement M
 lay-month-spec =
@@ -60,9 +84,11 @@ lay-month-spec =
     (λ c. let m = period-most (c .before .before .args .year) in omega arith)  -- add-end
     (λ c. let m = period-most (c .before .before .args .year) in omega arith)  -- add-period-left
     (λ c κs. search needs)  -- period-left-requires
-    (λ c. let s = c .before .before .before in let m = period-most (s .args .year) in let r = room s in omega (arith, c .period-left .ensures))  -- add-end-2
-    (λ c. (omega arith, omega arith, c .before .before .before .pre .1))  -- loop-holds
-    lay-next-requires
-    (λ c. let h = c .lay-next .ensures in omega arith)  -- loop-less
-    (λ c. let h = c .lay-next .ensures in (omega arith, h .upto, h .are))  -- loop-again
+    (λ c. let m = period-most (c .before .before .before .args .year) in let r = month c .inside in omega arith)  -- add-end-2
+    lay-fours-requires
+    (λ c. let h = c .lay-fours .ensures in (h .from, h .upto, h .are))  -- loop-holds
+    lay-held-requires
+    add-d
+    (λ c. search needs)  -- loop-less
+    (λ c. (omega arith, omega arith, c .lay-held .ensures))  -- loop-again
     returns)
