@@ -1,10 +1,15 @@
 //! The proved calls as Rust sees them (crates/bench_grid and bench_customer). A slice is a pointer and then a length.
 //! The answer is written where the first argument points: so C on x86-64 hands back a struct of this size, and the
-//! module says it in so many words, for any processor.
+//! module says it in so many words, for any processor. The choice of quarters has no answer beside what it writes.
 
 use std::mem::MaybeUninit;
 
 use independent::decision::Prices;
+use independent::windows::Curves;
+use independent::QUARTERS;
+
+/// The chosen quarters of the four seasons.
+pub type Chosen = [[bool; QUARTERS]; 4];
 
 /// An answer's number, how many figures it has, and the figures.
 #[repr(C)]
@@ -19,6 +24,7 @@ type GridCall = unsafe extern "C" fn(*mut Flat, u16, u8, *const u32, usize, *mut
 type CustomerCall = unsafe extern "C" fn(*mut Flat, *const u8, usize, *const u16, usize, u32, u32, u32, u32, bool, *const u32, usize) -> *mut Flat;
 
 unsafe extern "C" {
+    fn bench_chosen(peak: u32, curves: *const Curves, out: *mut Chosen);
     fn bench_windows(answer: *mut Flat, year: u16, level: u8, series: *const u32, length: usize, out: *mut u8, room: usize) -> *mut Flat;
     fn bench_grid_days(answer: *mut Flat, year: u16, level: u8, series: *const u32, length: usize, out: *mut u8, room: usize) -> *mut Flat;
     fn bench_decide(
@@ -89,6 +95,11 @@ fn customer_call(call: CustomerCall, basis: &Basis, series: &[u32]) -> Flat {
         );
         answer.assume_init()
     }
+}
+
+pub fn chosen(peak: u32, curves: &Curves, out: &mut Chosen) {
+    // SAFETY: both live through the call, which reads the one and writes the other
+    unsafe { bench_chosen(peak, curves, out) }
 }
 
 pub fn windows(year: u16, level: u8, series: &[u32], out: &mut [u8]) -> Flat {

@@ -5,9 +5,9 @@ mod limit;
 mod sample;
 mod stack;
 
-use calls::Flat;
+use calls::{Chosen, Flat};
 use independent::decision::{decide, CustomerDays, Decision};
-use independent::windows::{windows, GridDays};
+use independent::windows::{curves, highest, kept_quarters, windows, Curves, GridDays};
 use independent::QUARTERS;
 use sample::{Customer, Grid};
 use std::hint::black_box;
@@ -29,6 +29,9 @@ const HARD: Goals = Goals { windows: 0.8, ..USUAL };
 /// And of the limit pass.
 const WINDOWS_TO_LIMIT: f64 = 1.5;
 const DECISION_TO_LIMIT: f64 = 2.5;
+
+/// The most stack that the choice of quarters may take, with all that it calls.
+const CHOICE_STACK: usize = 2_048;
 
 fn verdict(figure: f64, goal: f64) -> &'static str {
     if figure <= goal {
@@ -100,6 +103,18 @@ fn flat(decision: &Decision) -> Flat {
     Flat { number: numbers[0], count: numbers.len() as u64 - 1, figures }
 }
 
+/// The curves that quarters are chosen from: the grid's, and some whose values are all equal, so that a limit is
+/// searched for and a season is cut among equals.
+fn choices(grid: &Grid) -> [Curves; 2] {
+    [curves(grid.year, &grid.series), [[1_000; QUARTERS]; 4]]
+}
+
+/// The independent implementation's choice of a season's quarters.
+fn kept(curve: &[u32; QUARTERS], peak: u32) -> [bool; QUARTERS] {
+    let quarters = kept_quarters(curve, peak);
+    std::array::from_fn(|quarter| quarters.has(quarter))
+}
+
 /// Both implementations answer alike, whole and by days, before anything is measured.
 fn agree(grid: &Grid, customer: &Customer) {
     let mut sheets = [[0; 56]; 4];
@@ -112,6 +127,12 @@ fn agree(grid: &Grid, customer: &Customer) {
     ];
     assert_eq!(numbers, [0; 4], "a grid series was refused");
     assert!(sheets.iter().all(|sheet| *sheet == sheets[0]), "the sheets differ");
+    for curves in choices(grid) {
+        let peak = highest(&curves);
+        let mut chosen = [[false; QUARTERS]; 4];
+        calls::chosen(peak, &curves, &mut chosen);
+        assert_eq!(chosen, curves.map(|curve| kept(&curve, peak)), "the choices differ");
+    }
     let expected = flat(&rust_decide(customer));
     assert_eq!(expected, flat(&customer_days(customer)));
     assert_eq!(expected, calls::decide(&customer.basis, &customer.series));
@@ -172,8 +193,11 @@ fn show_step(name: &str, proved: f64, (rust, goal): (f64, f64), days: f64) {
 /// The deepest stack of each call, beside what it may take at the most.
 fn show_stack(grid: &Grid, customer: &Customer) {
     let mut sheet = [0u8; 56];
+    let mut chosen: Chosen = [[false; QUARTERS]; 4];
+    let choice = choices(grid).map(|curves| stack::deepest(|| calls::chosen(highest(&curves), &curves, &mut chosen)));
     let show = |name: &str, bytes: usize, most: usize| println!("  {name:16} {bytes:6} (at most {most}: {})", verdict(bytes as f64, most as f64));
     println!("deepest stack, bytes");
+    show("choice alone", choice[0].max(choice[1]), CHOICE_STACK);
     show("windows", stack::deepest(|| calls::windows(grid.year, grid.level, &grid.series, &mut sheet)), 3_152);
     show("grid by days", stack::deepest(|| calls::grid_days(grid.year, grid.level, &grid.series, &mut sheet)), 5_872);
     show("decision", stack::deepest(|| calls::decide(&customer.basis, &customer.series)), 3_032);

@@ -1,16 +1,29 @@
 // The module's long calls on a grid series for a caller in Rust or C, as the benchmark makes them: windows, whole and
-// by days. Each is the called function and no more; its promise is that function's, through the same definitions. It
-// meets `grid`, specs/Answers (whole), and specs/Days (by days), each answer laid out by `answer_numbers`,
-// specs/Numbers.
+// by days, and the choice of quarters alone. Each is the called function and no more; its promise is that function's,
+// through the same definitions. It meets `grid`, specs/Answers (whole), and specs/Days (by days), each answer laid out
+// by `answer_numbers`, specs/Numbers; and `windows`, specs/Chosen (the choice).
 ghost use mathlib.Core.Path.{_≡_};
 ghost use lib.ListN.{length};
 ghost use Rattle.periods.specs.Period.{periodDays};
+ghost use Rattle.windows.specs.Chosen.{chosenOf};
 ghost use Rattle.grid.specs.Answers.{windowsAnswer, windowsBuffer};
 ghost use Rattle.answer_numbers.specs.Numbers.{numbersOf};
 ghost use Rattle.bench_grid.specs.Days.{gridAfterDays, gridDaysAnswer, gridDaysBuffer};
 use answer_numbers::Numbers;
 use grid_days::Grid;
 use readings::Run;
+
+// The choice of four seasons' quarters alone: the step that cuts a season to forty.
+#[no_mangle]
+pub extern "C" fn bench_chosen(
+    peak: u32,
+    curves: &[[u32; answers::DAY_QUARTERS]; sheet::SEASONS],
+    out: &mut [[bool; answers::DAY_QUARTERS]; sheet::SEASONS],
+)
+    ensures { λ r. ⌜ now (out .exit) ≡ chosenOf peak (now (curves .entry)) ⌝ }
+{
+    *out = windows::chosen(peak, curves);
+}
 
 // The windows of a whole grid series.
 #[no_mangle]

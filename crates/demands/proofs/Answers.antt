@@ -28,10 +28,10 @@ use Rattle.sheet.specs.Answers.{ReadSaid, readOf, writeAnswer, written}
 use Rattle.sheet.proofs.Windows.{set-at, length-flat}
 use Rattle.sheet.proofs.Exactly.{read-exactly, write-exactly}
 use Rattle.sheet.proofs.Back.{buffer-read}
-use Rattle.windows.specs.Chosen.{kept, curveOf, curvesOf}
+use Rattle.windows.specs.Chosen.{kept}
 use Rattle.windows.proofs.Forty.{chosen-at}
 use Rattle.grid_curves.specs.Curves.{curveAt, flatCurves}
-use Rattle.grid.specs.Answers.{gridOpenAnswer, sheetOf, finishAnswer, finished, windowsAnswer, windowsBuffer}
+use Rattle.grid.specs.Answers.{gridOpenAnswer, curveOf, curvesOf, sheetOf, finishAnswer, finished, windowsAnswer, windowsBuffer}
 use Rattle.grid.specs.Rows.{periodPeak}
 use Rattle.grid_curves.proofs.Curves.{peak-curves}
 use Rattle.grid.proofs.Exactly.{open-exactly, windows-exactly}

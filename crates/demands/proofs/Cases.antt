@@ -11,9 +11,9 @@ use Rattle.calendar.specs.Answer.{dayOut, calendarAnswer}
 use Rattle.readings.specs.Legal.{highestOf}
 use Rattle.sheet.specs.Windows.{flatWindows}
 use Rattle.sheet.specs.Bytes.{windowByte, bytesOf, sheetBytes}
-use Rattle.windows.specs.Chosen.{aboveLine, comesBefore, rank, kept, keptOf, chosenOf, curveOf, curvesOf}
+use Rattle.windows.specs.Chosen.{aboveLine, comesBefore, rank, kept, keptOf, chosenOf}
 use Rattle.windows.proofs.Equal.{first-forty}
-use Rattle.grid.specs.Answers.{sheetOf}
+use Rattle.grid.specs.Answers.{curveOf, curvesOf, sheetOf}
 use Rattle.tariff.specs.Prices.{rowOut, pricesOut}
 use Rattle.tariff.specs.Charges.{chargeFor, general, reduced, floorOf, charge}
 use Rattle.tariff.specs.Decision.{eligibleRules, chargeRules, judgeRules, judgeAnswer}

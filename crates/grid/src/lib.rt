@@ -2,11 +2,14 @@
 // day by day is room `grid_days`.
 // Main theorem: each number is answered exactly when its row holds (`windows-exactly`, proofs/Exactly).
 ghost use mathlib.Core.Path.{_≡_};
+ghost use mathlib.Core.List.{List};
+ghost use Prim.Native.Nat.{ℕ, _<_};
 ghost use lib.ListN.{length};
+ghost use Rattle.answers.specs.Ruling.{dayQuarters};
 ghost use Rattle.readings.specs.Legal.{highestOf};
 ghost use Rattle.sheet.specs.Answers.{saidOfSheet};
-ghost use Rattle.sheet.specs.Windows.{flatWindows};
-ghost use Rattle.grid.specs.Answers.{saidOfGrid, Gives, finishAnswer, finished, windowsAnswer, windowsBuffer};
+ghost use Rattle.sheet.specs.Windows.{seasons, flatWindows};
+ghost use Rattle.grid.specs.Answers.{saidOfGrid, Gives, curveOf, curvesOf, finishAnswer, finished, windowsAnswer, windowsBuffer};
 use answers::Place;
 use readings::Run;
 use sheet::Sheet;
@@ -37,6 +40,29 @@ fn as_grid_answer(answer: SheetAnswer) -> GridAnswer
     }
 }
 
+// Writes the curve of season s, from 0, out of the flat curves, one array that has the four one after the other. (It
+// is written where it is to stand: so the compiler sees that the four together are the flat array once more, and makes
+// no copy where that is not needed any more.)
+fn write_curve(out: &mut [u32; answers::DAY_QUARTERS], flat: &[u32; sheet::WINDOW_PLACES], s: usize)
+    requires { ⌜ (length (now out) ≡ dayQuarters) × (s < seasons) ⌝ }
+    ensures { λ r. ⌜ now (out .exit) ≡ curveOf (now (flat .entry)) s ⌝ }
+{
+    for q in 0..answers::DAY_QUARTERS {
+        out[q] = flat[answers::DAY_QUARTERS * s + q];
+    }
+}
+
+// The four curves out of the flat ones: by season and by quarter, both from 0.
+fn by_season(flat: &[u32; sheet::WINDOW_PLACES]) -> [[u32; answers::DAY_QUARTERS]; sheet::SEASONS]
+    ensures { λ r. ⌜ r ≡ curvesOf (now (flat .entry)) ⌝ }
+{
+    let mut out = [[0; answers::DAY_QUARTERS]; sheet::SEASONS];
+    for s in 0..sheet::SEASONS {
+        write_curve(&mut out[s], flat, s);
+    }
+    out
+}
+
 // The chosen quarters of four seasons, one season after the other, as a sheet holds them.
 fn flat_windows(
     chosen: [[bool; answers::DAY_QUARTERS]; sheet::SEASONS],
@@ -50,18 +76,18 @@ fn flat_windows(
     out
 }
 
-// What curves are answered whose highest value is known: 7 for a peak of zero, else the windows are chosen and their
-// sheet is written.
+// What four curves are answered whose highest value is known: 7 for a peak of zero, else the windows are chosen and
+// their sheet is written.
 fn finish_by(
     year: u16,
     level: u8,
-    curves: &[u32; sheet::WINDOW_PLACES],
+    curves: &[[u32; answers::DAY_QUARTERS]; sheet::SEASONS],
     peak: u32,
     out: &mut [u8],
 ) -> GridAnswer
-    requires { ⌜ peak ≡ highestOf (now curves) ⌝ }
-    ensures { λ r. ⌜ Gives r (finishAnswer year level (now (curves .entry)) (length (now (out .entry))))
-        (now (out .exit)) (finished year level (now (curves .entry)) (now (out .entry))) ⌝ }
+    ensures { λ r. ⌜ ((flat : List ℕ) → now (curves .entry) ≡ curvesOf flat → peak ≡ highestOf flat
+        → Gives r (finishAnswer year level flat (length (now (out .entry))))
+        (now (out .exit)) (finished year level flat (now (out .entry)))) ⌝ }
 {
     if peak == 0 {
         return GridAnswer::NoPeak;
@@ -77,7 +103,7 @@ fn finish_by(
     ))
 }
 
-// What curves are answered once all days are in: 7 for a peak of zero, else the sheet of their windows in a lent
+// What flat curves are answered once all days are in: 7 for a peak of zero, else the sheet of their windows in a lent
 // buffer. Any curves have an answer.
 pub fn finish(
     year: u16,
@@ -88,7 +114,8 @@ pub fn finish(
     ensures { λ r. ⌜ Gives r (finishAnswer year level (now (curves .entry)) (length (now (out .entry))))
         (now (out .exit)) (finished year level (now (curves .entry)) (now (out .entry))) ⌝ }
 {
-    finish_by(year, level, curves, peaks::highest(curves), out)
+    let seasons = by_season(curves);
+    finish_by(year, level, &seasons, peaks::highest(curves), out)
 }
 
 // The windows of a whole series, as a sheet in a lent buffer. Refuses 14, 1, 2, 4, 5, 7 in this order, and then changes
@@ -119,5 +146,6 @@ pub fn windows(year: u16, level: u8, series: &[u32], out: &mut [u8]) -> GridAnsw
             answers::GRID_MOST,
         ));
     }
-    finish_by(year, level, &curves, peak, out)
+    let seasons = by_season(&curves);
+    finish_by(year, level, &seasons, peak, out)
 }

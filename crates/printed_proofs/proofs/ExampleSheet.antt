@@ -28,10 +28,9 @@ use Rattle.sheet.specs.Bytes.{sheetSize}
 use Rattle.sheet.specs.Answers.{writeAnswer}
 use Rattle.sheet.proofs.Windows.{roomy}
 use Rattle.sheet.proofs.Answered.{write-accepted, write-taken}
-use Rattle.windows.specs.Chosen.{curvesOf}
 use Rattle.windows.proofs.Forty.{chosen-roomy}
 use Rattle.grid_curves.specs.Curves.{curveAt, flatCurves}
-use Rattle.grid.specs.Answers.{sheetOf, windowsAnswer, windowsBuffer}
+use Rattle.grid.specs.Answers.{curvesOf, sheetOf, windowsAnswer, windowsBuffer}
 use Rattle.grid.proofs.Answered.{open-done}
 use Rattle.grid.proofs.Answered.{finish-sheet, whole-finish}
 use Rattle.demands.specs.Cases.{exampleCurves, exampleSheet}

@@ -5,20 +5,16 @@
 ghost use mathlib.Core.Path.{_≡_};
 ghost use Prim.Native.Nat.{ℕ, _+_, _-_, _<_, _≤_};
 ghost use lib.Dec.{ltb};
-ghost use lib.ListN.{getD};
+ghost use lib.ListN.{length, getD};
 ghost use Rattle.ranges.specs.Ranges.{bit, table};
 ghost use Rattle.answers.specs.Ruling.{dayQuarters};
-ghost use Rattle.sheet.specs.Windows.{seasons};
-ghost use Rattle.windows.specs.Chosen.{keptOf, chosenOf, curveOf, curvesOf};
+ghost use Rattle.windows.specs.Chosen.{keptOf, chosenOf};
 ghost use Rattle.windows.specs.Cuts.{lineOf, higherThan, FortyBetween, keptBy};
 
 // The line stands at 19 twentieths of the peak.
 const LINE_PARTS: u64 = 19;
 
 const PEAK_PARTS: u64 = 20;
-
-// How many seasons there are.
-const SEASONS: usize = 4;
 
 // Two limits between which a season is cut.
 struct Limits {
@@ -30,29 +26,6 @@ struct Limits {
 struct Cut {
     limit: u32,
     equals: usize,
-}
-
-// The curve of one season, from 0, out of the flat curves: one array that has the four curves one after the other.
-fn curve(flat: &[u32; sheet::WINDOW_PLACES], season: usize) -> [u32; answers::DAY_QUARTERS]
-    requires { ⌜ season < seasons ⌝ }
-    ensures { λ r. ⌜ r ≡ curveOf (now (flat .entry)) season ⌝ }
-{
-    let mut out = [0; answers::DAY_QUARTERS];
-    for q in 0..answers::DAY_QUARTERS {
-        out[q] = flat[answers::DAY_QUARTERS * season + q];
-    }
-    out
-}
-
-// The four curves out of the flat ones: season by season, from 0, each by quarter.
-fn curves(flat: &[u32; sheet::WINDOW_PLACES]) -> [[u32; answers::DAY_QUARTERS]; sheet::SEASONS]
-    ensures { λ r. ⌜ r ≡ curvesOf (now (flat .entry)) ⌝ }
-{
-    let mut out = [[0; answers::DAY_QUARTERS]; sheet::SEASONS];
-    for s in 0..SEASONS {
-        out[s] = curve(flat, s);
-    }
-    out
 }
 
 // The line as a value: what is higher is above the line.
@@ -134,15 +107,18 @@ fn cut_of(peak: u32, curve: &[u32; answers::DAY_QUARTERS]) -> Cut
     }
 }
 
-// The quarters that are higher than a limit.
-fn all_above(curve: &[u32; answers::DAY_QUARTERS], limit: u32) -> [bool; answers::DAY_QUARTERS]
-    ensures { λ r. ⌜ r ≡ table (λ (q : ℕ). ltb limit (getD (now (curve .entry)) q 0)) dayQuarters ⌝ }
+// Marks the quarters that are higher than a limit, and no others.
+fn mark_above(
+    out: &mut [bool; answers::DAY_QUARTERS],
+    curve: &[u32; answers::DAY_QUARTERS],
+    limit: u32,
+)
+    requires { ⌜ length (now out) ≡ dayQuarters ⌝ }
+    ensures { λ r. ⌜ now (out .exit) ≡ table (λ (q : ℕ). ltb limit (getD (now (curve .entry)) q 0)) dayQuarters ⌝ }
 {
-    let mut out = [false; answers::DAY_QUARTERS];
     for q in 0..answers::DAY_QUARTERS {
         out[q] = limit < curve[q];
     }
-    out
 }
 
 // Adds the first `equals` of the quarters that are equal to the limit.
@@ -163,33 +139,31 @@ fn add_equals(
     }
 }
 
-// The kept quarters of a season.
-fn kept_of(peak: u32, curve: &[u32; answers::DAY_QUARTERS]) -> [bool; answers::DAY_QUARTERS]
-    ensures { λ r. ⌜ r ≡ keptOf peak (now (curve .entry)) ⌝ }
+// Marks the kept quarters of a season, and no others. The curve is read where it stands: nothing of it is copied or put
+// in order, and no memory depends on how many quarters are kept at the most.
+fn keep(out: &mut [bool; answers::DAY_QUARTERS], peak: u32, curve: &[u32; answers::DAY_QUARTERS])
+    requires { ⌜ length (now out) ≡ dayQuarters ⌝ }
+    ensures { λ r. ⌜ now (out .exit) ≡ keptOf peak (now (curve .entry)) ⌝ }
 {
     let cut = cut_of(peak, curve);
-    let mut out = all_above(curve, cut.limit);
+    mark_above(&mut *out, curve, cut.limit);
     if 0 < cut.equals {
-        add_equals(&mut out, curve, cut.limit, cut.equals);
+        add_equals(&mut *out, curve, cut.limit, cut.equals);
     }
-    out
 }
 
-// The windows of four curves that lie flat, one after the other, for any peak: by season and by quarter, both from 0.
+// The windows of four curves, for any peak: by season and by quarter, both from 0. Each season's curve is lent on.
+// (Four calls, since a loop is unrolled with all that it calls, and takes 400 bytes of stack more.)
 pub fn chosen(
     peak: u32,
-    flat: &[u32; sheet::WINDOW_PLACES],
+    curves: &[[u32; answers::DAY_QUARTERS]; sheet::SEASONS],
 ) -> [[bool; answers::DAY_QUARTERS]; sheet::SEASONS]
-    ensures { λ r. ⌜ r ≡ chosenOf peak (curvesOf (now (flat .entry))) ⌝ }
+    ensures { λ r. ⌜ r ≡ chosenOf peak (now (curves .entry)) ⌝ }
 {
-    let curves = curves(flat);
-    let mut curve = curves[0];
-    let winter = kept_of(peak, &curve);
-    curve = curves[1];
-    let spring = kept_of(peak, &curve);
-    curve = curves[2];
-    let summer = kept_of(peak, &curve);
-    curve = curves[3];
-    let autumn = kept_of(peak, &curve);
-    [winter, spring, summer, autumn]
+    let mut out = [[false; answers::DAY_QUARTERS]; sheet::SEASONS];
+    keep(&mut out[0], peak, &curves[0]);
+    keep(&mut out[1], peak, &curves[1]);
+    keep(&mut out[2], peak, &curves[2]);
+    keep(&mut out[3], peak, &curves[3]);
+    out
 }

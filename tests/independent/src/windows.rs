@@ -20,7 +20,7 @@ fn lay(curve: &mut [u32; QUARTERS], days: &[u32]) {
 }
 
 /// The curves of a series that has the period's length.
-fn curves(year: u16, series: &[u32]) -> Curves {
+pub fn curves(year: u16, series: &[u32]) -> Curves {
     let mut curves = [[0; QUARTERS]; 4];
     let mut left = series;
     for (month, days) in period_months(year) {
@@ -31,7 +31,7 @@ fn curves(year: u16, series: &[u32]) -> Curves {
     curves
 }
 
-fn highest(curves: &Curves) -> u32 {
+pub fn highest(curves: &Curves) -> u32 {
     curves.iter().flatten().copied().max().unwrap_or(0)
 }
 
