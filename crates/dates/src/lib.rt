@@ -4,7 +4,7 @@
 // every year (`weekday-by-leaps`, proofs/Weekdays).
 ghost use mathlib.Core.Path.{_≡_};
 ghost use Prim.Native.Nat.{_<_};
-ghost use Rattle.dates.specs.Dates.{leap, leapDay, yearDays, daysTo, dayNumber, monthOf, weekdayOf, seasonOf, monthLeft};
+ghost use Rattle.dates.specs.Dates.{leap, leapDay, yearDays, daysTo, dayNumber, monthOf, weekdayOf, lastSunday, seasonOf, monthLeft};
 
 // The most days that a year has.
 pub const MOST_DAYS: usize = 366;
@@ -101,4 +101,15 @@ pub fn weekday(year: u16, day: u16) -> u8
     let y = year as u32;
     let leaps = (y + 3) / 4 - (y + 99) / 100 + (y + 399) / 400;
     ((y + leaps + (day as u32) + 4) % 7) as u8
+}
+
+// The last Sunday of a month, which counts from 1, as a day of the year; 0 for a month that there is not.
+pub fn last_sunday(year: u16, month: u16) -> u16
+    ensures { λ r. ⌜ r ≡ lastSunday year month ⌝ }
+{
+    if (month < 1) | (12 < month) {
+        return 0;
+    }
+    let end = days_to(year, month as usize);
+    end - (weekday(year, end) as u16 + 1) % 7
 }

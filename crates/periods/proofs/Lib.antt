@@ -1,1 +1,2 @@
 pub mod Periods
+pub mod Sundays

@@ -22,7 +22,7 @@ unfolding periodSeason
 period-season y k e f = e ∙ ap (λ (d : Date). seasonOf (d .year) (d .day)) f
 
 -- September to December have 122 days, in leap years too
-late : (y : ℕ) → lateDays y ≡ 122
+pub late : (y : ℕ) → lateDays y ≡ 122
 late y = omega (arith, days-table y 8 (omega arith), leap-small y)
 
 pub period-days : (y a n : ℕ) → a ≡ y - 1 → n ≡ yearDays a → n ≡ periodDays y
@@ -33,7 +33,7 @@ period-days y a n e f = omega (arith, f, late (y - 2), days-table (y - 1) 8 (ome
 pub period-most : (y : ℕ) → periodDays y ≤ mostDays
 period-most y = omega (arith, period-days y (y - 1) (yearDays (y - 1)) refl refl, leap-small (y - 1))
 
-early-date : (y k a b : ℕ) → a ≡ y - 2 → b ≡ daysTo a 8 → k ≤ 122 → record { year = a; day = b + k } ≡ periodDate y k
+pub early-date : (y k a b : ℕ) → a ≡ y - 2 → b ≡ daysTo a 8 → k ≤ 122 → record { year = a; day = b + k } ≡ periodDate y k
 unfolding periodDate
 early-date y k a b e f h = simp (e, f, late (y - 2), le-leb k 122 h)
 

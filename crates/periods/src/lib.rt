@@ -4,10 +4,15 @@
 // before, in every charge year (`period-first`, `period-last`, proofs/Periods).
 ghost use mathlib.Core.Path.{_≡_};
 ghost use Prim.Native.Nat.{_-_};
-ghost use Rattle.periods.specs.Period.{periodDays, periodDate, periodSeason, periodLeft};
+ghost use Rattle.periods.specs.Period.{periodDays, periodDate, periodSeason, periodLeft, octoberSunday, marchSunday};
 
 // How many days September to December have, in any year.
 const LATE_DAYS: u16 = 122;
+
+// Months count from 1.
+const MARCH: u16 = 3;
+
+const OCTOBER: u16 = 10;
 
 // A day, from 1, of a year.
 struct Date {
@@ -61,4 +66,19 @@ pub fn period_left(year: u16, k: u16) -> u16
 {
     let date = period_date(year, k);
     dates::month_left(date.year, date.day)
+}
+
+// The last Sunday in October as a day, from 1, of the reference period: it lies in the year two before.
+pub fn october_sunday(year: u16) -> u16
+    ensures { λ r. ⌜ r ≡ octoberSunday year ⌝ }
+{
+    let first = years_back(year, 2);
+    dates::last_sunday(first, OCTOBER) - (dates::year_days(first) - LATE_DAYS)
+}
+
+// The last Sunday in March as a day, from 1, of the reference period: it lies in the year before.
+pub fn march_sunday(year: u16) -> u16
+    ensures { λ r. ⌜ r ≡ marchSunday year ⌝ }
+{
+    LATE_DAYS + dates::last_sunday(years_back(year, 1), MARCH)
 }
