@@ -12,10 +12,11 @@ import sys
 
 sys.path.insert(0, str(pathlib.Path(__file__).resolve().parent.parent / "tests"))
 
-from dates import date, days_of, nationwide, yday
+from dates import date, nationwide, yday
 from files import customer_file, grid_file, printed, statement_of, windows_of
-from grid import period, whole
+from grid import whole
 from kept import keep
+from layout import period_run, quarters, year_run
 from year import SEASON, USUAL, Set, Terms, carrying_by_weeks, judge, sheet_bytes
 
 YEAR, LEVEL = 2024, 5
@@ -41,8 +42,8 @@ def of_day(number, when):
 
 
 def grid_series():
-    days = enumerate(period(YEAR))
-    return [GRID_PEAK * course(q) * BY_SEASON[SEASON[day.month]] * of_day(k, day) // 1_000**3 for k, day in days for q in range(96)]
+    days = enumerate(period_run(YEAR).dates)
+    return [GRID_PEAK * course(q) * BY_SEASON[SEASON[day.month]] * of_day(k, day) // 1_000**3 for k, day in days for q in quarters(day)]
 
 
 # The cold store: it cools at night and at noon, and keeps its compressors low in the morning and in the evening of a
@@ -52,16 +53,19 @@ WORKING = ((0, 24, 900), (24, 44, 600), (44, 50, 350), (50, 68, 650), (68, 80, 3
 WEEKEND = ((0, 96, 700),)
 
 
-def cold_store_day(day):
-    parts = WORKING if date(YEAR, day).weekday() < 5 else WEEKEND
-    return [1_000 * kw + 250 * (day % 7) for a, b, kw in parts for _ in range(a, b)]
+def cold_store_day(day, when):
+    """Its readings: none for an hour that is left out, two for each quarter of an hour that comes twice."""
+    parts = WORKING if when.weekday() < 5 else WEEKEND
+    by_quarter = [1_000 * kw + 250 * (day % 7) for a, b, kw in parts for _ in range(a, b)]
+    return [by_quarter[q] for q in quarters(when)]
 
 
 def cold_store_series():
     """The highest reading on the Saturday, after a delivery; and one slip in a window, on a Thursday of November."""
-    series = [reading for day in range(1, days_of(YEAR) + 1) for reading in cold_store_day(day)]
-    series[96 * (SATURDAY - 1) + QUARTER] = 1_480_000
-    series[96 * (yday(YEAR, 11, 14) - 1) + 71] = 610_000
+    run = year_run(YEAR)
+    series = [reading for day, when in enumerate(run.dates, 1) for reading in cold_store_day(day, when)]
+    series[run.at(SATURDAY, QUARTER)] = 1_480_000
+    series[run.at(yday(YEAR, 11, 14), 71)] = 610_000
     return series
 
 
@@ -72,7 +76,7 @@ def taken_for_friday(series, terms):
     """
     first = date(YEAR, 1).weekday()
     assert date(YEAR, SATURDAY).weekday() == 5 and (first + SATURDAY - 2) % 7 == 4
-    at = 96 * (SATURDAY - 1) + QUARTER
+    at = year_run(YEAR).at(SATURDAY, QUARTER)
     assert series[at] == max(series) and series.count(max(series)) == 1
     return judge(Set(series[at], sum(series), True, series[at], SATURDAY, QUARTER, LEVEL, terms.prices, terms.option))
 

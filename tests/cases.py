@@ -12,12 +12,14 @@ import collections
 
 import calendar_cases
 import customer_cases
+import customer_refusals
 import grid_cases
 import sheet_cases
+import sunday_cases
 import tariff_cases
 from kept import keep
 
-PARTS = (calendar_cases, sheet_cases, grid_cases, tariff_cases, customer_cases)
+PARTS = (calendar_cases, sheet_cases, grid_cases, tariff_cases, customer_cases, customer_refusals, sunday_cases)
 ANSWERS = "WRPOCEJ"  # lines that have an answer's number behind their letter
 
 

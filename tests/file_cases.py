@@ -15,12 +15,13 @@ import struct
 
 from dates import days_of, nationwide, yday
 from files import PRINTED_STATEMENT, PRINTED_WINDOWS, customer_file, grid_file, printed, readings_bytes, statement_of, windows_of
-from grid import GRID_MOST, period, place
+from grid import GRID_MOST, place
 from kept import keep
+from layout import period_run, year_run
 from recipes import Patch, series_of
 from year import LIMITS, MISSING, READING_MOST, USUAL, Terms, sheet_bytes
 
-DAY = [1_000] * 96
+DAY = [1_000] * 96  # a usual one, as the first days of each series are
 FULL = (1 << 40) - 1  # forty bits
 
 
@@ -255,7 +256,7 @@ def whole_grids():
     text = windows_of(rich)
     lines = text.splitlines()
     assert lines[1:5] == ["1 00:00-00:45", "1 17:45-18:15", "1 23:15-24:00", "2 00:15-00:30"] and "3 00:00-10:00" in lines
-    assert len(lines) == 1 + 3 + 40 + 1 + 20 and len(period(2025)) == 366 and len(period(2026)) == 365
+    assert len(lines) == 1 + 3 + 40 + 1 + 20 and len(period_run(2025).dates) == 366 and len(period_run(2026).dates) == 365
     yield "g_whole_2025", rich
     yield "g_whole_zeros", grid_file(2026, 7, [0] * 96 * 365)
     yield "g_over", printed()[0] + b"\0"
@@ -276,21 +277,68 @@ def whole_customers():
     leap = Terms(sheet_bytes(2024, 5, edges), tuple(nationwide(2024)), USUAL, True)
     # high in quarters of windows, but on a Saturday, the listed days, the bridge day after Ascension and 31 December;
     # then a Tuesday in April
-    free = [Patch(96 * (day - 1) + 95, 1, 1, 3_000_000) for day in (*leap.holidays, yday(2024, 5, 10), 366)]
-    peaks = [Patch(96 * (yday(2024, 3, 2) - 1) + 95, 1, 1, 4_000_000), Patch(96 * (yday(2024, 4, 2) - 1) + 95, 1, 1, 700_000)]
+    run = year_run(2024)
+    free = [Patch(run.at(day, 95), 1, 1, 3_000_000) for day in (*leap.holidays, yday(2024, 5, 10), 366)]
+    peaks = [Patch(run.at(yday(2024, 3, 2), 95), 1, 1, 4_000_000), Patch(run.at(yday(2024, 4, 2), 95), 1, 1, 700_000)]
     yield decided("c_whole_leap", 0, leap, 123_456, free + peaks)
     common = Terms(sheet_bytes(2025, 5, evening), tuple(nationwide(2025)), USUAL, False)
-    peaks = [Patch(0, 1, 1, 1_000_000), Patch(96 * 90 + 70, 1, 1, 800_001)]
+    at = year_run(2025).at(91, 70)
+    peaks = [Patch(0, 1, 1, 1_000_000), Patch(at, 1, 1, 800_001)]
     yield decided("c_whole_8", 8, common._replace(sheet=sheet_bytes(2025, 5, {}), option=True), 500_000, peaks)
     yield decided("c_whole_9", 9, common, 500_000, peaks)
     yield decided("c_whole_10", 10, common, 0, [])  # case 13: a year of zeros
-    yield decided("c_whole_11", 11, common._replace(prices=(249, 0, 0, 0)), 0, [Patch(0, 1, 1, 1_000_000), Patch(96 * 90 + 70, 1, 1, 800_000)])
+    yield decided("c_whole_11", 11, common._replace(prices=(249, 0, 0, 0)), 0, [Patch(0, 1, 1, 1_000_000), Patch(at, 1, 1, 800_000)])
     yield "c_over", printed()[1] + b"\0"
     yield "c_over_bad", printed()[1][:-4] + four(READING_MOST + 1) + b"\0"
 
 
+# Kinds: the two Sundays of the clock change. Their days and places were counted by hand
+
+def one_high(place):
+    """The period of 2025 with one high reading."""
+    return grid_file(2025, 5, series_of(96 * 366, 1_000, [Patch(place, 1, 1, 2_000)]))
+
+
+def whole_sundays():
+    """A grid's Sundays, a file made as if each day had 96 readings, and a customer's doubled quarter."""
+    files = {
+        "g_sunday_100": (one_high(58 * 96 + 12), "HLZ 2025 5\n1 none\n2 none\n3 none\n4 02:00-02:15\n"),
+        "g_sunday_92": (one_high(212 * 96 + 4 + 8), "HLZ 2025 5\n1 none\n2 03:00-03:15\n3 none\n4 none\n"),
+        "g_printed_as_before": (one_high(136 * 96 + 72), "HLZ 2025 5\n1 17:00-17:15\n2 none\n3 none\n4 none\n"),
+    }
+    for name, (data, text) in files.items():
+        assert windows_of(data) == text
+        yield name, data
+    # M is the second reading, and S has both: 35,038 times 100,000 and the two
+    doubled = [Patch(298 * 96 - 4 + 9, 1, 1, 800_000), Patch(298 * 96 - 4 + 13, 1, 1, 900_000)]
+    terms = Terms(sheet_bytes(2025, 5, {s: [9] for s in (1, 2, 3, 4)}), (), USUAL, False)
+    name, data = decided("c_sunday_100", 0, terms, 100_000, doubled)
+    assert statement_of(data) == "0 3705500 5305500 900000 3505500000 100000 2 9\n"
+    yield name, data
+
+
+def short_sundays():
+    """Files that end on a Sunday or about it, with a bad reading there. All readings before it are 1,000."""
+    heads = {"g": (joined(grid_head()), GRID_MOST), "c": (joined(customer_head()), READING_MOST)}
+    # the Sunday's day, the readings before it, and its own: the later one of each series in one file only
+    for kind, day, before, own in (("g", 59, 58 * 96, 100), ("c", 89, 88 * 96, 92), ("g", 213, 212 * 96 + 4, 92), ("c", 299, 298 * 96 - 4, 100)):
+        head, most = heads[kind]
+        end = before + own
+        # the bad reading's place, the bytes of all readings in the file, and what is answered
+        tried = {"last": (end - 1, 4 * end, f"5 {day} {own - 1}")}
+        if day < 100:
+            tried |= {"last_cut": (end - 1, 4 * end - 1, "4"), "96_readings": (before + 95, 4 * (before + 96), "4")}
+            tried |= {"next": (end, 4 * (end + 96), f"5 {day + 1} 0"), "next_cut": (end, 4 * (end + 96) - 1, "4")}
+        for name, (place, size, answer) in tried.items():
+            data = head + readings_bytes(series_of(end + 96, 1_000, [Patch(place, 1, 1, most + 1)]))[:size]
+            text = windows_of(data) if kind == "g" else statement_of(data)
+            assert text.removeprefix("REFUSED ") == answer + "\n"
+            yield f"{kind}_sunday_{own}_{name}", data
+
+
 KINDS = (
     cuts, marks, versions, years, levels, set_bits, options, counts, holidays, prices, first_of_two, short_days, whole_grids, whole_customers,
+    whole_sundays, short_sundays,
 )
 made = {kind.__name__: list(kind()) for kind in KINDS}
 cases = [case for part in made.values() for case in part]

@@ -13,6 +13,7 @@ import struct
 import grid
 import year as customer
 from dates import days_of, legal_list
+from layout import length, period_run, year_run
 from recipes import Patch, series_of
 from year import LIMITS, READING_MOST, SHARE, USUAL, YEARS, Terms, sheet_bytes
 
@@ -114,14 +115,14 @@ def customer_fields(data):
         yield end, when(6, at(data, end - 4, end) > LIMITS[k])
 
 
-def days_stop(body, days, most):
+def days_stop(body, run, most):
     """5 for a bad reading of the days that are whole, then 4 for another length than all days have, or nothing."""
-    held = min(days, len(body) // 384)
-    series = struct.unpack(f">{96 * held}I", body[:384 * held])
+    count = run.starts[run.held(len(body) // 4)]
+    series = struct.unpack(f">{count}I", body[:4 * count])
     bad = next((i for i, reading in enumerate(series) if reading > most), None)
     if bad is not None:
-        return (5, bad // 96 + 1, bad % 96), None
-    return ((4,), None) if len(body) != 384 * days else (None, list(series))
+        return (5, *run.where(bad)), None
+    return ((4,), None) if len(body) != 4 * run.starts[-1] else (None, list(series))
 
 
 def windows_from_places(data):
@@ -129,7 +130,7 @@ def windows_from_places(data):
     if number:
         return refusal_text((number,))
     year, level = at(data, 5, 7), at(data, 7, 8)
-    stop, series = days_stop(data[8:], len(grid.period(year)), grid.GRID_MOST)
+    stop, series = days_stop(data[8:], period_run(year), grid.GRID_MOST)
     said, windows = (stop, None) if stop else grid.whole(year, level, series)
     return windows_text(year, level, windows, runs_by_edges) if said == (0,) else refusal_text(said)
 
@@ -152,7 +153,7 @@ def statement_from_places(data):
     if number:
         return statement_text((number,))
     head = 79 + 2 * data[62]
-    stop, series = days_stop(data[head:], days_of(at(data, 10, 12)), READING_MOST)
+    stop, series = days_stop(data[head:], year_run(at(data, 10, 12)), READING_MOST)
     return statement_text(stop or customer.whole(terms_at(data, head), series))
 
 
@@ -179,9 +180,10 @@ class Input:
     def number(self, count):
         return int.from_bytes(self.take(count), "big")
 
-    def days(self, machine, count):
-        for _ in range(count):
-            said = machine.day(list(struct.unpack(">96I", self.take(384, 4))))
+    def days(self, machine):
+        for when in machine.run.dates:
+            count = length(when)
+            said = machine.day(list(struct.unpack(f">{count}I", self.take(4 * count, 4))))
             if said != (0,):
                 raise Said(*said)
         self.asked += 1
@@ -240,7 +242,7 @@ def windows_from_parts(source):
         year, level = read_year_level(source)
         machine = grid.Days()
         assert machine.open(year, level) == (0,)
-        source.days(machine, len(machine.left))
+        source.days(machine)
         said, windows = machine.close()
     except Said as refused:
         said = refused.args
@@ -259,7 +261,7 @@ def statement_from_parts(source):
         machine = customer.Days()
         # what no field was refused for, the opening takes
         assert machine.open(terms) == (0,)
-        source.days(machine, days_of(year))
+        source.days(machine)
         return statement_text(machine.close())
     except Said as refused:
         return statement_text(refused.args)
@@ -282,9 +284,13 @@ def statement_of(data):
 
 
 def printed():
-    """The examples of Rules 10.6 and 10.7 as files: they come out to the letter, or nothing is made of this module."""
-    series = series_of(96 * 366, 1_000, [Patch(grid.place(2025, 1, 15, 72), 1, 1, 2_000)])
-    windows = grid_file(2025, 5, series)
+    """The examples of Rules 10.6 and 10.7 as files: they come out to the letter, or nothing is made of this module.
+
+    In the grid's series 15 January 2024 comes after 136 days, one of which has four readings more than 96.
+    """
+    place = 136 * 96 + 4 + 72
+    assert place == grid.place(2025, 1, 15, 72) == 13_132
+    windows = grid_file(2025, 5, series_of(96 * 366, 1_000, [Patch(place, 1, 1, 2_000)]))
     assert windows_of(windows) == PRINTED_WINDOWS
     assert sheet_bytes(2025, 5, {1: [72]}) == PRINTED_SHEET
     series = series_of(96 * 365, 0, [Patch(96 * 3, 1, 1, 1_000_000), Patch(96 * 1 + 72, 1, 1, 500_000)])

@@ -1,28 +1,39 @@
-"""The reference period and the windows of its readings, by Rules 4.1 to 4.7 and 9.1 to 9.5 (docs/RULES.md), for the
+"""The windows of a reference period's readings, by Rules 2.4, 4.1 to 4.7 and 9.1 to 9.5 (docs/RULES.md), for the
 scripts that make records and files.
 
 It knows nothing of the code under test. The windows are worked out in two ways that share the calendar alone: `whole`
-gathers each season's days of a whole series and sorts, `Days` goes day by day with running maxima and throws quarters
-away. Where all days were taken, the two are held against each other. Seasons count from 1, quarters from 0.
+gathers the readings of each season's quarters from a whole series and sorts, `Days` goes day by day with running maxima
+and throws quarters away. Where all days were taken, the two are held against each other. Seasons count from 1,
+quarters, and positions in a day, from 0.
 """
 import datetime
 import fractions
+import functools
 
+from layout import Run, around, length, period_run, quarters
 from year import SEASON, SHARE, YEARS
 
 GRID_MOST = 200_000_000
 
 
-def period(year):
-    """The dates of the grid series of a charge year."""
-    first, last = datetime.date(year - 2, 9, 1), datetime.date(year - 1, 8, 31)
-    return [first + datetime.timedelta(days=k) for k in range((last - first).days + 1)]
+def day_number(year, month, day):
+    """Of a date in the period of a charge year, from 1; September on is in the first of its two years."""
+    return period_run(year).dates.index(datetime.date(year - (2 if month >= 9 else 1), month, day)) + 1
 
 
 def place(year, month, day, quarter):
-    """From 0, of a date's quarter in the series of a charge year; September on is in the first of its two years."""
-    date = datetime.date(year - (2 if month >= 9 else 1), month, day)
-    return 96 * (date - period(year)[0]).days + quarter
+    """From 0, of a date's quarter in the series of a charge year."""
+    return period_run(year).at(day_number(year, month, day), quarter)
+
+
+@functools.lru_cache(maxsize=None)
+def places_of(year, season):
+    """For each quarter all places of the series that have a reading of it on a day of the season."""
+    run, found = period_run(year), [[] for _ in range(96)]
+    for start, when in zip(run.starts, run.dates):
+        for position, quarter in enumerate(quarters(when) if SEASON[when.month] == season else ()):
+            found[quarter].append(start + position)
+    return found
 
 
 def kept_of(curve, peak):
@@ -40,19 +51,19 @@ def whole(year, level, series):
     refused = opening(year, level)
     if refused:
         return (refused,), None
-    dates = period(year)
-    if len(series) != 96 * len(dates):
+    run = period_run(year)
+    if len(series) != run.starts[-1]:
         return (4,), None
     bad = next((i for i, reading in enumerate(series) if reading > GRID_MOST), None)
     if bad is not None:
-        return (5, bad // 96 + 1, bad % 96), None
+        return (5, *run.where(bad)), None
     peak = max(series)
     if peak == 0:
         return (7,), None
     windows = {}
     for season in (1, 2, 3, 4):
-        rows = [series[96 * k:96 * k + 96] for k, date in enumerate(dates) if SEASON[date.month] == season]
-        windows[season] = sorted(kept_of([max(column) for column in zip(*rows)], peak))
+        curve = [max(series[p] for p in places) for places in places_of(year, season)]
+        windows[season] = sorted(kept_of(curve, peak))
     return (0,), windows
 
 
@@ -60,26 +71,31 @@ class Days:
     """A series that is given day by day. Before an accepted opening it is the state of a refused one."""
 
     def __init__(self):
-        self.left = None
+        self.run, self.left = Run([]), None
 
     def open(self, year, level):
-        self.left = None
+        self.run, self.left = Run([]), None
         number = opening(year, level)
         if not number:
-            self.year, self.level, self.left, self.given = year, level, period(year), []
+            self.year, self.level, self.run, self.given = year, level, period_run(year), []
+            self.left = list(self.run.dates)
             self.high = {season: [0] * 96 for season in (1, 2, 3, 4)}
         return (number,)
 
     def day(self, day):
         if not self.left:
             return (13,)
-        if len(day) != 96:
+        when = self.left[0]
+        if len(day) != length(when):
             return (4,)
-        bad = [q for q, reading in enumerate(day) if reading > GRID_MOST]
+        bad = [position for position, reading in enumerate(day) if reading > GRID_MOST]
         if bad:
-            return (5, len(self.given) // 96 + 1, bad[0])
-        curve = self.high[SEASON[self.left.pop(0).month]]
-        curve[:] = map(max, curve, day)
+            return (5, len(self.run.dates) - len(self.left) + 1, bad[0])
+        curve = self.high[SEASON[when.month]]
+        for first, part in around(when, day):
+            end = first + len(part)
+            curve[first:end] = map(max, curve[first:end], part)
+        self.left.pop(0)
         self.given += day
         return (0,)
 

@@ -1,93 +1,13 @@
-"""The grid's records and what crates/cases must print of them, by Rules 4.1 to 4.7 and 9.1 to 9.5 (docs/RULES.md) and
-Python's datetime: a part of tests/cases.py.
-
-It knows nothing of the code under test. tests/grid.py works the windows out in two ways, from a whole series and along
-the days; where all days were taken, the two are held against each other. Days count from 1, quarters from 0.
+"""Grid series of every kind, and what crates/cases must print of them: a part of tests/cases.py. tests/grid_records.py
+makes its records.
 """
 import random
-import struct
 
-import grid
-from grid import GRID_MOST as LIMIT, Days, kept_of, period, place
-from recipes import MOST, Patch, any_places, offered, series_of
-from year import YEARS, sheet_bytes
-
-FILL = 170  # what the lent bytes hold before a call
-ROOM = 64
-MISSING = 4_294_967_295
-
-
-# The lent buffer
-
-def lent(sheet=b""):
-    """The 64 bytes after a call: those of the sheet, and then what they held."""
-    return (sheet + bytes([FILL] * ROOM)[len(sheet):]).hex()
-
-
-def filled(year, level, answer):
-    """The number with its figures, and the 64 bytes: the sheet's for 0."""
-    said, windows = answer
-    return said, lent(sheet_bytes(year, level, windows) if windows is not None else b"")
-
-
-def whole(year, level, series, room):
-    """14 comes before all else."""
-    return ((14,), lent()) if room < 56 else filled(year, level, grid.whole(year, level, series))
-
-
-def closed(days, room):
-    """Before an accepted opening there is no year and no level, and nothing to fill."""
-    if room < 56:
-        return (14,), lent()
-    said, windows = days.close()
-    return filled(days.year, days.level, (said, windows)) if said == (0,) else (said, lent())
-
-
-# Records
-
-WIDTHS = {"W": ">HBB", "O": ">HB", "D": ">HH", "P": ">HH", "C": ">B"}
-
-
-def record(length, base, patches, calls):
-    """The record's bytes and its lines."""
-    assert length <= MOST and len(patches) < 256 and len(calls) < 256
-    data = b"G" + struct.pack(">HIBB", length, base, len(patches), len(calls))
-    data += b"".join(struct.pack(">HHHIHH", *patch) for patch in patches)
-    series = series_of(length, base, patches)
-    days = Days()
-    lines = [f"S {length}"]
-    for kind, *words in calls:
-        data += kind.encode() + struct.pack(WIDTHS[kind], *words)
-        if kind == "W":
-            answer, after = whole(words[0], words[1], series, words[2])
-            said = answer + (after,)
-        elif kind == "O":
-            said = days.open(*words)
-        elif kind == "D":
-            said = offered(days, series, *words)
-        elif kind == "P":
-            said = days.day(series[words[0]:words[0] + words[1]])
-        else:
-            answer, after = closed(days, *words)
-            said = answer + (after,)
-        lines.append(" ".join([kind, *map(str, said)]))
-    return data, lines
-
-
-def count_of(year):
-    """Days of the period; any number will do for a year that has none."""
-    return len(period(year)) if 2014 <= year <= 2028 else 366
-
-
-def both(year, level, base, patches, length=None, room=60):
-    """The whole series, and the same by days."""
-    days = count_of(year)
-    calls = [("W", year, level, room), ("O", year, level), ("D", 1, days), ("C", room)]
-    return (96 * days if length is None else length), base, patches, calls
-
-
-def one(year, month, day, quarter, value):
-    return Patch(place(year, month, day, quarter), 1, 1, value)
+from grid import GRID_MOST as LIMIT, day_number, kept_of, place
+from grid_records import ROOM, both, count_of, lent, one, record, whole
+from layout import period_run
+from recipes import MOST, Patch, any_places, daily, series_of
+from year import MISSING, YEARS
 
 
 def curve_on(year, month, day, values):
@@ -97,7 +17,7 @@ def curve_on(year, month, day, values):
     return [Patch(start + a, b - a, 1, values[a]) for a, b in zip(edges, edges[1:])]
 
 
-MIDDLES = {1: (1, 17), 2: (4, 9), 3: (7, 4), 4: (10, 30)}  # a day inside each season
+MIDDLES = {1: (1, 17), 2: (4, 9), 3: (7, 4), 4: (10, 7)}  # a day of 96 readings inside each season
 
 
 # Cases
@@ -188,7 +108,8 @@ def equal():
         yield both(year, 4, value, [])
     # two values that are both above the line: the higher ones first
     for year in (2018, 2025):
-        yield both(year, 4, 990, [Patch(60, 366, 96, 1000), Patch(61, 366, 96, 1000), Patch(95, 366, 96, 1000)])
+        every = range(1, count_of(year) + 1)
+        yield both(year, 4, 990, [patch for q in (60, 61, 95) for patch in daily(period_run(year), every, q, 1000)])
 
 
 def alone():
@@ -198,15 +119,16 @@ def alone():
         year = (2019, 2025)[season % 2]
         start, end = place(year, m, d, 0), place(year, last_m, last_d, 95) + 1
         yield both(year, season, 0, [Patch(start, end - start, 1, 500)])
-        yield both(year, season, 475, [Patch(start + 33, (end - start) // 96, 96, 500), Patch(start + 34, 1, 1, 476)])
+        days = range(day_number(year, m, d), day_number(year, last_m, last_d) + 1)
+        yield both(year, season, 475, daily(period_run(year), days, 33, 500) + [Patch(start + 34, 1, 1, 476)])
 
 
 def weekends():
     """Readings of days that carry no windows count all the same."""
     for year, weekdays in ((2017, range(7)), (2024, (5, 6))):
         for weekday in weekdays:
-            start = next(k for k, date in enumerate(period(year)) if date.weekday() == weekday)
-            yield both(year, 6, 3, [Patch(96 * start + 10 * weekday + 3, 52, 7 * 96, 4000)])
+            days = [d for d, date in enumerate(period_run(year).dates, 1) if date.weekday() == weekday]
+            yield both(year, 6, 3, daily(period_run(year), days, 10 * weekday + 3, 4000))
     for month, day in ((12, 25), (12, 24), (1, 1), (5, 1), (10, 3)):
         yield both(2022, 6, 3, [one(2022, month, day, 44, 4000), one(2022, month, day, 90, 3801), one(2022, month, day, 91, 3800)])
 
@@ -279,7 +201,8 @@ def refused_days():
         good = 96 * n
         # past the period's end the series holds what is not a day of it: 96 high readings, then 96 with a bad one
         high, bad_day = good, good + 96
-        patches = [Patch(high, 200, 1, 5000), Patch(bad_day + 95, 1, 1, LIMIT + 1), Patch(50, n, 96, 1000), one(year, 4, 4, 20, 990)]
+        patches = [Patch(high, 200, 1, 5000), Patch(bad_day + 95, 1, 1, LIMIT + 1), one(year, 4, 4, 20, 990)]
+        patches += daily(period_run(year), range(1, n + 1), 50, 1000)
         wrong = [("P", high, 95), ("P", high, 97), ("P", high, 0), ("P", high, 1), ("P", high, 192)]
         past = wrong + [("P", bad_day, 96), ("P", 0, 96), ("D", n + 1, 1), ("D", 0, 1), ("D", 1, 5)]
         worst = [("P", bad_day, 97), ("P", bad_day + 95, 1), ("P", bad_day, 96)]
@@ -298,12 +221,21 @@ def refused_days():
 
 
 def other_order():
-    """The series' days given in another order: the state counts its days by itself."""
+    """The series' days given in another order: the state counts its days by itself, and knows how long each must be."""
     for year in (2017, 2020, 2028):
         n = count_of(year)
         patches = [Patch(60 * 96, 96, 1, 1000), Patch(170 * 96 + 5, 3, 1, 960), Patch(300 * 96, 20, 2, 970)]
+        long, short = period_run(year).sundays()
+        # each stretch between the two Sundays from its middle on, then from its first day
+        calls = [("O", year, 7)]
+        for first, last in ((1, long - 1), (long, long), (long + 1, short - 1), (short, short), (short + 1, n)):
+            middle = (first + last + 1) // 2
+            calls += [("D", middle, last + 1 - middle), ("D", first, middle - first)]
+        yield 96 * n, 10, patches, [*calls, ("C", 60), ("W", year, 7, 60)]
+        # one day again and again, also where the long Sunday is due, and another one behind it
+        yield 96 * n, 10, patches, [("O", year, 7)] + [("D", 61, 1)] * 60 + [("D", long, 1)] + [("D", 62, 1)] * 80 + [("C", 60)]
+        # a day of 96 readings where the long Sunday is due
         yield 96 * n, 10, patches, [("O", year, 7), ("D", 101, n - 100), ("D", 1, 100), ("C", 60), ("W", year, 7, 60)]
-        yield 96 * n, 10, patches, [("O", year, 7)] + [("D", 61, 1)] * (n // 2) + [("C", 60)]
 
 
 def early():
@@ -339,8 +271,8 @@ def twice():
         yield 96 * n, base, patches, [("O", year, 6), *days, ("O", year, 1), *closings]
 
 
-def any_patch(rng, n, peak):
-    first, count, step = any_places(rng, n)
+def any_patch(rng, run, peak):
+    first, count, step = any_places(rng, run)
     value = rng.choice([peak, 19 * peak // 20, 19 * peak // 20 + 1, rng.randint(0, peak)])
     spread = rng.choice([0, 3, peak // 40, peak // 15, peak // 2])
     return Patch(first, count, step, value, min(spread, 65535), rng.randrange(65536))
@@ -352,7 +284,7 @@ def chance():
         year = YEARS[n % 15]
         days = count_of(year)
         peak = rng.choice([20, 100, 2000, 40_000, 1_000_000, LIMIT])
-        patches = [any_patch(rng, days, peak) for _ in range(rng.randint(1, 30))]
+        patches = [any_patch(rng, period_run(year), peak) for _ in range(rng.randint(1, 30))]
         if n % 3 == 0:
             # one day in each season has a value for each quarter, drawn from few: many are above, and many are equal
             spread = min(peak // rng.choice([20, 25, 40]), 65535)

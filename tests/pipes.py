@@ -75,7 +75,7 @@ def ones():
 def any_sizes():
     rng = random.Random(384)
     while True:
-        yield rng.choice([1, 2, 3, 5, 100, 383, 384, 385, 3_000])
+        yield rng.choice([1, 2, 3, 5, 100, 368, 383, 384, 385, 400, 3_000])
 
 
 def build():

@@ -1,11 +1,11 @@
-"""The rules over figures, and a year of readings, by Rules 6.1 to 7.7 and 9.1 to 9.5 (docs/RULES.md), for the scripts
-that make records.
+"""The rules over figures, and a year of readings, by Rules 2.4, 6.1 to 7.7 and 9.1 to 9.5 (docs/RULES.md), for the
+scripts that make records.
 
 It knows nothing of the code under test. What a charge, a row, a floor or a share is, which days carry windows, which
 bits of a sheet are set, and the figures of a year are each worked out in two ways that are held against each other: by
 the units and by the integer formulas of the rules; week by week and day by day; by the sheet's bits as one number and
-byte by byte; from the whole series (`whole`) and along the days (`Days`). Days and seasons count from 1, quarters
-from 0.
+byte by byte; from the whole series (`whole`) and along the days (`Days`). Days and seasons count from 1, quarters and
+positions in a day from 0.
 """
 import collections
 import datetime
@@ -14,7 +14,8 @@ import functools
 import math
 import struct
 
-from dates import date, day_of, days_of, free_by_others, legal_list, nationwide, yday
+from dates import date, day_of, days_of, free_by_others, legal_list
+from layout import Run, length, year_run
 
 SHARE = {1: 5, 2: 10, 3: 10, 4: 20, 5: 20, 6: 30, 7: 30}
 LIMITS = (100_000, 50_000, 100_000, 50_000)  # of the low row's prices, and of the high row's
@@ -186,14 +187,17 @@ def whole(terms, series):
     if refused:
         return (refused,)
     year, level, windows = read_sheet(terms.sheet)
-    if len(series) != 96 * days_of(year):
+    run = year_run(year)
+    if len(series) != run.starts[-1]:
         return (4,)
     bad = next((i for i, reading in enumerate(series) if reading > READING_MOST), None)
     if bad is not None:
-        return (5, bad // 96 + 1, bad % 96)
-    places = [96 * (d - 1) + q for d in carrying_by_weeks(year, frozenset(terms.holidays)) for q in windows[SEASON[date(year, d).month]]]
+        return (5, *run.where(bad))
+    # no Sunday carries windows, so on these days quarters are positions
+    carrying = carrying_by_weeks(year, frozenset(terms.holidays))
+    places = [run.starts[d - 1] + q for d in carrying for q in windows[SEASON[date(year, d).month]]]
     at = max(places, key=lambda p: (series[p], -p), default=None)
-    found = (False, 0, 0, 0) if at is None else (True, series[at], at // 96 + 1, at % 96)
+    found = (False, 0, 0, 0) if at is None else (True, series[at], *run.where(at))
     return judge(Set(max(series), sum(series), *found, level, terms.prices, terms.option))
 
 
@@ -201,24 +205,25 @@ class Days:
     """A year that is given day by day. Before an accepted opening it is the state of a refused one."""
 
     def __init__(self):
-        self.terms = None
+        self.terms, self.run = None, Run([])
 
     def open(self, terms):
         number = opening(terms)
-        self.terms = None if number else terms
+        self.terms, self.run = None if number else terms, Run([])
         if not number:
             self.year, self.level = struct.unpack(">HB", terms.sheet[5:8])
+            self.run = year_run(self.year)
             self.quarters = {s: [q for q in range(96) if bit_set(terms.sheet, s, q)] for s in (1, 2, 3, 4)}
-            self.listed, self.given, self.M, self.S, self.best = frozenset(terms.holidays), [], 0, 0, None
+            self.listed, self.taken, self.given, self.M, self.S, self.best = frozenset(terms.holidays), 0, [], 0, 0, None
         return (number,)
 
     def day(self, day):
-        if self.terms is None or len(self.given) == 96 * days_of(self.year):
+        if self.terms is None or self.taken == days_of(self.year):
             return (13,)
-        number = len(self.given) // 96 + 1
-        if len(day) != 96:
+        number = self.taken + 1
+        if len(day) != length(date(self.year, number)):
             return (4,)
-        bad = [q for q, reading in enumerate(day) if reading > READING_MOST]
+        bad = [position for position, reading in enumerate(day) if reading > READING_MOST]
         if bad:
             return (5, number, bad[0])
         season = date(self.year, number).month % 12 // 3 + 1
@@ -227,11 +232,12 @@ class Days:
                 if self.best is None or day[q] > self.best[0]:
                     self.best = day[q], number, q
         self.M, self.S = max(self.M, *day), self.S + sum(day)
+        self.taken = number
         self.given += day
         return (0,)
 
     def close(self):
-        if self.terms is None or len(self.given) != 96 * days_of(self.year):
+        if self.terms is None or self.taken != days_of(self.year):
             return (13,)
         found = (True, *self.best) if self.best else (False, 0, 0, 0)
         answer = judge(Set(self.M, self.S, *found, self.level, self.terms.prices, self.terms.option))

@@ -7,6 +7,7 @@ mod stack;
 
 use calls::{Chosen, Flat};
 use independent::decision::{decide, CustomerDays, Decision};
+use independent::layout::Sundays;
 use independent::windows::{curves, highest, kept_quarters, windows, Curves, GridDays};
 use independent::QUARTERS;
 use sample::{Customer, Grid};
@@ -73,7 +74,7 @@ impl<'a> Timed<'a> {
 #[inline(never)]
 fn grid_days(grid: &Grid, sheet: &mut [u8]) -> u64 {
     let (_, mut state) = GridDays::open(grid.year, grid.level);
-    for day in grid.series.chunks_exact(QUARTERS) {
+    for day in Sundays::of_period(grid.year).days(&grid.series) {
         let _ = black_box(&mut state).day(day);
     }
     state.close(sheet).map_or_else(|refusal| refusal.number() as u64, |_| 0)
@@ -83,7 +84,7 @@ fn grid_days(grid: &Grid, sheet: &mut [u8]) -> u64 {
 fn customer_days(customer: &Customer) -> Decision {
     let basis = &customer.basis;
     let (_, mut state) = CustomerDays::open(&basis.sheet, basis.option, &basis.holidays, &basis.prices);
-    for day in customer.series.chunks_exact(QUARTERS) {
+    for day in Sundays::of_year(customer.year).days(&customer.series) {
         let _ = black_box(&mut state).day(day);
     }
     state.close()

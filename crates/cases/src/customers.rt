@@ -7,8 +7,10 @@
 //   D  day (from 1), count: as many days of the series from that day on, until one is refused. The days taken stand
 //      before the number.
 //   P  place (from 0), length: that part of the series as a day.
+//   L  year, day (from 1): the part of the series that is that day: how many readings, and the first and the last.
 //   C  a closing, which leaves the state to the calls after it.
-// tests/customer_cases.py makes them, and what must come of them.
+// tests/customer_records.py makes them, and what must come of them, for customer_cases.py, customer_refusals.py and
+// sunday_cases.py beside it.
 use super::input;
 use super::output;
 use super::series;
@@ -75,6 +77,12 @@ fn part(series: &[u32], customer: Customer) -> Customer {
     stepped.customer
 }
 
+// L: a day's part of the series. The state of the days is handed on.
+fn lent(series: &[u32], customer: Customer) -> Customer {
+    series::write_day(Run::Year(input::two()), series);
+    customer
+}
+
 // C: a closing.
 fn closing(customer: Customer) -> Customer {
     write_answer(b'C', customer.close());
@@ -87,6 +95,7 @@ fn one_call(series: &[u32], customer: Customer) -> Customer {
         b'A' => ask(series),
         b'D' => days(series, customer),
         b'P' => part(series, customer),
+        b'L' => lent(series, customer),
         _ => closing(customer),
     }
 }

@@ -6,8 +6,10 @@
 //   D  day (from 1), count: as many days of the series from that day on, until one is refused. The days taken stand
 //      before the number.
 //   P  place (from 0), length: that part of the series as a day.
+//   L  year, day (from 1): the part of the series that is that day: how many readings, and the first and the last.
 //   C  room: a closing, which leaves the state to the calls after it. All 64 bytes stand behind the number.
-// tests/grid_cases.py makes them, and what must come of them.
+// tests/grid_records.py makes them, and what must come of them, for grid_cases.py and sunday_cases.py
+// beside it.
 use super::input;
 use super::input::ROOM;
 use super::output;
@@ -84,6 +86,12 @@ fn part(series: &[u32], grid: Grid) -> Grid {
     stepped.grid
 }
 
+// L: a day's part of the series. The state of the days is handed on.
+fn lent(series: &[u32], grid: Grid) -> Grid {
+    series::write_day(Run::Period(input::two()), series);
+    grid
+}
+
 // C: a closing.
 fn closing(grid: Grid) -> Grid {
     let room = input::room();
@@ -100,6 +108,7 @@ fn one_call(series: &[u32], grid: Grid) -> Grid {
         b'O' => opening(),
         b'D' => days(series, grid),
         b'P' => part(series, grid),
+        b'L' => lent(series, grid),
         _ => closing(grid),
     }
 }

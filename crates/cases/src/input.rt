@@ -32,7 +32,7 @@ pub(crate) fn four() -> u32 {
     65536 * high + wider(two())
 }
 
-fn widest(x: u32) -> u64
+pub(crate) fn widest(x: u32) -> u64
     ensures { λ r. ⌜ r < 4294967296 ⌝ }
 {
     x as u64

@@ -10,6 +10,7 @@ use super::customers;
 use super::grids;
 use super::input;
 use super::output;
+use readings::Run;
 
 // More than a day beyond the longest year.
 const MOST: usize = 35_500;
@@ -95,6 +96,19 @@ pub(crate) fn part(series: &[u32]) -> &[u32] {
     let at = input::smaller(input::size(), series.len());
     let end = end_of(at, input::size(), series.len());
     &series[at..end]
+}
+
+// A day's part of the series, by its number, from 1: how many readings it has, and its first and last where it has
+// some.
+pub(crate) fn write_day(run: Run, series: &[u32]) {
+    let part = readings::day_part(run, series, input::size());
+    output::letter(b'L');
+    output::next(part.len() as u64);
+    if part.len() > 0 {
+        output::next(input::widest(part[0]));
+        output::next(input::widest(part[part.len() - 1]));
+    }
+    output::letter(b'\n');
 }
 
 fn all_calls(kind: u8, series: &[u32], calls: u8) {

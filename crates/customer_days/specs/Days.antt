@@ -9,7 +9,7 @@ use Rattle.answers.specs.Ruling.{customerMost}
 use Rattle.answers.specs.Said.{Said, only, after}
 use Rattle.dates.specs.Dates.{yearDays}
 use Rattle.readings.specs.declared.Run.the-variants.{Year}
-use Rattle.readings.specs.Runs.{mostReadings}
+use Rattle.readings.specs.Runs.{mostReadings, dayLen}
 use Rattle.readings.specs.Days.{shutDays, nextAnswer}
 use Rattle.tariff.specs.declared.Figures.{Figures}
 use Rattle.tariff.specs.Answers.{saidOf}
@@ -70,7 +70,7 @@ customerTaken c day =
       terms = c .terms;
       seen = c .seen + 1;
       figures =
-          takenIn (c .figures) (c .seen + 1) (recordOf (Year (c .terms .rates .year)) (counts (c .terms)) (c .seen) (alone day));
+          takenIn (c .figures) (c .seen + 1) (recordOf (dayLen (Year (c .terms .rates .year)) (c .seen)) (counts (c .terms) (c .seen)) (alone day));
     }
 
 unfoldable pub dayCustomer : Customer → List ℕ → Customer

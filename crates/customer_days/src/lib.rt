@@ -16,7 +16,7 @@ use tariff::Figures;
 use tariff::Prices;
 use terms::Terms;
 
-// More than a day of legal readings can add to the sum: a hundred of the highest (`readings::MOST_READINGS`).
+// The most that a day of legal readings can add to the sum: a hundred of the highest (`readings::MOST_READINGS`).
 const DAY_SUM_MOST: u64 = 100_000_000_000;
 
 // A year that is given day by day: the days taken so far, and their figures.
@@ -44,7 +44,7 @@ fn day_answer(year: u16, seen: u16, sum: u64, day: &[u32]) -> Decision
         return Decision::DayOut;
     }
     let run = Run::Year(year);
-    if day.len() != readings::day_span(run, seen).len {
+    if day.len() != readings::day_len(run, seen) {
         return Decision::WrongLength;
     }
     let first = legal_readings::first_above(day, answers::CUSTOMER_MOST);
@@ -106,13 +106,7 @@ impl Customer {
         let terms = self.terms;
         let seen = self.seen;
         let row = year_figures::day_row(terms.rates.year, seen, &terms.carrying, &terms.windows);
-        let taking = day_figures::take_day(
-            self.figures,
-            Run::Year(terms.rates.year),
-            seen,
-            row,
-            day,
-        );
+        let taking = day_figures::take_day(self.figures, seen, row, day);
         Customer {
             terms,
             seen: seen + 1,

@@ -80,7 +80,7 @@ impl CustomerFile {
     }
 
     // How many bytes come next: those of a field, those of a day, or one that should not be there; none once the
-    // machine has ended. Never more than 400 (a day has 384).
+    // machine has ended. Never more than 400, the bytes of the long Sunday.
     pub fn want(self) -> usize
         ensures { λ r. ⌜ (r ≡ customerWants self) × (r ≤ 400) ⌝ }
     {
@@ -94,7 +94,7 @@ impl CustomerFile {
             let year = self.customer.terms.rates.year;
             let seen = self.customer.seen;
             if seen < dates::year_days(year) {
-                return fields::READING_BYTES * readings::day_span(Run::Year(year), seen).len;
+                return fields::READING_BYTES * readings::day_len(Run::Year(year), seen);
             }
             return 1;
         }
@@ -129,10 +129,10 @@ impl CustomerFile {
     fn take_day(self, b: &[u8]) -> CustomerFile
         ensures { λ r. ⌜ r ≡ dayFed customerReader self (now (b .entry)) ⌝ }
     {
-        let n = readings::day_span(
+        let n = readings::day_len(
             Run::Year(self.customer.terms.rates.year),
             self.customer.seen,
-        ).len;
+        );
         if b.len() < fields::READING_BYTES * n {
             return self.ended(Stage::Refused(4));
         }

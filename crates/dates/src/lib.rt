@@ -9,6 +9,11 @@ ghost use Rattle.dates.specs.Dates.{leap, leapDay, yearDays, daysTo, day
 // The most days that a year has.
 pub const MOST_DAYS: usize = 366;
 
+// The months in which the clock is changed; months count from 1.
+pub const MARCH: u16 = 3;
+
+pub const OCTOBER: u16 = 10;
+
 // The days before each month of a common year, and before the next year; each month's season, from 1. January is at
 // place 0.
 const DAYS_BEFORE: [u16; 13] = [0, 31, 59, 90, 120, 151, 181, 212, 243, 273, 304, 334, 365];

@@ -1,4 +1,5 @@
 pub mod OneDay
+pub mod Sunday
 pub mod DaySums
 pub mod Masks
 pub mod Fits

@@ -1,25 +1,24 @@
 // Takes a day, or a stretch of days at once, into the figures of the days before: short passes over the readings, by
 // the quarters that count. It meets specs/Day; specs/Passes says what the steps inside do. Days d, positions p and
 // quarters q count from 0. Rules 6.3 to 6.5 and 8.2.
-// Main theorem: where the run has the day, the sum has room for it and it is as long as the run says, the day is taken
+// Main theorem: where a year can have the day, the sum has room for it and it is as long as a day is, the day is taken
 // in (`day-fits`, proofs/Fits); else the answer is 13 or 4.
 ghost use mathlib.Core.Path.{_≡_};
-ghost use mathlib.Core.Bool.{false, _&&_};
+ghost use mathlib.Core.Bool.{false, cond, _&&_};
 ghost use Prim.Native.Nat.{ℕ, _+_, _%_, _≤_, _<_, min};
 ghost use lib.Bits.{bitAnd};
 ghost use lib.Dec.{eqb};
 ghost use lib.ListN.{length, getD};
 ghost use Rattle.ranges.specs.Ranges.{firstOver, numberIf};
 ghost use Rattle.answers.specs.Ruling.{dayQuarters};
-ghost use Rattle.readings.specs.Runs.{dayLen};
 ghost use Rattle.readings.specs.Legal.{highestOf};
-ghost use Rattle.day_figures.specs.Day.{alone, inRow, withDay, dayMost, sumEnd, daysOut, dayTaken, rowIf, daysTaken};
-ghost use Rattle.day_figures.specs.Passes.{fourEnd, allOnes, masksOf, someLeft, maskedHigh, topsOf, plainly, Fits, DaySum};
-use readings::Run;
+ghost use Rattle.day_figures.specs.declared.Taking.the-variants.{Taken, WrongLength};
+ghost use Rattle.day_figures.specs.Day.{alone, withDay, dayMost, sumEnd, daysOut, noDay, dayTaken, rowIf, daysTaken};
+ghost use Rattle.day_figures.specs.Passes.{fourEnd, allOnes, masksOf, someLeft, maskedHigh, topsOf, plainly, highAt, HighAt, Sized, Fits, DaySum};
+use readings::Change;
 use tariff::Figures;
 
-// No day adds more than this to a sum: 100 readings of 32 bits, all bits set (a day has 96). And the highest sum of 64
-// bits.
+// No day adds more than this to a sum: 100 readings of 32 bits, all bits set. And the highest sum of 64 bits.
 const DAY_MOST: u64 = 429_496_729_500;
 
 const SUM_MOST: u64 = 18_446_744_073_709_551_615;
@@ -58,8 +57,7 @@ fn sum_four(a: u32, b: u32, c: u32, e: u32) -> u64
     wide(a + b + c + e)
 }
 
-// The sum of a day whose readings are all below 2^30: its four fourths side by side, so that only sums of four are
-// widened.
+// The sum of a day whose readings are all below 2^30: in four fourths, so that only sums of four are widened.
 fn sum_fourths(day: &[u32]) -> u64
     requires { ⌜ (length (now day) ≤ 100) × (length (now day) % 4 ≡ 0) × (highestOf (now day) < fourEnd) ⌝ }
     ensures { λ r. ⌜ DaySum (now (day .entry)) r ⌝ }
@@ -84,8 +82,7 @@ fn sum_each(day: &[u32]) -> u64
     sum
 }
 
-// The sum of a day with this highest reading. Below 2^30, as every legal reading is, a day that has four fourths is
-// added up by these.
+// The sum of a day with this highest reading: by fourths where it has them and is below 2^30, as legal readings are.
 fn sum_of(day: &[u32], peak: u32) -> u64
     requires { ⌜ (length (now day) ≤ 100) × (peak ≡ highestOf (now day)) ⌝ }
     ensures { λ r. ⌜ DaySum (now (day .entry)) r ⌝ }
@@ -126,8 +123,7 @@ fn row_end(row: &[bool]) -> usize
     }
 }
 
-// The row as 96 masks of 32 bits, all ones where a quarter counts: as wide as a reading, so that no mask has to be
-// widened for each reading.
+// The row as 96 masks, all ones where a quarter counts: as wide as a reading, so that none has to be widened for each.
 fn masks_of(row: &[bool]) -> [u32; answers::DAY_QUARTERS]
     ensures { λ r. ⌜ r ≡ masksOf (now (row .entry)) ⌝ }
 {
@@ -156,14 +152,14 @@ fn masked(reading: u32, mask: u32) -> u32
     reading & mask
 }
 
-// The highest reading of day d that the masks leave.
-fn masked_high(masks: &[u32; answers::DAY_QUARTERS], run: Run, d: u16, day: &[u32]) -> u32
-    requires { ⌜ length (now day) ≡ dayLen run d ⌝ }
-    ensures { λ r. ⌜ r ≡ maskedHigh (now (masks .entry)) run d (now (day .entry)) ⌝ }
+// The highest reading of a usual day that the masks leave: mask p is for position p.
+fn masked_usual(masks: &[u32; answers::DAY_QUARTERS], day: &[u32]) -> u32
+    requires { ⌜ length (now day) ≡ dayQuarters ⌝ }
+    ensures { λ r. ⌜ r ≡ maskedHigh (now (masks .entry)) (now (day .entry)) ⌝ }
 {
     let mut high = 0;
-    for p in 0..day.len() {
-        high = peaks::larger(high, masked(day[p], masks[readings::quarter_of(run, d, p)]));
+    for p in 0..answers::DAY_QUARTERS {
+        high = peaks::larger(high, masked(day[p], masks[p]));
     }
     high
 }
@@ -175,14 +171,13 @@ fn is_in(row: &[bool], q: usize) -> bool
     if q < row.len() { row[q] } else { false }
 }
 
-// The first position of day d, from 0, that counts and whose reading is `high`, or the day's length where none is. It
-// is looked for only where H moves.
-fn first_in(row: &[bool], run: Run, d: u16, day: &[u32], high: u32) -> usize
-    ensures { λ r. ⌜ r ≡ firstOver (λ (p : ℕ). inRow run (now (row .entry)) d p && eqb (alone (now (day .entry)) p) high)
+// The first position of a usual day that counts and whose reading is `high`, or the day's length where none is.
+fn first_in(row: &[bool], day: &[u32], high: u32) -> usize
+    ensures { λ r. ⌜ r ≡ firstOver (λ (p : ℕ). getD (now (row .entry)) p false && eqb (alone (now (day .entry)) p) high)
         (length (now (day .entry))) ⌝ }
 {
     for p in 0..day.len() {
-        if is_in(row, readings::quarter_of(run, d, p)) & (day[p] == high) {
+        if is_in(row, p) & (day[p] == high) {
             return p;
         }
     }
@@ -190,10 +185,11 @@ fn first_in(row: &[bool], run: Run, d: u16, day: &[u32], high: u32) -> usize
 }
 
 // The figures with a day's highest reading and sum taken in, H as it was.
-fn take_plain(f: Figures, t: Tops) -> Figures
-    requires { ⌜ f .sum + t .sum < sumEnd ⌝ }
-    ensures { λ r. ⌜ r ≡ plainly f t ⌝ }
+fn plain_day(f: Figures, day: &[u32]) -> Figures
+    requires { ⌜ (length (now day) ≤ 100) × (f .sum + dayMost < sumEnd) ⌝ }
+    ensures { λ r. ⌜ r ≡ plainly f (topsOf (now (day .entry))) ⌝ }
 {
+    let t = tops_of(day);
     Figures {
         peak: peaks::larger(f.peak, t.peak),
         sum: f.sum + t.sum,
@@ -204,53 +200,49 @@ fn take_plain(f: Figures, t: Tops) -> Figures
     }
 }
 
-// The same of a day's readings.
-fn plain_day(f: Figures, day: &[u32]) -> Figures
-    requires { ⌜ (length (now day) ≤ 100) × (f .sum + dayMost < sumEnd) ⌝ }
-    ensures { λ r. ⌜ r ≡ plainly f (topsOf (now (day .entry))) ⌝ }
+// The figures with H at a position of day d, or as they are where the day has no such position.
+fn high_at(f: Figures, d: u16, day: &[u32], at: usize) -> Figures
+    requires { ⌜ (d < 65535) × Sized (now day) ⌝ }
+    ensures { λ r. ⌜ r ≡ highAt f d (now (day .entry)) at ⌝ }
 {
-    take_plain(f, tops_of(day))
+    let n = day.len();
+    if n <= at {
+        return f;
+    }
+    Figures {
+        peak: f.peak,
+        sum: f.sum,
+        any: true,
+        high: day[at],
+        day: d + 1,
+        quarter: readings::quarter_in(n, at) as u8,
+    }
 }
 
-// The figures with day d taken in, of which some quarter may count; `next` has the day's highest reading and sum in it
-// already.
+// The figures with a usual day d taken in, of which some quarter may count; `next` has its highest reading and sum.
 fn take_masked(
     f: Figures,
     next: Figures,
-    run: Run,
     d: u16,
     row: &[bool],
     masks: &[u32; answers::DAY_QUARTERS],
     day: &[u32],
 ) -> Figures
-    requires { ⌜ Fits f run d (now day) next × (now masks ≡ masksOf (now row)) ⌝ }
-    ensures { λ r. ⌜ r ≡ withDay f run d (now (row .entry)) (alone (now (day .entry))) ⌝ }
+    requires { ⌜ Fits f d (now day) next × (now masks ≡ masksOf (now row)) ⌝ }
+    ensures { λ r. ⌜ r ≡ withDay f (length (now (day .entry))) d (now (row .entry)) (alone (now (day .entry))) ⌝ }
 {
-    let high = masked_high(masks, run, d, day);
+    let high = masked_usual(masks, day);
     if f.any & (high <= f.high) {
         return next;
     }
-    let position = first_in(row, run, d, day, high);
-    if day.len() <= position {
-        return next;
-    }
-    Figures {
-        peak: next.peak,
-        sum: next.sum,
-        any: true,
-        high,
-        day: d + 1,
-        quarter: readings::quarter_of(run, d, position) as u8,
-    }
+    high_at(next, d, day, first_in(row, day, high))
 }
 
-// The figures with day d taken in, by the row where the flag is set. `next` has the day's highest reading and sum in
-// it, and `some` tells whether a mask is not 0: otherwise there is nothing to look for. (`next` is made by the caller:
-// so this function is small enough to be laid into both callers.)
+// The same by the row where the flag is set; `some` tells whether a mask is not 0: otherwise there is nothing to look
+// for. (`next` is made by the caller: so this function is small enough to be laid into both callers.)
 fn take_fit(
     f: Figures,
     next: Figures,
-    run: Run,
     d: u16,
     flag: bool,
     some: bool,
@@ -258,20 +250,75 @@ fn take_fit(
     masks: &[u32; answers::DAY_QUARTERS],
     day: &[u32],
 ) -> Figures
-    requires { ⌜ Fits f run d (now day) next × (now masks ≡ masksOf (now row)) × (some ≡ someLeft (now masks)) ⌝ }
-    ensures { λ r. ⌜ r ≡ withDay f run d (rowIf flag (now (row .entry))) (alone (now (day .entry))) ⌝ }
+    requires { ⌜ Fits f d (now day) next × (now masks ≡ masksOf (now row)) × (some ≡ someLeft (now masks)) ⌝ }
+    ensures { λ r. ⌜ r ≡ withDay f (length (now (day .entry))) d (rowIf flag (now (row .entry))) (alone (now (day .entry))) ⌝ }
 {
     if flag & some {
-        return take_masked(f, next, run, d, row, masks, day);
+        return take_masked(f, next, d, row, masks, day);
     }
     next
 }
 
-// 13: does the run not have n days from day `from` on, or is the sum without room for so many?
-fn days_out(run: Run, from: u16, n: usize, sum: u64) -> bool
-    ensures { λ r. ⌜ r ≡ daysOut run from n sum ⌝ }
+// A reading, or the one before it; a position, or the one before it: no jump depends on a reading.
+fn pick_reading(new: bool, reading: u32, before: u32) -> u32
+    ensures { λ r. ⌜ r ≡ cond new reading before ⌝ }
 {
-    let days = readings::run_days(run);
+    if new { reading } else { before }
+}
+
+fn pick_position(new: bool, p: usize, before: usize) -> usize
+    ensures { λ r. ⌜ r ≡ cond new p before ⌝ }
+{
+    if new { p } else { before }
+}
+
+// Where in a day H comes to stand, by the row where the flag is set: the day's length where it stays. Reading by
+// reading, for the two Sundays of the clock change: so all loops over a usual day have 96 turns. (In numbers alone:
+// figures that go through a loop are copied every day. And so short that both callers have it laid into them.)
+fn new_high(f: Figures, flag: bool, row: &[bool], day: &[u32]) -> usize
+    ensures { λ r. ⌜ HighAt f (rowIf flag (now (row .entry))) (now (day .entry)) r ⌝ }
+{
+    let n = day.len();
+    let mut any = f.any;
+    let mut high = f.high;
+    let mut at = n;
+    for p in 0..n {
+        let v = day[p];
+        let counts = flag & is_in(row, readings::quarter_in(n, p));
+        let new = counts & (!any | (high < v));
+        any = any | counts;
+        high = pick_reading(new, v, high);
+        at = pick_position(new, p, at);
+    }
+    at
+}
+
+// The figures with any day d taken in, a usual one by the masks.
+fn take_any(
+    f: Figures,
+    d: u16,
+    flag: bool,
+    some: bool,
+    row: &[bool],
+    masks: &[u32; answers::DAY_QUARTERS],
+    day: &[u32],
+) -> Figures
+    requires { ⌜ (d < 65535) × Sized (now day) × (f .sum + dayMost < sumEnd) × (now masks ≡ masksOf (now row))
+        × (some ≡ someLeft (now masks)) ⌝ }
+    ensures { λ r. ⌜ r ≡ withDay f (length (now (day .entry))) d (rowIf flag (now (row .entry))) (alone (now (day .entry))) ⌝ }
+{
+    if day.len() != answers::DAY_QUARTERS {
+        let other = plain_day(f, day);
+        return high_at(other, d, day, new_high(f, flag, row, day));
+    }
+    let next = plain_day(f, day);
+    take_fit(f, next, d, flag, some, row, masks, day)
+}
+
+// 13: are there no n days from day `from` on, or is the sum without room for so many?
+fn days_out(days: u16, from: u16, n: usize, sum: u64) -> bool
+    ensures { λ r. ⌜ r ≡ daysOut days from n sum ⌝ }
+{
     if days < from {
         return true;
     }
@@ -281,16 +328,33 @@ fn days_out(run: Run, from: u16, n: usize, sum: u64) -> bool
     SUM_MOST - DAY_MOST * (n as u64) < sum
 }
 
-// The figures with day d of a run, from 0, taken in: position p counts where its quarter is set in the row. Refuses 13,
-// 4 in this order. Highest reading and sum come first: they do not wait until it is known whether the row has quarters.
-pub fn take_day(f: Figures, run: Run, d: u16, row: &[bool], day: &[u32]) -> Taking
-    ensures { λ r. ⌜ r ≡ dayTaken f run d (now (row .entry)) (now (day .entry)) ⌝ }
+// The figures with a Sunday of the clock change taken in, or 4 for a day that is not as long as one. By a row without
+// quarters it is done with after the sum, as every Sunday of a year is.
+fn take_other(f: Figures, d: u16, row: &[bool], day: &[u32]) -> Taking
+    requires { ⌜ (d < 65535) × (f .sum + dayMost < sumEnd) × (length (now day) ≡ dayQuarters → ⊥) ⌝ }
+    ensures { λ r. ⌜ r ≡ cond (noDay (length (now (day .entry)))) WrongLength
+        (Taken (withDay f (length (now (day .entry))) d (now (row .entry)) (alone (now (day .entry))))) ⌝ }
 {
-    if days_out(run, d, 1, f.sum) {
+    if (day.len() != readings::LEAST_READINGS) & (day.len() != readings::MOST_READINGS) {
+        return Taking::WrongLength;
+    }
+    let next = plain_day(f, day);
+    if row.len() == 0 {
+        return Taking::Taken(next);
+    }
+    Taking::Taken(high_at(next, d, day, new_high(f, true, row, day)))
+}
+
+// The figures with day d, from 0, taken in: position p counts where its quarter is set in the row. Refuses 13, 4 in
+// this order. Highest reading and sum come first: they do not wait until it is known whether the row has quarters.
+pub fn take_day(f: Figures, d: u16, row: &[bool], day: &[u32]) -> Taking
+    ensures { λ r. ⌜ r ≡ dayTaken f d (now (row .entry)) (now (day .entry)) ⌝ }
+{
+    if days_out(dates::MOST_DAYS as u16, d, 1, f.sum) {
         return Taking::DayOut;
     }
-    if day.len() != readings::day_span(run, d).len {
-        return Taking::WrongLength;
+    if day.len() != answers::DAY_QUARTERS {
+        return take_other(f, d, row, day);
     }
     let next = plain_day(f, day);
     if row.len() == 0 {
@@ -298,38 +362,38 @@ pub fn take_day(f: Figures, run: Run, d: u16, row: &[bool], day: &[u32]) -> Taki
     }
     let masks = masks_of(row);
     let some = some_left(&masks);
-    Taking::Taken(take_fit(f, next, run, d, true, some, row, &masks, day))
+    Taking::Taken(take_fit(f, next, d, true, some, row, &masks, day))
 }
 
 // The figures with as many days of a whole series taken in as there are flags, from day `from` on: the row counts on
-// those whose flag is set. Refuses 13, 4 in this order. The masks are made once for all days.
+// those whose flag is set. The series has `days` days in all. Refuses 13, 4 in this order. Masks are made once for all.
 pub fn take_days(
     f: Figures,
-    run: Run,
+    days: u16,
+    change: Change,
     from: u16,
     flags: &[bool],
     row: &[bool],
     series: &[u32],
 ) -> Taking
-    ensures { λ r. ⌜ r ≡ daysTaken f run from (now (flags .entry)) (now (row .entry)) (now (series .entry)) ⌝ }
+    ensures { λ r. ⌜ r ≡ daysTaken f days change from (now (flags .entry)) (now (row .entry)) (now (series .entry)) ⌝ }
 {
-    if days_out(run, from, flags.len(), f.sum) {
+    if days_out(days, from, flags.len(), f.sum) {
         return Taking::DayOut;
     }
-    if series.len() != readings::run_readings(run) {
+    if series.len() != readings::span_by(change, days).start {
         return Taking::WrongLength;
     }
     let masks = masks_of(row);
     let some = some_left(&masks);
     let mut figures = f;
+    let mut start = readings::span_by(change, from).start;
     for k in 0..flags.len() {
         let d = from + k as u16;
-        let span = readings::day_span(run, d);
-        let start = span.start;
-        let end = start + span.len;
+        let end = start + readings::len_by(change, d);
         let day = &series[start..end];
-        let next = plain_day(figures, day);
-        figures = take_fit(figures, next, run, d, flags[k], some, row, &masks, day);
+        figures = take_any(figures, d, flags[k], some, row, &masks, day);
+        start = end;
     }
     Taking::Taken(figures)
 }

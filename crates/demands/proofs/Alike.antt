@@ -13,6 +13,7 @@ use Rattle.readings.specs.Illegal.{FirstIllegalIn}
 use Rattle.demands.specs.Refusals.{Carries, NamesFirst, CarriesPlace, FirstToday}
 use Rattle.demands.specs.Demands.{NothingElse}
 use Rattle.demands.proofs.Carried.{said-is}
+use Rattle.demands.proofs.Parts.{same-part}
 
 -- the same rows fix the number
 same-number : {Row : ℕ → Type 0} {a b : ℕ} → ((n : ℕ) → (a ≡ n) ↔ Row n) → ((n : ℕ) → (b ≡ n) ↔ Row n) → a ≡ b
@@ -85,6 +86,7 @@ nothing-else m n d e =
       calendar = λ y hs k. carried-same (same-number (given .calendar y hs k) (row .calendar y hs k)) (mine .calendar y hs k) (other .calendar y hs k);
       read = λ b. carried-same (same-number (given .read b) (row .read b)) (mine .read b) (other .read b);
       write = λ s room. carried-same (same-number (given .write s room) (row .write s room)) (mine .write s room) (other .write s room);
+      part = same-part m n (d .handed-out) (e .handed-out);
       windows = λ y level xs buffer.
           placed-same (one-in _ _ xs) (same-number (given .windows y level xs buffer) (row .windows y level xs buffer))
           (mine .windows y level xs buffer) (other .windows y level xs buffer);

@@ -1,5 +1,6 @@
 -- Our module meets the demands.
 -- Assumes nothing.
+use Rattle.readings.proofs.Plain.{plain-days, each-quarter}
 use Rattle.demands.specs.Module.{ours}
 use Rattle.demands.specs.Demands.{Demands}
 use Rattle.demands.proofs.Refusals.{left-as-before, fixed-state}
@@ -24,6 +25,8 @@ met =
       carried = carried;
       numbers = numbers;
       dates = dates;
+      plain-days = plain-days;
+      each-quarter = each-quarter;
       exactly-when = exactly-when;
       never-legal = never-legal;
       handed-out = handed-out;

@@ -2,6 +2,7 @@
 -- apart.
 -- Assumes nothing.
 use mathlib.Core.Path.{_≡_, sym, ap, _∙_}
+use mathlib.Core.Logic.{⊎-elim}
 use mathlib.Core.List.{List, [], _∷_, _++_}
 use Prim.Native.Nat.{ℕ, _+_, _-_, _≤_, _<_}
 use native.Mathlib.Nat.{le-antisymm}
@@ -9,18 +10,19 @@ use native.Mathlib.Decide.{decLt}
 use native.Mathlib.Omega.{arith}
 use lib.ListN.{length, getD, take, drop, replicate, length-append, length-replicate, length-drop, List·getD-append, List·getD-eq-default}
 use lib.Seq.{getD-append-add, take-append-le, drop-append-le}
+use Rattle.ranges.proofs.Bools.{decided}
 use Rattle.ranges.proofs.Tables.{table-cong}
 use Rattle.answers.specs.Said.{Said}
 use Rattle.readings.specs.declared.Run.{Run}
 use Rattle.readings.specs.Runs.{runDays, dayLen, dayStart, runReadings, reading}
 use Rattle.readings.specs.Legal.{peakOf}
 use Rattle.readings.specs.Illegal.{LegalSeries}
-use Rattle.readings.specs.Part.{dayPart}
+use Rattle.readings.specs.Part.{noPart, dayPart}
 use Rattle.readings.specs.Days.{offered, daysOf, AsWhole}
 use Rattle.readings.proofs.Runs.{len-some, start-more, start-below, run-all}
 use Rattle.readings.proofs.Legal.{reading-le}
 use Rattle.readings.proofs.Illegal.{all-legal-in}
-use Rattle.readings.proofs.Part.{part-of}
+use Rattle.readings.proofs.Part.{HasDay, has-day, part-none, part-of}
 use Rattle.readings.proofs.Given.{offered-stays}
 use Rattle.demands.specs.Wrong.{WrongDays}
 use Rattle.demands.specs.Wrong.WrongDays.{first-day, last-day, kept}
@@ -76,12 +78,15 @@ module _ (run : Run) (many : 1 < runDays run) where
 
   -- the days before the last do not tell them apart
   part-same : (v w d : ℕ) → d < last → dayPart run (ends v) (d + 1) ≡ dayPart run (ends w) (d + 1)
-  part-same v w d h = cut v ∙ sym (cut w)
+  part-same v w d h =
+      ⊎-elim (λ t. sym (part-none run (ends v) (d + 1) t) ∙ part-none run (ends w) (d + 1) t)
+      (λ f. let n = has-day run (d + 1) f in cut n v ∙ sym (cut n w)) (decided (noPart run (d + 1)))
     where
-      cut : (u : ℕ) → dayPart run (ends u) (d + 1) ≡ take (dayLen run d) (drop (dayStart run d) before)
-      cut u =
+      cut : HasDay run (d + 1) → (u : ℕ) → dayPart run (ends u) (d + 1) ≡ take (dayLen run d) (drop (dayStart run d) before)
+      cut n u =
           let inside : dayStart run d + dayLen run d ≤ length before = omega (arith, before-long, start-below run last d h, end-is, len-some run last) in
-          part-of run (ends u) d (omega (arith, length-append before (u ∷ [])))
+          part-of run (ends u) d
+          (record { allowed = n .allowed; on = omega (arith, n .to); inside = omega (arith, length-append before (u ∷ [])) })
           ∙ ap (take (dayLen run d)) (drop-append-le (dayStart run d) before (u ∷ []) (omega arith))
           ∙ take-append-le (dayLen run d) (drop (dayStart run d) before) (u ∷ []) (omega (arith, length-drop (dayStart run d) before))
 

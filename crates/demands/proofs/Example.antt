@@ -10,10 +10,10 @@ use Rattle.ranges.specs.Ranges.{joined, sumOver, countOver, anyOver, table, inB
 use Rattle.ranges.proofs.Tables.{getD-table}
 use Rattle.answers.specs.Ruling.{yearOut, levelOut, shareOf}
 use Rattle.answers.specs.Said.{only}
-use Rattle.dates.specs.Dates.{leap, leapDay, daysTo, monthOf, seasonOf, weekdayOf, mostDays}
+use Rattle.dates.specs.Dates.{leap, leapDay, daysTo, monthOf, seasonOf, weekdayOf, lastSunday, mostDays}
 use Rattle.holidays.specs.Holidays.{listed, badHolidays}
 use Rattle.day_kinds.specs.Kinds.{christmas, free, candidate, bridge, kindBy, carries, windowDays}
-use Rattle.readings.specs.Runs.{quarterOf}
+use Rattle.readings.specs.Runs.{changeOf, lenBy, quarterIn}
 use Rattle.sheet.specs.Windows.{isSet, setIn, tooFull}
 use Rattle.encoding.specs.Bytes.{twoAt, otherMark}
 use Rattle.sheet.specs.Bytes.{windowsIn, sheetIn}
@@ -48,7 +48,7 @@ unfolding leap leapDay daysTo weekdayOf listed christmas free candidate bridge k
 day-two = refl
 
 pub set-there : setOn 2025 (windowsIn example) 1 72 ≡ true
-unfolding example setOn isSet seasonOf monthOf daysTo leapDay leap quarterOf windowsIn table countOver sumOver joined
+unfolding example setOn isSet seasonOf monthOf daysTo leapDay leap quarterIn lenBy changeOf lastSunday weekdayOf windowsIn table countOver sumOver joined
 set-there = refl
 
 pub no-holidays : badHolidays (sheetIn example .year) [] ≡ false

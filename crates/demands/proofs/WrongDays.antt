@@ -13,11 +13,11 @@ use Rattle.answers.specs.Said.{Said, only}
 use Rattle.periods.proofs.Periods.{period-days}
 use Rattle.readings.specs.declared.Run.{Run}
 use Rattle.readings.specs.declared.Run.the-variants.{Period}
-use Rattle.readings.specs.Runs.{runDays, dayLen, dayStart, reading}
+use Rattle.readings.specs.Runs.{runDays, dayLen, reading}
 use Rattle.readings.specs.Part.{dayPart}
 use Rattle.readings.specs.Days.{daysOf, AsWhole}
 use Rattle.readings.proofs.Runs.{len-some, run-held, period-run, year-run}
-use Rattle.readings.proofs.Part.{length-part, part-at}
+use Rattle.readings.proofs.Part.{Held, length-part, part-at}
 use Rattle.readings.proofs.Given.{days-more}
 use Rattle.sheet.specs.Bytes.{sheetSize}
 use Rattle.grid.specs.Rows.{OpenRow, Complete, periodPeak}
@@ -27,6 +27,7 @@ use Rattle.tariff.proofs.Answered.{number-is}
 use Rattle.figures.specs.Figures.{sumOf, figuresOf}
 use Rattle.terms.specs.Basis.{Basis, basisYear}
 use Rattle.terms.specs.Opening.{customerOpenAnswer}
+use Rattle.terms.proofs.Exactly.{open-allowed}
 use Rattle.customer_days.specs.declared.Customer.{Customer}
 use Rattle.customer.specs.Demand.{basisRun, LegalYear}
 use Rattle.demands.specs.Module.{Module, customerAfter}
@@ -132,7 +133,11 @@ module _ (m : Module) (d : Demands m) (twice : DayTwice m) where
       → n < runDays run
       → sumOver (λ p. getD (dayPart run series (n + 1)) p 0) (length (dayPart run series (n + 1))) ≡ sumOver (reading run series n) (dayLen run n)
   day-sum n h =
-      let inside : dayStart run n + dayLen run n ≤ length series = omega (arith, run-held run n h, lawful .series .long) in
+      let inside : Held run series n = record {
+        allowed = open-allowed k (lawful .opens);
+        on = h;
+        inside = omega (arith, run-held run n h, lawful .series .long);
+      } in
       rw (length-part run series n inside) (sum-cong _ _ (dayLen run n) (λ p l. part-at run series n inside p l))
 
   grows : (n : ℕ) → n ≤ runDays run → 2 * sumOf run series n ≤ at n .figures .sum

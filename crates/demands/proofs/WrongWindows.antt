@@ -23,7 +23,8 @@ use Rattle.periods.specs.Period.{periodDays, periodDate, periodSeason}
 use Rattle.readings.specs.declared.Run.the-variants.{Period}
 use Rattle.readings.specs.Runs.{runDays, dayLen, quarterOf, runReadings, reading}
 use Rattle.readings.specs.Illegal.{AllLegalIn}
-use Rattle.readings.proofs.Runs.{len-some, quarter-is, period-run}
+use Rattle.readings.proofs.Quarters.{quarter-first}
+use Rattle.readings.proofs.Runs.{len-some, period-run}
 use Rattle.readings.proofs.Illegal.{all-legal-in}
 use Rattle.sheet.specs.Windows.{isSet}
 use Rattle.sheet.specs.Bytes.{sheetSize}
@@ -107,7 +108,7 @@ same-top =
     let d : 365 < periodDays 2025 = omega (arith, days-2025) in
     let r = everywhere-at (Period 2025) 1 365 0 (omega (arith, period-run 2025)) (len-some (Period 2025) 365) in
     let c = in-curve 2025 same (periodDays 2025) 365 0 d (len-some (Period 2025) 365) in
-    omega (arith, same-low 0 (omega arith), value-is same 0 (omega arith), rw (last-season, ← quarter-is (Period 2025) 365 0) at c)
+    omega (arith, same-low 0 (omega arith), value-is same 0 (omega arith), rw (last-season, quarter-first (dayLen (Period 2025) 365)) at c)
 
 same-kept : kept (periodPeak 2025 same) (summerCurve same) 0 ≡ true
 same-kept = rw same-peak (kept-top 1 (summerCurve same) (omega arith) same-top same-low)

@@ -12,7 +12,7 @@ use Rattle.ranges.proofs.Tests.{any-at}
 use Rattle.answers.specs.Ruling.{capacityMost, customerMost}
 use Rattle.answers.specs.Said.{only}
 use Rattle.readings.specs.Runs.{runDays, dayLen}
-use Rattle.readings.proofs.Runs.{len-is, year-run}
+use Rattle.readings.proofs.Runs.{len-least, year-run}
 use Rattle.readings.proofs.Illegal.{all-legal-in}
 use Rattle.sheet.specs.Bytes.{sheetIn}
 use Rattle.tariff.specs.declared.Prices.{Prices}
@@ -92,7 +92,7 @@ module _ (price : ℕ) (least : 100 ≤ price) (most : price ≤ capacityMost) w
   any-there : basisFigures k xs .any ≡ true
   unfolding figuresOf anyOn
   any-there =
-      any-at _ (basisDays k) 1 (omega arith) (any-at (counts terms 1) (dayLen (basisRun k) 1) 72 (omega (arith, len-is (basisRun k) 1)) there)
+      any-at _ (basisDays k) 1 (omega arith) (any-at (counts terms 1) (dayLen (basisRun k) 1) 72 (omega (arith, len-least (basisRun k) 1)) there)
 
   peak-is : basisFigures k xs .peak ≡ 1000000
   unfolding figuresOf

@@ -7,18 +7,19 @@ use mathlib.Core.Path.{_≡_}
 use mathlib.Core.Bool.{true, false}
 use mathlib.Core.Logic.{_↔_, _⊎_}
 use mathlib.Core.List.{List, [], _∷_}
-use Prim.Native.Nat.{ℕ, _+_, _*_, _≤_, _<_}
+use Prim.Native.Nat.{ℕ, _+_, _≤_, _<_}
 use lib.ListN.{length, getD, take, drop}
 use Rattle.ranges.specs.Limits.{Within}
 use Rattle.ranges.specs.Ranges.{sumOver}
-use Rattle.answers.specs.Ruling.{dayQuarters, gridMost, customerMost, missing}
+use Rattle.answers.specs.Ruling.{ChargeYear, dayQuarters, gridMost, customerMost, missing}
 use Rattle.answers.specs.Said.{only, badPlace}
 use Rattle.dates.specs.Dates.{seasonOf}
 use Rattle.periods.specs.Period.{periodDays}
 use Rattle.calendar.specs.Answer.{DayRow}
 use Rattle.readings.specs.declared.Run.{Run}
 use Rattle.readings.specs.declared.Run.the-variants.{Period}
-use Rattle.readings.specs.Runs.{dayLen, quarterOf, reading}
+use Rattle.readings.specs.Runs.{runDays, dayLen, dayStart, quarterOf, reading}
+use Rattle.readings.specs.Part.{runYear}
 use Rattle.readings.specs.Days.{BadThere, AsWhole}
 use Rattle.readings.specs.Rows.{NextRow}
 use Rattle.sheet.specs.declared.Sheet.{Sheet}
@@ -94,17 +95,26 @@ pub record NeverLegal (m : Module) : Type 0 where
       → ⊥
   pub customer-day : (c : Customer) (day : List ℕ) (p : ℕ) → p < length day → getD day p 0 ≡ missing → m .customerDay c day .number ≡ 0 → ⊥
 
--- Rule 9.2: of a lent series one day is handed out. In `part` and in `empty` days count from 1; d, one less, and the
--- position p count from 0, so day d begins behind the 96 readings of each of the d days before it, in every run. The
--- part is empty for day 0, and where the series does not have all readings of the day.
+-- Rule 9.2: of a lent series one day is handed out. In `part` and in `Nothing` days count from 1; d, one less, and the
+-- position p count from 0. How many readings a day has and where it begins says room `readings`; in plain words of
+-- dates it is `PlainDays` there.
+pub record HasWhole (run : Run) (xs : List ℕ) (d : ℕ) : Type 0 where
+  pub year : ChargeYear (runYear run)
+  pub on : d < runDays run
+  pub inside : dayStart run d + dayLen run d ≤ length xs
+
+-- what is empty: a year that would be answered 1, day 0, a day beyond the year or period, and a day of which the series
+-- does not have all readings
+pub data Nothing (run : Run) (xs : List ℕ) (day : ℕ) : Type 0 where
+  no-year : (ChargeYear (runYear run) → ⊥) → Nothing run xs day
+  day-0 : day ≡ 0 → Nothing run xs day
+  beyond : runDays run < day → Nothing run xs day
+  not-held : length xs < dayStart run day → Nothing run xs day
+
 pub record HandedOut (m : Module) : Type 0 where
-  pub long : (run : Run) (xs : List ℕ) (d : ℕ) → 96 * (d + 1) ≤ length xs → length (m .part run xs (d + 1)) ≡ 96
-  pub each :
-      (run : Run) (xs : List ℕ) (d p : ℕ)
-      → 96 * (d + 1) ≤ length xs
-      → p < 96
-      → getD (m .part run xs (d + 1)) p 0 ≡ getD xs (96 * d + p) 0
-  pub empty : (run : Run) (xs : List ℕ) (day : ℕ) → (day ≡ 0) ⊎ (length xs < 96 * day) → m .part run xs day ≡ []
+  pub long : (run : Run) (xs : List ℕ) (d : ℕ) → HasWhole run xs d → length (m .part run xs (d + 1)) ≡ dayLen run d
+  pub each : (run : Run) (xs : List ℕ) (d p : ℕ) → HasWhole run xs d → p < dayLen run d → getD (m .part run xs (d + 1)) p 0 ≡ reading run xs d p
+  pub empty : (run : Run) (xs : List ℕ) (day : ℕ) → Nothing run xs day → m .part run xs day ≡ []
 
 -- The windows, to the quarter. `sheetShown` is the sheet that a reader of the buffer's first 56 bytes has after the
 -- call. It is the one that was asked for: year, level, and quarter q, from 0, of season s, from 1, is a window exactly

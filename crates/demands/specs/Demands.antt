@@ -3,6 +3,8 @@ use mathlib.Core.Path.{_≡_}
 use mathlib.Core.List.{List}
 use Prim.Native.Nat.{ℕ}
 use lib.ListN.{length}
+use Rattle.readings.specs.declared.Run.{Run}
+use Rattle.readings.specs.Plain.{PlainDays, EachQuarter}
 use Rattle.sheet.specs.declared.Sheet.{Sheet}
 use Rattle.grid_days.specs.declared.Grid.{Grid}
 use Rattle.tariff.specs.declared.Rates.{Rates}
@@ -27,6 +29,8 @@ pub record Demands (m : Module) : Type 0 where
   -- demand 2: what is answered is what the rules say (Rule 12.2)
   pub numbers : Numbers
   pub dates : Dates
+  pub plain-days : (run : Run) → PlainDays run
+  pub each-quarter : EachQuarter
   pub exactly-when : ExactlyWhen m
   pub never-legal : NeverLegal m
   pub handed-out : HandedOut m
@@ -40,11 +44,12 @@ pub record Demands (m : Module) : Type 0 where
   pub fairness : Fairness m
 
 -- The demands leave no answer open (Rule 13.1): two modules that meet them answer every input alike, number and
--- figures, also on a state that no call handed back.
+-- figures, also on a state that no call handed back, and hand out the same days.
 pub record AnswersAlike (m n : Module) : Type 0 where
   pub calendar : (y : ℕ) (hs : List ℕ) (d : ℕ) → m .calendar y hs d ≡ n .calendar y hs d
   pub read : (b : List ℕ) → m .read b ≡ n .read b
   pub write : (s : Sheet) (room : ℕ) → m .write s room ≡ n .write s room
+  pub part : (run : Run) (xs : List ℕ) (day : ℕ) → m .part run xs day ≡ n .part run xs day
   pub windows : (y level : ℕ) (xs buffer : List ℕ) → m .windows y level xs (length buffer) ≡ n .windows y level xs (length buffer)
   pub grid-open : (y level : ℕ) → m .gridOpen y level ≡ n .gridOpen y level
   pub grid-day : (g : Grid) (day : List ℕ) → m .gridDay g day ≡ n .gridDay g day

@@ -1,6 +1,6 @@
 -- The numbers and dates of the rules, written out: the limits and shares that the rows of specs/Answers name, and what
 -- a weekday, a season and the reference period are. The line, the forty quarters, the hours of use, the floor and the
--- least reduction stand in specs/Windows, Charges and Fair. Rules 2.1 to 2.4, 2.6, 3.1, 3.2, 4.1, 4.5 and 7.6.
+-- least reduction stand in specs/Windows, Charges and Fair. Rules 1.5, 2.1 to 2.3, 2.6, 3.1, 3.2, 4.1, 4.5 and 7.6.
 use mathlib.Core.Path.{_≡_}
 use mathlib.Core.Logic.{_↔_, _⊎_}
 use Prim.Native.Nat.{ℕ, suc, _+_, _-_, _*_, _%_, _≤_, _<_}

@@ -19,7 +19,7 @@ use Rattle.ranges.proofs.First.{first-at, first-le, first-below, first-holds, f
 use Rattle.answers.specs.Said.{Said, only, badPlace, orElse}
 use Rattle.answers.proofs.Laws.{next-speaks}
 use Rattle.readings.specs.declared.Run.{Run}
-use Rattle.readings.specs.Runs.{runDays, dayLen, dayStart, runReadings, reading}
+use Rattle.readings.specs.Runs.{runDays, changeOf, dayLen, dayStart, runReadings, reading}
 use Rattle.readings.specs.Legal.{illegal, highestOf, firstAbove, dayPeak, peakOf, badIn, badAt, badDay, firstIllegal}
 use Rattle.readings.specs.Days.{seriesAnswer, nextAnswer}
 use Rattle.readings.proofs.Runs.{start-more, start-below, run-all, run-held}
@@ -58,10 +58,10 @@ module _ (run : Run) (h : ℕ) (bytes : List ℕ) where
     day-is = readings-part bytes h (dayStart run d) (dayLen run d) (omega (arith, start-more run d))
 
     pub day-long : length (dayIn run h bytes d) ≡ dayLen run d
-    day-long = ap length day-is ∙ cut-long run xs d refl refl (omega (arith, days-long (d + 1) w, start-more run d))
+    day-long = ap length day-is ∙ cut-long xs {at = dayStart run d} {size = dayLen run d} refl refl (omega (arith, days-long (d + 1) w, start-more run d))
 
     pub day-reading : (p : ℕ) → p < dayLen run d → getD (dayIn run h bytes d) p 0 ≡ reading run xs d p
-    day-reading p l = rw day-is (cut-at run xs d refl refl p l)
+    day-reading p l = rw day-is (cut-at xs refl refl p l)
 
     -- the readings of one day more
     pub days-more : take (dayStart run d) xs ++ dayIn run h bytes d ≡ take (dayStart run (d + 1)) xs
@@ -97,7 +97,7 @@ module _ (run : Run) (h : ℕ) (bytes : List ℕ) where
   module _ (limit d : ℕ) (c : Passed (badIn run limit xs) d) where
     low : (e p : ℕ) → e < d → p < dayLen run e → reading run xs e p ≤ limit
     unfolding badIn
-    low e p l m = ltb-false limit (reading run xs e p) (all-passed (badFrom run limit xs e) (dayLen run e) (c .fails e l) .fails p m)
+    low e p l m = ltb-false limit (reading run xs e p) (all-passed (badFrom (changeOf run) limit xs e) (dayLen run e) (c .fails e l) .fails p m)
 
     legal : peakOf run (take (dayStart run d) xs) d ≤ limit
     unfolding peakOf dayPeak

@@ -1,4 +1,5 @@
 pub mod Taken
+pub mod Readings
 pub mod Peak
 pub mod Agree
 pub mod TwoReadings

@@ -11,14 +11,14 @@ use Rattle.ranges.proofs.Tests.{any-none, any-more, any-cong}
 use Rattle.ranges.proofs.Inside.{in-none, in-cong, place-cong, newer, Placed, placed}
 use Rattle.ranges.proofs.Inside.Placed.{nowhere, stays, moves}
 use Rattle.readings.specs.declared.Run.{Run}
-use Rattle.readings.specs.Runs.{dayLen, quarterOf, reading}
+use Rattle.readings.specs.Runs.{dayLen, quarterIn, reading}
 use Rattle.readings.specs.Legal.{dayPeak, peakOf}
 use Rattle.tariff.specs.declared.Figures.{Figures}
 use Rattle.figures.specs.Figures.{noFigures, sumOf, anyOn, highOn, quarterOn, highIn, highDay, figuresOf, DayRecord, recordOf, better, takenIn}
 
 -- one place more, n from 0: the largest value then, and a figure g of its first place, 0 where no place passes
 module _ (p : ℕ → Bool) (f : ℕ → ℕ) (n : ℕ) where
-  value-more : cond (newer p f n) (f n) (largestIn p f n) ≡ largestIn p f (n + 1)
+  pub value-more : cond (newer p f n) (f n) (largestIn p f n) ≡ largestIn p f (n + 1)
   value-more = go (placed p f n)
     where
       go : Placed p f n → cond (newer p f n) (f n) (largestIn p f n) ≡ largestIn p f (n + 1)
@@ -26,10 +26,10 @@ module _ (p : ℕ → Bool) (f : ℕ → ℕ) (n : ℕ) where
       go (stays s b e) = rw (b, e .value-is)
       go (moves t b e) = rw (b, e .value-is)
 
-  abbrev figureOf : (ℕ → ℕ) → ℕ → ℕ
+  abbrev pub figureOf : (ℕ → ℕ) → ℕ → ℕ
   figureOf g m = cond (anyOver p m) (g (placeIn p f m)) 0
 
-  place-more : (g : ℕ → ℕ) → cond (newer p f n) (g n) (figureOf g n) ≡ figureOf g (n + 1)
+  pub place-more : (g : ℕ → ℕ) → cond (newer p f n) (g n) (figureOf g n) ≡ figureOf g (n + 1)
   place-more g = go (placed p f n)
     where
       go : Placed p f n → cond (newer p f n) (g n) (figureOf g n) ≡ figureOf g (n + 1)
@@ -39,19 +39,17 @@ module _ (p : ℕ → Bool) (f : ℕ → ℕ) (n : ℕ) where
 
 -- a day's record depends on the day's own positions only: which of them count, and their readings
 pub record-cong :
-    (run : Run) (t u : ℕ → ℕ → Bool) (d : ℕ) (f g : ℕ → ℕ)
-    → ((p : ℕ) → p < dayLen run d → t d p ≡ u d p)
-    → ((p : ℕ) → p < dayLen run d → f p ≡ g p)
-    → recordOf run t d f ≡ recordOf run u d g
-unfolding anyOn highOn quarterOn
-record-cong run t u d f g alike equal =
-    let n = dayLen run d in
+    (n : ℕ) (t u : ℕ → Bool) (f g : ℕ → ℕ)
+    → ((p : ℕ) → p < n → t p ≡ u p)
+    → ((p : ℕ) → p < n → f p ≡ g p)
+    → recordOf n t f ≡ recordOf n u g
+record-cong n t u f g alike equal =
     let p = largest-cong f g n equal in
     let s = sum-cong f g n equal in
-    let a = any-cong (t d) (u d) n alike in
-    let h = in-cong (t d) (u d) f g n alike (λ k l e. equal k l) in
-    let q = place-cong (t d) (u d) f g n alike (λ k l e. equal k l) in
-    λ i. record { peak = p i; sum = s i; any = a i; high = h i; quarter = quarterOf run d (q i) }
+    let a = any-cong t u n alike in
+    let h = in-cong t u f g n alike (λ k l e. equal k l) in
+    let q = place-cong t u f g n alike (λ k l e. equal k l) in
+    λ i. record { peak = p i; sum = s i; any = a i; high = h i; quarter = quarterIn n (q i) }
 
 module _ (run : Run) (inWindow : ℕ → ℕ → Bool) where
   pub figures-none : (xs : List ℕ) → noFigures ≡ figuresOf run inWindow xs 0
@@ -74,7 +72,7 @@ module _ (run : Run) (inWindow : ℕ → ℕ → Bool) where
     before = figuresOf run inWindow xs n
 
     abbrev today : DayRecord
-    today = recordOf run inWindow n (reading run xs n)
+    today = recordOf (dayLen run n) (inWindow n) (reading run xs n)
 
     abbrev after : Figures
     after = figuresOf run inWindow xs (n + 1)
@@ -83,7 +81,7 @@ module _ (run : Run) (inWindow : ℕ → ℕ → Bool) where
     on d = highOn run inWindow d (reading run xs d)
 
     high-more : cond (better before today) (today .high) (before .high) ≡ after .high
-    unfolding figuresOf highIn
+    unfolding figuresOf highIn anyOn highOn quarterOn
     high-more = value-more (anyOn run inWindow) on n
 
     -- a law of its own, so that a changed definition of the day is refused here and not in the two laws below
@@ -92,16 +90,16 @@ module _ (run : Run) (inWindow : ℕ → ℕ → Bool) where
     where-is m = refl
 
     day-more : cond (better before today) (n + 1) (before .day) ≡ after .day
-    unfolding figuresOf highIn
+    unfolding figuresOf highIn anyOn highOn quarterOn
     day-more = rw (where-is n, where-is (n + 1)) (place-more (anyOn run inWindow) on n (λ d. d + 1))
 
     quarter-more : cond (better before today) (today .quarter) (before .quarter) ≡ after .quarter
-    unfolding figuresOf highIn
+    unfolding figuresOf highIn anyOn highOn quarterOn
     quarter-more =
         rw (where-is n, where-is (n + 1)) (place-more (anyOn run inWindow) on n (λ d. quarterOn run inWindow d (reading run xs d)))
 
     taken-series : takenIn before (n + 1) today ≡ after
-    unfolding takenIn figuresOf peakOf dayPeak sumOf
+    unfolding takenIn figuresOf peakOf dayPeak sumOf anyOn
     taken-series =
         let p = sym (largest-more (dayPeak run xs) n) in
         let s = sym (sum-more (λ d. sumOver (reading run xs d) (dayLen run d)) n) in
@@ -112,6 +110,6 @@ module _ (run : Run) (inWindow : ℕ → ℕ → Bool) where
     pub taken-more :
         (day : ℕ → ℕ)
         → ((p : ℕ) → p < dayLen run n → day p ≡ reading run xs n p)
-        → takenIn before (n + 1) (recordOf run inWindow n day) ≡ after
+        → takenIn before (n + 1) (recordOf (dayLen run n) (inWindow n) day) ≡ after
     taken-more day same =
-        ap (takenIn before (n + 1)) (record-cong run inWindow inWindow n day (reading run xs n) (λ p l. refl) same) ∙ taken-series
+        ap (takenIn before (n + 1)) (record-cong (dayLen run n) (inWindow n) (inWindow n) day (reading run xs n) (λ p l. refl) same) ∙ taken-series

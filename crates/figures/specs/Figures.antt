@@ -1,7 +1,7 @@
 -- The figures of a customer's year: M, the annual peak; S, the sum of its readings; H, the in-window peak, and the day
 -- and quarter in which it is first reached. `inWindow d p` says whether position p of day d is in-window; days d and
--- positions p count from 0, and position p is quarter p (`quarterOf`, room `readings`). A year goes by days, a day by
--- positions. Rules 6.3 to 6.5.
+-- positions p count from 0, and which quarter a position stands for says room `readings` (`quarterOf`, `quarterIn`). A
+-- year goes by days, a day by positions. Rules 6.3 to 6.5.
 use mathlib.Core.Path.{_≡_}
 use mathlib.Core.Bool.{Bool, true, false, cond, not, _&&_, _||_}
 use mathlib.Core.List.{List}
@@ -9,9 +9,33 @@ use Prim.Native.Nat.{ℕ, _+_, _≤_, _<_, max}
 use lib.Dec.{ltb}
 use Rattle.ranges.specs.Ranges.{largestOver, sumOver, anyOver, largestIn, placeIn}
 use Rattle.readings.specs.declared.Run.{Run}
-use Rattle.readings.specs.Runs.{dayLen, quarterOf, reading}
+use Rattle.readings.specs.Runs.{dayLen, quarterIn, quarterOf, reading}
 use Rattle.readings.specs.Legal.{peakOf}
 use Rattle.tariff.specs.declared.Figures.{Figures}
+
+-- one day's part of the figures: its highest reading, its sum, whether it has an in-window quarter, and the day's
+-- in-window peak with the quarter, from 0, where it is first reached. It goes by the day's own n readings f, and by
+-- which of their positions are in-window.
+pub record DayRecord : Type 0 where
+  pub peak : ℕ
+  pub sum : ℕ
+  pub any : Bool
+  pub high : ℕ
+  pub quarter : ℕ
+
+-- the record of the first p of them, and of all
+abbrev pub recordTo : ℕ → ℕ → (ℕ → Bool) → (ℕ → ℕ) → DayRecord
+recordTo n p inWindow f =
+    record {
+      peak = largestOver f p;
+      sum = sumOver f p;
+      any = anyOver inWindow p;
+      high = largestIn inWindow f p;
+      quarter = quarterIn n (placeIn inWindow f p);
+    }
+
+abbrev pub recordOf : ℕ → (ℕ → Bool) → (ℕ → ℕ) → DayRecord
+recordOf n inWindow f = recordTo n n inWindow f
 
 -- S, over the first n days (Rule 6.4)
 unfoldable pub sumOf : Run → List ℕ → ℕ → ℕ
@@ -25,10 +49,10 @@ module _ (run : Run) (inWindow : ℕ → ℕ → Bool) where
   -- the highest in-window reading of day d, whose reading at position p is f p, and the quarter, from 0, where it is
   -- first reached
   unfoldable pub highOn : ℕ → (ℕ → ℕ) → ℕ
-  highOn d f = largestIn (inWindow d) f (dayLen run d)
+  highOn d f = recordOf (dayLen run d) (inWindow d) f .high
 
   unfoldable pub quarterOn : ℕ → (ℕ → ℕ) → ℕ
-  quarterOn d f = quarterOf run d (placeIn (inWindow d) f (dayLen run d))
+  quarterOn d f = recordOf (dayLen run d) (inWindow d) f .quarter
 
   -- over the first n days of a series: H, and the first day, from 0, that reaches it; n where no quarter is in-window
   unfoldable pub highIn : List ℕ → ℕ → ℕ
@@ -53,25 +77,6 @@ module _ (run : Run) (inWindow : ℕ → ℕ → Bool) where
 -- the figures of no day
 abbrev pub noFigures : Figures
 noFigures = record { peak = 0; sum = 0; any = false; high = 0; day = 0; quarter = 0 }
-
--- one day's part of the figures: its highest reading, its sum, whether it has an in-window quarter, and the day's
--- in-window peak with the quarter, from 0, where it is first reached
-pub record DayRecord : Type 0 where
-  pub peak : ℕ
-  pub sum : ℕ
-  pub any : Bool
-  pub high : ℕ
-  pub quarter : ℕ
-
-abbrev pub recordOf : Run → (ℕ → ℕ → Bool) → ℕ → (ℕ → ℕ) → DayRecord
-recordOf run inWindow d f =
-    record {
-      peak = largestOver f (dayLen run d);
-      sum = sumOver f (dayLen run d);
-      any = anyOn run inWindow d;
-      high = highOn run inWindow d f;
-      quarter = quarterOn run inWindow d f;
-    }
 
 -- a day's in-window peak becomes H where no day before has an in-window quarter, or where it is higher than all before:
 -- on a tie the earlier day keeps the place (Rule 6.5)

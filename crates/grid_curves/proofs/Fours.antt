@@ -20,7 +20,7 @@ use Rattle.answers.specs.Ruling.{dayQuarters}
 use Rattle.periods.specs.Period.{periodSeason}
 use Rattle.readings.specs.declared.Run.the-variants.{Period}
 use Rattle.readings.specs.Runs.{dayLen, dayStart, quarterOf, reading}
-use Rattle.readings.proofs.Runs.{len-is, quarter-is, start-formula}
+use Rattle.readings.proofs.Runs.{usual-quarter, usual-on}
 use Rattle.sheet.specs.Windows.{windowPlaces}
 use Rattle.grid_curves.specs.Curves.{inSeason, topOf, curveAt, flatCurves}
 use Rattle.grid_curves.specs.Four.{fourDays, fourTop, overlaid}
@@ -88,30 +88,33 @@ module _ (s : ℕ) (flat four : List ℕ) where
           let gets = here q i (omega arith) (omega arith) in
           omega (arith, stored, same, was, gets .0, gets .1, ev)
 
--- a day that has 96 readings in the quarters' order brings its reading of the quarter
-pub top-plain : (y d : ℕ) (f : ℕ → ℕ) (s q : ℕ) → q < dayQuarters → topOf y d f s q ≡ numberIf (inSeason y d s) (f q)
+-- a day that has 96 readings has them in the quarters' order, and brings its reading of the quarter
+pub top-plain : (y d : ℕ) (f : ℕ → ℕ) (s q : ℕ) → dayLen (Period y) d ≡ dayQuarters → q < dayQuarters → topOf y d f s q ≡ numberIf (inSeason y d s) (f q)
 unfolding topOf
-top-plain y d f s q l =
+top-plain y d f s q e l =
     ap (numberIf (inSeason y d s))
     (le-antisymm (largest-le g n (f q) (λ p m. up p (ℕ-discrete (quarterOf (Period y) d p) q))) (omega (arith, down, one)))
   where
     n : ℕ
     n = dayLen (Period y) d
 
+    order : (p : ℕ) → p ≡ quarterOf (Period y) d p
+    order p = sym (usual-quarter (Period y) d p e)
+
     g : ℕ → ℕ
     g p = numberIf (eqb (quarterOf (Period y) d p) q) (f p)
 
     up : (p : ℕ) → Dec (quarterOf (Period y) d p ≡ q) → numberIf (eqb (quarterOf (Period y) d p) q) (f p) ≤ f q
-    up p (yes e) =
-        let same : p ≡ q = quarter-is (Period y) d p ∙ e in
-        simp (eq-eqb _ _ e) (omega (arith, ap f same))
-    up p (no e) = simp (ne-eqb _ _ e) (omega arith)
+    up p (yes h) =
+        let same : p ≡ q = order p ∙ h in
+        simp (eq-eqb _ _ h) (omega (arith, ap f same))
+    up p (no h) = simp (ne-eqb _ _ h) (omega arith)
 
     one : numberIf (eqb (quarterOf (Period y) d q) q) (f q) ≡ f q
-    one = simp (eq-eqb (quarterOf (Period y) d q) q (sym (quarter-is (Period y) d q)))
+    one = simp (eq-eqb (quarterOf (Period y) d q) q (sym (order q)))
 
     down : numberIf (eqb (quarterOf (Period y) d q) q) (f q) ≤ largestOver (λ p. numberIf (eqb (quarterOf (Period y) d p) q) (f p)) (dayLen (Period y) d)
-    down = largest-above (λ p. numberIf (eqb (quarterOf (Period y) d p) q) (f p)) (dayLen (Period y) d) q (omega (arith, len-is (Period y) d))
+    down = largest-above (λ p. numberIf (eqb (quarterOf (Period y) d p) q) (f p)) (dayLen (Period y) d) q (omega (arith, e))
 
 max-pairs : (u v w x : ℕ) → max (max u v) (max w x) ≡ max (max (max (max 0 u) v) w) x
 max-pairs u v w x =
@@ -151,7 +154,7 @@ module _
     (y : ℕ) (xs : List ℕ) (d s : ℕ) {at size : ℕ}
     (ea : at ≡ dayStart (Period y) d)
     (es : size ≡ fourDays)
-    (alike : (k : ℕ) → k < 4 → periodSeason y (d + k + 1) ≡ s)
+    (alike : (k : ℕ) → k < 4 → (periodSeason y (d + k + 1) ≡ s) × (dayLen (Period y) (d + k) ≡ dayQuarters))
   where
     abbrev four : List ℕ
     four = take size (drop at xs)
@@ -164,10 +167,10 @@ module _
         → topOf y (d + k) (reading (Period y) xs (d + k)) t q ≡ numberIf (eqb s t) (getD four (dayQuarters * k + q) 0)
     brings k q t l m =
         let stands : dayStart (Period y) (d + k) + q ≡ at + (dayQuarters * k + q) =
-        omega (arith, start-formula (Period y) d, start-formula (Period y) (d + k)) in
+        omega (arith, usual-on (Period y) d k (λ j h. alike j (omega arith) .1)) in
         let inside : dayQuarters * k + q < size = omega arith in
-        top-plain y (d + k) (reading (Period y) xs (d + k)) t q m
-        ∙ ap (λ (z : ℕ). numberIf (eqb z t) (reading (Period y) xs (d + k) q)) (alike k l)
+        top-plain y (d + k) (reading (Period y) xs (d + k)) t q (alike k l .1) m
+        ∙ ap (λ (z : ℕ). numberIf (eqb z t) (reading (Period y) xs (d + k) q)) (alike k l .0)
         ∙ ap (numberIf (eqb s t))
         (ap (λ (z : ℕ). getD xs z 0) stands
         ∙ sym (getD-take size (drop at xs) (dayQuarters * k + q) 0 inside ∙ getD-drop at xs (dayQuarters * k + q) 0))

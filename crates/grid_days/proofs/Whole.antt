@@ -29,7 +29,7 @@ use Rattle.grid.specs.Answers.{gridOpenAnswer, windowsAnswer, windowsBuffer}
 use Rattle.grid_days.specs.Days.{freshGrid, shutGrid, openGrid, gridDayAnswer, dayGrid, gridCloseAnswer, gridCloseBuffer}
 use Rattle.grid.specs.Rows.{WindowsRow}
 use Rattle.grid.specs.Rows.WindowsRow.{five}
-use Rattle.grid.proofs.Exactly.{windows-exactly}
+use Rattle.grid.proofs.Exactly.{open-allowed, windows-exactly}
 use Rattle.grid_curves.proofs.Curves.{curves-none, curves-more, top-cong}
 use Rattle.grid.proofs.Answered.{whole-refused, whole-short, whole-series, whole-finish}
 use Rattle.grid.proofs.Answered.{open-done}
@@ -107,7 +107,7 @@ module _ (y level : ℕ) (o : gridOpenAnswer y level ≡ only 0) where
     same xs legal = let c = closes-whole xs out legal in rw (period-run y) (λ i. (c .0 i, c .1 i))
 
     pub days-whole : AsWhole (Period y) gridMost gridDayAnswer dayGrid (openGrid y level) closed laid
-    days-whole = as-whole (machine y level) closed laid same (openGrid y level) opens-empty
+    days-whole = as-whole (machine y level) closed laid same (open-allowed y level o) (openGrid y level) opens-empty
 
 -- where the whole call answers 5 at a day and a position, the days before are taken, and that day answers the same
 module _ (y level : ℕ) (xs out : List ℕ) (d q : ℕ) where
@@ -126,4 +126,5 @@ module _ (y level : ℕ) (xs out : List ℕ) (d q : ℕ) where
     pub same-place : BadThere (Period y) gridDayAnswer dayGrid (openGrid y level) xs d q
     same-place =
         let row = windows-exactly y level xs out 5 .0 (ap (λ (a : Said). a .number) e) in
-        rw (opens-empty y level (opened-row row)) (same-bad (machine y level) xs d q (series-row row ∙ e))
+        let opened = opened-row row in
+        rw (opens-empty y level opened) (same-bad (machine y level) (open-allowed y level opened) xs d q (series-row row ∙ e))

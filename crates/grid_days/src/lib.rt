@@ -34,7 +34,7 @@ fn day_answer(year: u16, seen: u16, day: &[u32]) -> GridAnswer
     if periods::period_days(year) <= seen {
         return GridAnswer::DayOut;
     }
-    if day.len() != readings::day_span(Run::Period(year), seen).len {
+    if day.len() != readings::day_len(Run::Period(year), seen) {
         return GridAnswer::WrongLength;
     }
     let first = legal_readings::first_above(day, answers::GRID_MOST);

@@ -70,7 +70,7 @@ impl GridFile {
     }
 
     // How many bytes come next: those of a field, those of a day, or one that should not be there; none once the
-    // machine has ended. Never more than 400 (a day has 384).
+    // machine has ended. Never more than 400, the bytes of the long Sunday.
     pub fn want(self) -> usize
         ensures { λ r. ⌜ (r ≡ gridWants self) × (r ≤ 400) ⌝ }
     {
@@ -84,7 +84,7 @@ impl GridFile {
             let year = self.grid.year;
             let seen = self.grid.seen;
             if seen < periods::period_days(year) {
-                return fields::READING_BYTES * readings::day_span(Run::Period(year), seen).len;
+                return fields::READING_BYTES * readings::day_len(Run::Period(year), seen);
             }
             return 1;
         }
@@ -119,7 +119,7 @@ impl GridFile {
     fn take_day(self, b: &[u8]) -> GridFile
         ensures { λ r. ⌜ r ≡ dayFed gridReader self (now (b .entry)) ⌝ }
     {
-        let n = readings::day_span(Run::Period(self.grid.year), self.grid.seen).len;
+        let n = readings::day_len(Run::Period(self.grid.year), self.grid.seen);
         if b.len() < fields::READING_BYTES * n {
             return self.ended(Stage::Refused(4));
         }

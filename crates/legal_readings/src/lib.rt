@@ -48,10 +48,11 @@ pub fn first_illegal(run: Run, series: &[u32], limit: u32) -> Place
     ensures { λ r. ⌜ r ≡ firstIllegal run limit (now (series .entry)) ⌝ }
 {
     let days = readings::run_days(run);
+    let change = readings::change_of(run);
     let mut day = 0;
     let mut position = 0;
     'search: for d in 0..days {
-        let span = readings::day_span(run, d);
+        let span = readings::span_by(change, d);
         for p in 0..span.len {
             if limit < reading_at(series, span.start + p) {
                 day = d + 1;

@@ -38,7 +38,7 @@ abbrev pub statementLine : Said → List ℕ
 statementLine said = figuresLine (lineFigures said)
 
 -- the word `REFUSED` and a space; and the line of a refusal by the window program: the word, then the number and, for
--- 5, day and quarter (Rule 10.6)
+-- 5, day and position (Rule 10.6)
 abbrev pub refusedMark : List ℕ
 refusedMark = ascii "REFUSED "
 

@@ -9,11 +9,6 @@ ghost use Rattle.periods.specs.Period.{periodDays, periodDate, periodSea
 // How many days September to December have, in any year.
 const LATE_DAYS: u16 = 122;
 
-// Months count from 1.
-const MARCH: u16 = 3;
-
-const OCTOBER: u16 = 10;
-
 // A day, from 1, of a year.
 struct Date {
     year: u16,
@@ -73,12 +68,12 @@ pub fn october_sunday(year: u16) -> u16
     ensures { λ r. ⌜ r ≡ octoberSunday year ⌝ }
 {
     let first = years_back(year, 2);
-    dates::last_sunday(first, OCTOBER) - (dates::year_days(first) - LATE_DAYS)
+    dates::last_sunday(first, dates::OCTOBER) - (dates::year_days(first) - LATE_DAYS)
 }
 
 // The last Sunday in March as a day, from 1, of the reference period: it lies in the year before.
 pub fn march_sunday(year: u16) -> u16
     ensures { λ r. ⌜ r ≡ marchSunday year ⌝ }
 {
-    LATE_DAYS + dates::last_sunday(years_back(year, 1), MARCH)
+    LATE_DAYS + dates::last_sunday(years_back(year, 1), dates::MARCH)
 }

@@ -9,15 +9,15 @@ use native.Mathlib.Omega.{arith}
 use lib.ListN.{length}
 use Rattle.ranges.specs.Ranges.{joined, sumOver, anyOver}
 use Rattle.ranges.proofs.Bools.{pair}
-use Rattle.answers.specs.Ruling.{customerMost, levelOut, shareOf}
+use Rattle.answers.specs.Ruling.{dayQuarters, customerMost, levelOut, shareOf}
 use Rattle.answers.specs.Said.{only}
 use Rattle.dates.specs.Dates.{leap, leapDay, yearDays, daysTo, weekdayOf}
 use Rattle.holidays.specs.Holidays.{listed}
 use Rattle.day_kinds.specs.Kinds.{christmas, free, candidate, bridge, kindBy, carries}
 use Rattle.readings.specs.declared.Run.the-variants.{Year}
-use Rattle.readings.specs.Runs.{runDays, dayLen, runReadings, reading}
+use Rattle.readings.specs.Runs.{runDays, dayLen, quarterOf, runReadings, reading}
 use Rattle.readings.specs.Days.{seriesAnswer}
-use Rattle.readings.proofs.Runs.{len-is, quarter-is, run-all, year-run}
+use Rattle.readings.proofs.Runs.{usual-len, usual-quarter, run-all, year-run}
 use Rattle.readings.proofs.Days.{series-legal}
 use Rattle.tariff.specs.declared.Figures.{Figures}
 use Rattle.tariff.specs.Prices.{rowOut, pricesOut}
@@ -64,11 +64,23 @@ onThursday d p = isAt customerRun thursdayDay 72 d p
 abbrev value : Bool → Bool → ℕ
 value a b = cond a 1000000 (cond b 500000 0)
 
+-- on days that are no Sunday of a clock change position p stands for quarter p
+usual-1 : dayLen customerRun 1 ≡ dayQuarters
+usual-1 = usual-len customerRun 1 refl refl
+
+usual-3 : dayLen customerRun 3 ≡ dayQuarters
+usual-3 = usual-len customerRun 3 refl refl
+
+ordered : (e d p q : ℕ) → dayLen customerRun e ≡ dayQuarters → d ≡ e → quarterOf customerRun d p ≡ q → p ≡ q
+ordered e d p q u same is = sym (usual-quarter customerRun e p u) ∙ ap (λ (k : ℕ). quarterOf customerRun k p) (sym same) ∙ is
+
 saturday-else : (d p : ℕ) → (d ≡ 3 → p ≡ 0 → ⊥) → onSaturday d p ≡ false
-saturday-else d p other = at-other customerRun saturdayDay 0 d p (λ a b. other (omega (arith, saturday-is)) (quarter-is customerRun d p ∙ b))
+saturday-else d p other =
+    at-other customerRun saturdayDay 0 d p (λ a b. let e : d ≡ 3 = omega (arith, saturday-is) in other e (ordered 3 d p 0 usual-3 e b))
 
 thursday-else : (d p : ℕ) → (d ≡ 1 → p ≡ 72 → ⊥) → onThursday d p ≡ false
-thursday-else d p other = at-other customerRun thursdayDay 72 d p (λ a b. other (omega (arith, thursday-is)) (quarter-is customerRun d p ∙ b))
+thursday-else d p other =
+    at-other customerRun thursdayDay 72 d p (λ a b. let e : d ≡ 1 = omega (arith, thursday-is) in other e (ordered 1 d p 72 usual-1 e b))
 
 two-others : TwoOthers customerRun customerSeries (runDays customerRun) 1 72 500000 3 0 1000000
 two-others =
@@ -76,16 +88,16 @@ two-others =
     record {
       order = omega arith;
       late-in = omega (arith, days);
-      at-in = omega (arith, len-is customerRun 1);
-      to-in = omega (arith, len-is customerRun 3);
+      at-in = omega (arith, usual-1);
+      to-in = omega (arith, usual-3);
       first =
-          reads 1 72 (omega (arith, days)) (omega (arith, len-is customerRun 1))
+          reads 1 72 (omega (arith, days)) (omega (arith, usual-1))
           ∙ ap₂ value
           (saturday-else 1 72 (λ a b. omega arith))
-          (at-there customerRun thursdayDay 72 1 72 (sym thursday-is) (sym (quarter-is customerRun 1 72)));
+          (at-there customerRun thursdayDay 72 1 72 (sym thursday-is) (usual-quarter customerRun 1 72 usual-1));
       second =
-          reads 3 0 (omega (arith, days)) (omega (arith, len-is customerRun 3))
-          ∙ ap (λ (a : Bool). value a (onThursday 3 0)) (at-there customerRun saturdayDay 0 3 0 (sym saturday-is) (sym (quarter-is customerRun 3 0)));
+          reads 3 0 (omega (arith, days)) (omega (arith, usual-3))
+          ∙ ap (λ (a : Bool). value a (onThursday 3 0)) (at-there customerRun saturdayDay 0 3 0 (sym saturday-is) (usual-quarter customerRun 3 0 usual-3));
       elsewhere = λ d p l m a b. reads d p l m ∙ ap₂ value (saturday-else d p b) (thursday-else d p a);
     }
 
@@ -126,7 +138,7 @@ figures-are =
     ap (λ (y : ℕ). figuresOf (Year y) (counts terms) customerSeries (yearDays y)) example-year
     ∙ ap (figuresOf customerRun (counts terms) customerSeries) (sym (year-run 2025))
     ∙ two-figures two-others (counts terms) (omega arith) inside outside
-    ∙ ap (λ (q : ℕ). record { peak = 1000000; sum = 1500000; any = true; high = 500000; day = 2; quarter = q }) (sym (quarter-is customerRun 1 72))
+    ∙ ap (λ (q : ℕ). record { peak = 1000000; sum = 1500000; any = true; high = 500000; day = 2; quarter = q }) (usual-quarter customerRun 1 72 usual-1)
 
 judged-is : judged terms figures ≡ customerSaid
 unfolding example shareOf levelOut rowOut pricesOut chargeFor general reduced floorOf charge eligibleRules chargeRules judgeRules judgeAnswer

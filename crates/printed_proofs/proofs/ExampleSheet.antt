@@ -13,14 +13,15 @@ use lib.ListN.{length, getD, drop}
 use Rattle.ranges.specs.Ranges.{joined, sumOver, countOver, allOver, largestOver, table}
 use Rattle.ranges.proofs.Tests.{all-at}
 use Rattle.ranges.proofs.Tables.{table-cong}
+use Rattle.ranges.specs.Limits.{outside}
 use Rattle.answers.specs.Ruling.{dayQuarters, gridMost, yearOut, levelOut}
 use Rattle.answers.specs.Said.{only}
 use Rattle.dates.specs.Dates.{leap, leapDay, daysTo, monthOf, seasonOf}
 use Rattle.periods.specs.Period.{periodDays, periodDate, periodSeason}
-use Rattle.readings.specs.Runs.{runDays, dayLen, runReadings, reading}
+use Rattle.readings.specs.Runs.{runDays, dayLen, quarterOf, runReadings, reading}
 use Rattle.readings.specs.Legal.{highestOf}
 use Rattle.readings.specs.Days.{seriesAnswer}
-use Rattle.readings.proofs.Runs.{len-is, quarter-is, run-all, period-run}
+use Rattle.readings.proofs.Runs.{usual-len, usual-quarter, run-all, period-run}
 use Rattle.readings.proofs.Days.{series-legal}
 use Rattle.sheet.specs.declared.Sheet.{Sheet}
 use Rattle.sheet.specs.Windows.{windowPlaces}
@@ -57,20 +58,30 @@ pub grid-long : length gridSeries ≡ runReadings gridRun
 unfolding gridSeries
 grid-long = series-long gridRun gridReading (runDays gridRun) ∙ run-all gridRun
 
+-- a day that is no Sunday of a clock change: position p stands for quarter p
+usual : dayLen gridRun 136 ≡ dayQuarters
+usual = usual-len gridRun 136 refl refl
+
+order : (p : ℕ) → quarterOf gridRun 136 p ≡ p
+order p = usual-quarter gridRun 136 p usual
+
 -- quarter 72 of that day
 there : isAt gridRun otherDay 72 136 72 ≡ true
-there = at-there gridRun otherDay 72 136 72 (sym day-is) (sym (quarter-is gridRun 136 72))
+there = at-there gridRun otherDay 72 136 72 (sym day-is) (order 72)
 
 elsewhere : (d p : ℕ) → (d ≡ 136 → p ≡ 72 → ⊥) → isAt gridRun otherDay 72 d p ≡ false
-elsewhere d p other = at-other gridRun otherDay 72 d p (λ a b. other (omega (arith, day-is)) (quarter-is gridRun d p ∙ b))
+elsewhere d p other =
+    at-other gridRun otherDay 72 d p (λ a b.
+    let e : d ≡ 136 = omega (arith, day-is) in
+    other e (sym (order p) ∙ ap (λ (k : ℕ). quarterOf gridRun k p) (sym e) ∙ b))
 
 one-other : OneOther gridRun gridSeries (runDays gridRun) 1000 2000 136 72
 one-other =
     record {
       on-in = omega (arith, days);
-      at-in = omega (arith, len-is gridRun 136);
+      at-in = omega (arith, usual);
       low = omega arith;
-      there = reads 136 72 (omega (arith, days)) (omega (arith, len-is gridRun 136)) ∙ ap (λ (b : Bool). cond b 2000 1000) there;
+      there = reads 136 72 (omega (arith, days)) (omega (arith, usual)) ∙ ap (λ (b : Bool). cond b 2000 1000) there;
       elsewhere = λ d p l m other. reads d p l m ∙ ap (λ (b : Bool). cond b 2000 1000) (elsewhere d p other);
     }
 
@@ -89,6 +100,12 @@ days-in : (k : ℕ) → k < 4 → getD seasonDays k 0 < 366
 unfolding allOver joined
 days-in k l = ltb-true _ _ (all-at (λ i. ltb (getD seasonDays i 0) 366) 4 refl k l)
 
+days-usual : (k : ℕ) → k < 4 → dayLen gridRun (getD seasonDays k 0) ≡ dayQuarters
+unfolding allOver joined
+days-usual k l =
+    usual-len gridRun (getD seasonDays k 0)
+    (all-at (λ i. outside 205 212 (getD seasonDays i 0)) 4 refl k l) (all-at (λ i. outside 53 60 (getD seasonDays i 0)) 4 refl k l)
+
 -- so its curves are those of case 12
 abbrev curve : ℕ → ℕ
 curve i = curveAt 2025 gridSeries (runDays gridRun) (i / dayQuarters + 1) (i % dayQuarters)
@@ -104,15 +121,15 @@ curve-is i l = go (ℕ-discrete i 72)
 
     go : Dec (i ≡ 72) → cond (eqb i 72) 2000 1000 ≡ curve i
     go (yes e) =
-        rw e (sym (rw (seasons-are 0 (omega arith), ← quarter-is gridRun 136 72) at (curve-there 2025 one-other)))
+        rw e (sym (rw (seasons-are 0 (omega arith), order 72) at (curve-there 2025 one-other)))
     go (no e) =
         rw (ne-eqb i 72 e)
         (sym (curve-else 2025 one-other (k + 1) p (getD seasonDays k 0) p
         (omega (arith, days, days-in k (omega arith)))
-        (omega (arith, len-is gridRun (getD seasonDays k 0)))
+        (omega (arith, days-usual k (omega arith)))
         (seasons-are k (omega arith))
-        (sym (quarter-is gridRun (getD seasonDays k 0) p))
-        (λ a b. e (omega (arith, a, b, seasons-are 0 (omega arith), quarter-is gridRun 136 72)))))
+        (usual-quarter gridRun (getD seasonDays k 0) p (days-usual k (omega arith)))
+        (λ a b. e (omega (arith, a, b, seasons-are 0 (omega arith), order 72)))))
 
 curves-table : exampleCurves ≡ table (λ i. cond (eqb i 72) 2000 1000) windowPlaces
 unfolding table joined

@@ -4,9 +4,9 @@
 use mathlib.Core.Path.{_≡_, refl, sym, ap, _∙_}
 use mathlib.Core.Bool.{Bool, true, false, cond}
 use mathlib.Core.List.{List, [], _∷_, _++_}
-use Prim.Native.Nat.{ℕ, _+_, _≤_}
+use Prim.Native.Nat.{ℕ, _+_}
 use lib.Dec.{eqb}
-use lib.ListN.{length, take}
+use lib.ListN.{take}
 use lib.Seq.{take-add}
 use Rattle.ranges.proofs.Tables.{table-none, table-more}
 use Rattle.answers.specs.Said.{Said, after}
@@ -15,7 +15,7 @@ use Rattle.readings.specs.declared.Run.{Run}
 use Rattle.readings.specs.Runs.{dayLen, dayStart}
 use Rattle.readings.specs.Part.{dayPart}
 use Rattle.readings.proofs.Runs.{start-none, start-more}
-use Rattle.readings.proofs.Part.{part-of}
+use Rattle.readings.proofs.Part.{Held, part-of}
 
 module _ {S : Type 0} (step : S → List ℕ → S) where
   offered-more : (days : List (List ℕ)) (s : S) (day : List ℕ) → offered step s (days ++ (day ∷ [])) ≡ step (offered step s days) day
@@ -60,7 +60,7 @@ module _ (run : Run) (xs : List ℕ) where
 
   pub part-more :
       (n : ℕ)
-      → dayStart run n + dayLen run n ≤ length xs
+      → Held run xs n
       → take (dayStart run n) xs ++ dayPart run xs (n + 1) ≡ take (dayStart run (n + 1)) xs
   part-more n h =
       ap (λ (day : List ℕ). take (dayStart run n) xs ++ day) (part-of run xs n h)

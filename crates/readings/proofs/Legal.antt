@@ -17,7 +17,8 @@ use Rattle.ranges.proofs.Tests.{Passed, any-at, any-fails, any-cong, all-passed
 use Rattle.ranges.proofs.First.{first-fails, first-at, any-first, any-above}
 use Rattle.dates.specs.Dates.{mostDays}
 use Rattle.readings.specs.declared.Run.{Run}
-use Rattle.readings.specs.Runs.{runDays, dayLen, dayStart, reading}
+use Rattle.readings.specs.declared.Change.{Change}
+use Rattle.readings.specs.Runs.{runDays, changeOf, lenBy, startBy, dayLen, dayStart, readingBy, reading}
 use Rattle.readings.specs.Legal.{illegal, highestOf, firstAbove, dayPeak, peakOf, badIn, badAt, badDay, firstIllegal}
 
 -- a reading of the first n days is at most their peak
@@ -67,19 +68,49 @@ module _ (limit : ℕ) (xs : List ℕ) where
       go (yes l) = absurd (omega (arith, h, highest-illegal l))
       go (no l) = omega arith
 
--- a run: a search through its days and through the positions of a day
-module _ (run : Run) (limit : ℕ) (xs : List ℕ) where
+-- a search through days and through the positions of a day, whichever are the two Sundays
+module _ (c : Change) (limit : ℕ) (xs : List ℕ) where
   abbrev pub badFrom : ℕ → ℕ → Bool
-  badFrom d p = illegal limit (reading run xs d p)
+  badFrom d p = illegal limit (readingBy c xs d p)
+
+  abbrev pub badBy : ℕ → Bool
+  badBy d = anyOver (badFrom d) (lenBy c d)
 
   -- a position more without an illegal reading
-  pub legal-more : (d : ℕ) {p i : ℕ} → Passed (badFrom d) p → i ≡ dayStart run d + p → getD xs i 0 ≤ limit → Passed (badFrom d) (p + 1)
+  pub legal-more : (d : ℕ) {p i : ℕ} → Passed (badFrom d) p → i ≡ startBy c d + p → getD xs i 0 ≤ limit → Passed (badFrom d) (p + 1)
   legal-more d {p} {i} h e v = passed-more h (rw e at (le-ltb limit (getD xs i 0) v))
 
   -- a day without one, and a day more
-  pub day-legal : (d : ℕ) {p : ℕ} → Passed (badIn run limit xs) d → Passed (badFrom d) p → dayLen run d ≤ p → Passed (badIn run limit xs) (d + 1)
+  pub day-legal : (d : ℕ) {p : ℕ} → Passed badBy d → Passed (badFrom d) p → lenBy c d ≤ p → Passed badBy (d + 1)
+  day-legal d {p} h g l = passed-more h (any-fails (badFrom d) (lenBy c d) (λ k b. g .fails k (omega arith)))
+
+  -- what the search keeps before day d, and before position p of that day
+  pub record Searching (days day position d : ℕ) : Type 0 where
+    pub some : d ≤ days
+    pub few : days ≤ mostDays
+    pub no-day : day ≡ 0
+    pub no-position : position ≡ 0
+    pub passed : Passed badBy d
+
+  pub record InDay (days day position d start len p : ℕ) : Type 0 where
+    pub outer : Searching days day position d
+    pub less : d < days
+    pub from : start ≡ startBy c d
+    pub low : start ≤ 100 * d
+    pub size : len ≡ lenBy c d
+    pub most : len ≤ 100
+    pub upto : p ≤ len
+    pub legal : Passed (badFrom d) p
+
+-- a run
+module _ (run : Run) (limit : ℕ) (xs : List ℕ) where
+  abbrev at : ℕ → ℕ → Bool
+  at = badFrom (changeOf run) limit xs
+
+  -- by its own Sundays the search is the run's
+  pub own-search : {c : Change} {d : ℕ} → c ≡ changeOf run → Passed (badBy c limit xs) d → Passed (badIn run limit xs) d
   unfolding badIn
-  day-legal d {p} h g l = passed-more h (any-fails (badFrom d) (dayLen run d) (λ k b. g .fails k (omega arith)))
+  own-search e h = rw e at h
 
   -- the search is through
   pub illegal-none : {d : ℕ} → Passed (badIn run limit xs) d → runDays run ≤ d → record { day = 0; position = 0 } ≡ firstIllegal run limit xs
@@ -89,14 +120,14 @@ module _ (run : Run) (limit : ℕ) (xs : List ℕ) where
       simp (e, le-ltb (runDays run) (runDays run) (omega arith))
 
   -- the search has found
-  bad-here : (d p : ℕ) → p < dayLen run d → badFrom d p ≡ true → badIn run limit xs d ≡ true
+  bad-here : (d p : ℕ) → p < dayLen run d → at d p ≡ true → badIn run limit xs d ≡ true
   unfolding badIn
-  bad-here d p m t = any-at (badFrom d) (dayLen run d) p m t
+  bad-here d p m t = any-at (at d) (dayLen run d) p m t
 
   pub illegal-found :
       {d p i : ℕ}
       → Passed (badIn run limit xs) d
-      → Passed (badFrom d) p
+      → Passed (at d) p
       → d < runDays run
       → p < dayLen run d
       → i ≡ dayStart run d + p
@@ -104,10 +135,10 @@ module _ (run : Run) (limit : ℕ) (xs : List ℕ) where
       → record { day = d + 1; position = p } ≡ firstIllegal run limit xs
   unfolding firstIllegal badDay badAt
   illegal-found {d} {p} {i} h g l m e v =
-      let here : badFrom d p ≡ true = rw e at (lt-ltb limit (getD xs i 0) v) in
-      let at = first-at (badFrom d) (dayLen run d) p m here (g .fails) in
+      let here : at d p ≡ true = rw e at (lt-ltb limit (getD xs i 0) v) in
+      let position = first-at (at d) (dayLen run d) p m here (g .fails) in
       let day = first-at (badIn run limit xs) (runDays run) d l (bad-here d p m here) (h .fails) in
-      simp (day, at, lt-ltb d (runDays run) l)
+      simp (day, position, lt-ltb d (runDays run) l)
 
   -- a day is bad exactly where its peak is above the limit, and so is a run
   pub bad-peak : (d : ℕ) → badIn run limit xs d ≡ ltb limit (dayPeak run xs d)
@@ -131,22 +162,3 @@ module _ (run : Run) (limit : ℕ) (xs : List ℕ) where
   pub illegal-at : limit < peakOf run xs (runDays run) → firstIllegal run limit xs .day ≡ badDay run limit xs + 1
   unfolding firstIllegal
   illegal-at h = simp (lt-ltb (badDay run limit xs) (runDays run) (peak-illegal h))
-
-  -- what the search keeps before day d, and before position p of that day
-  pub record Searching (days day position d : ℕ) : Type 0 where
-    pub some : d ≤ days
-    pub all : days ≡ runDays run
-    pub few : days ≤ mostDays
-    pub no-day : day ≡ 0
-    pub no-position : position ≡ 0
-    pub passed : Passed (badIn run limit xs) d
-
-  pub record InDay (days day position d start len p : ℕ) : Type 0 where
-    pub outer : Searching days day position d
-    pub less : d < days
-    pub from : start ≡ dayStart run d
-    pub low : start ≤ 100 * d
-    pub size : len ≡ dayLen run d
-    pub most : len ≤ 100
-    pub upto : p ≤ len
-    pub legal : Passed (badFrom d) p

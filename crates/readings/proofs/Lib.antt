@@ -1,4 +1,8 @@
+pub mod Spans
+pub mod Quarters
 pub mod Runs
+pub mod Near
+pub mod Plain
 pub mod Part
 pub mod Legal
 pub mod Illegal

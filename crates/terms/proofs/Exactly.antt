@@ -2,16 +2,20 @@
 -- Assumes nothing.
 use mathlib.Core.Path.{_≡_, refl, sym, ap, _∙_}
 use mathlib.Core.Logic.{_↔_, ⊎-elim}
+use mathlib.Core.Bool.{false}
 use Prim.Native.Nat.{ℕ}
 use native.Mathlib.Decide.{ℕ-discrete}
 use native.Mathlib.Omega.{arith}
 use borrow.Author.Tests.{ne-eqb}
 use Rattle.ranges.proofs.Bools.{decided, refutes}
+use Rattle.answers.specs.Ruling.{yearOut}
+use Rattle.answers.proofs.Laws.{charge-year}
 use Rattle.answers.specs.Said.{Said, only}
 use Rattle.holidays.specs.Holidays.{badHolidays}
 use Rattle.holidays.proofs.Lists.{legal-holidays}
 use Rattle.sheet.specs.Answers.{readAnswer, ReadSaid, readOf}
 use Rattle.sheet.specs.Rows.{ReadRow}
+use Rattle.sheet.specs.Rows.ReadRow.{malformed, one, two, full, zero}
 use Rattle.sheet.proofs.Answered.{read-taken}
 use Rattle.sheet.proofs.Exactly.{read-exactly, read-zero}
 use Rattle.tariff.specs.Prices.{pricesOut}
@@ -85,3 +89,14 @@ module _ (k : Basis) where
   pub open-meaning : {s : ReadSaid} → s ≡ readOf (k .sheet) → only 0 ≡ customerOpenAnswer k → s .sheet ≡ basisSheet k
   open-meaning shown e =
       ap (λ (x : ReadSaid). x .sheet) (shown ∙ sym (read-taken (k .sheet) (accepted (open-legal (number e) .read))))
+
+  -- so its year is allowed
+  pub open-allowed : customerOpenAnswer k ≡ only 0 → yearOut (basisYear k) ≡ false
+  open-allowed e = go (open-legal (ap (λ (a : Said). a .number) e) .read) refl
+    where
+      go : {n : ℕ} → ReadRow (k .sheet) n → n ≡ 0 → yearOut (basisYear k) ≡ false
+      go (malformed f) q = absurd (omega arith)
+      go (one f y) q = absurd (omega arith)
+      go (two f y l) q = absurd (omega arith)
+      go (full f y l w) q = absurd (omega arith)
+      go (zero f y l w) q = charge-year (basisYear k) .1 y

@@ -12,7 +12,8 @@ use Rattle.answers.specs.Ruling.{dayQuarters}
 use Rattle.dates.specs.Dates.{monthLeft, seasonOf}
 use Rattle.dates.proofs.Seasons.{season-range, season-stays}
 use Rattle.readings.specs.declared.Run.the-variants.{Year}
-use Rattle.readings.specs.Runs.{dayLen, quarterOf}
+use Rattle.readings.specs.declared.Change.{Change}
+use Rattle.readings.specs.Runs.{changeOf, dayLen, quarterOf}
 use Rattle.readings.proofs.Runs.{quarter-in}
 use Rattle.sheet.specs.Windows.{quarterPlace}
 use Rattle.sheet.proofs.Windows.{set-at}
@@ -56,27 +57,28 @@ module _ (y : ℕ) (windows : List Bool) (d p : ℕ) (l : p < dayLen (Year y) d)
       ∙ set-at windows s q (season-range y (d + 1)) h
 
   -- the season's row, on a day with this flag
-  pub flag-counts : (flag : Bool) → inRow (Year y) (rowIf flag (seasonRow windows (seasonOf y (d + 1)))) d p ≡ countsOn y flag windows d p
+  pub flag-counts : (flag : Bool) → inRow (dayLen (Year y) d) (rowIf flag (seasonRow windows (seasonOf y (d + 1)))) p ≡ countsOn y flag windows d p
   flag-counts false = refl
   flag-counts true = season-counts
 
   -- the day's own row
   pub row-counts :
       (carrying : List Bool)
-      → inRow (Year y) (dayRow y carrying windows d) d p ≡ countsOn y (getD carrying d false) windows d p
+      → inRow (dayLen (Year y) d) (dayRow y carrying windows d) p ≡ countsOn y (getD carrying d false) windows d p
   unfolding dayRow
   row-counts carrying = flag-counts (getD carrying d false)
 
 -- so taking a day in by its row is taking in what counts
 pub row-taken :
-    (y : ℕ) (carrying windows : List Bool) (d : ℕ) {row : List Bool} (f : Figures) (at : ℕ → ℕ)
+    (y : ℕ) (carrying windows : List Bool) (d : ℕ) {row : List Bool} {n : ℕ} (f : Figures) (at : ℕ → ℕ)
     → row ≡ dayRow y carrying windows d
-    → withDay f (Year y) d row at
-    ≡ takenIn f (d + 1) (recordOf (Year y) (λ k. countsOn y (getD carrying k false) windows k) d at)
-row-taken y carrying windows d f at e =
-    ap (λ (r : List Bool). withDay f (Year y) d r at) e
+    → n ≡ dayLen (Year y) d
+    → withDay f n d row at ≡ takenIn f (d + 1) (recordOf (dayLen (Year y) d) (countsOn y (getD carrying d false) windows d) at)
+row-taken y carrying windows d f at e l =
+    let len = dayLen (Year y) d in
+    (λ i. withDay f (l i) d (e i) at)
     ∙ ap (takenIn f (d + 1))
-    (record-cong (Year y) (inRow (Year y) (dayRow y carrying windows d)) _ d at at (λ p l. row-counts y windows d p l carrying) (λ p l. refl))
+    (record-cong len (inRow len (dayRow y carrying windows d)) _ at at (λ p m. row-counts y windows d p m carrying) (λ p m. refl))
 
 -- n days of one month from day d, from 0, on: their flags, and the row of its season, which all of them have
 module _ (y : ℕ) (carrying windows : List Bool) (d n : ℕ) (left : n ≤ monthLeft y (d + 1) + 1) where
@@ -88,19 +90,22 @@ module _ (y : ℕ) (carrying windows : List Bool) (d n : ℕ) (left : n ≤ mont
         (k p : ℕ)
         → k < n
         → p < dayLen (Year y) (d + k)
-        → inRow (Year y) (rowIf (getD flags k false) row) (d + k) p ≡ countsOn y (getD carrying (d + k) false) windows (d + k) p
+        → inRow (dayLen (Year y) (d + k)) (rowIf (getD flags k false) row) p ≡ countsOn y (getD carrying (d + k) false) windows (d + k) p
     month-counts k p l m =
         let on : d + 1 + k ≡ d + k + 1 = omega arith in
         let season = sym (season-stays y (d + 1) k (omega arith)) ∙ ap (seasonOf y) on in
         let flag = getD-take n (drop d carrying) k false l ∙ getD-drop d carrying k false in
-        ap (λ (b : Bool). inRow (Year y) (rowIf b row) (d + k) p) flag
-        ∙ ap (λ (r : List Bool). inRow (Year y) (rowIf (getD carrying (d + k) false) r) (d + k) p)
+        let len = dayLen (Year y) (d + k) in
+        ap (λ (b : Bool). inRow len (rowIf b row) p) flag
+        ∙ ap (λ (r : List Bool). inRow len (rowIf (getD carrying (d + k) false) r) p)
         (is ∙ ap (seasonRow windows) season)
         ∙ flag-counts y windows (d + k) p m (getD carrying (d + k) false)
 
     pub month-taken :
-        (xs : List ℕ) {f : Figures}
+        (xs : List ℕ) {change : Change} {f : Figures}
+        → change ≡ changeOf (Year y)
         → f ≡ figuresIn y carrying windows xs d
-        → withDays f (Year y) d flags row xs n ≡ figuresIn y carrying windows xs (d + n)
-    month-taken xs e =
-        days-figures _ (Year y) d flags row xs (λ k. countsOn y (getD carrying k false) windows k) e n (λ k l p m. month-counts k p l m)
+        → withDays f change d flags row xs n ≡ figuresIn y carrying windows xs (d + n)
+    month-taken xs c e =
+        rw c
+        (days-figures _ (Year y) d flags row xs (λ k. countsOn y (getD carrying k false) windows k) e n (λ k l p m. month-counts k p l m))

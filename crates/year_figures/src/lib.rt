@@ -53,7 +53,7 @@ pub fn day_row<'a>(
 }
 
 // The figures of a year's series, or 4 for a series of another length. Month by month, since all days of a month have
-// the windows of one season.
+// the windows of one season. The year's two Sundays of the clock change are worked out once, and handed on.
 pub fn year_figures<'a>(
     year: u16,
     carrying: &'a [bool; dates::MOST_DAYS],
@@ -64,14 +64,16 @@ pub fn year_figures<'a>(
 {
     let all = &carrying[..];
     let mut figures = tariff::NO_FIGURES;
+    let days = dates::year_days(year);
+    let change = readings::change_of(Run::Year(year));
     let mut d = 0;
-    while d < dates::year_days(year) {
+    while d < days {
         let next = d + 1 + dates::month_left(year, d + 1);
         let start = d as usize;
         let end = next as usize;
         let flags = &all[start..end];
         let row = season_row(year, d, windows);
-        let taking = day_figures::take_days(figures, Run::Year(year), d, flags, row, series);
+        let taking = day_figures::take_days(figures, days, change, d, flags, row, series);
         let Taking::Taken(more) = taking else {
             return YearFigures::WrongLength;
         };

@@ -39,12 +39,19 @@ pub fn season_of_month(month: usize) -> usize {
     SEASON_OF_MONTH[month - 1]
 }
 
-/// From 0 for Monday to 6 for Sunday; the day counts from 1. 1 January 2014 was a Wednesday.
+/// From 0 for Monday to 6 for Sunday; the day counts from 1. 1 January 2014 was a Wednesday, and so 1 January 2012, the
+/// first of the years that a reference period has days of, a Sunday.
 pub fn weekday(year: u16, day: u16) -> u16 {
     let leap_years_to = |year: u32| year / 4 - year / 100 + year / 400;
-    let leaps = leap_years_to(year as u32 - 1) - leap_years_to(2013);
-    let days = 365 * (year as u32 - 2014) + leaps + day as u32 - 1;
-    ((days + 2) % 7) as u16
+    let leaps = leap_years_to(year as u32 - 1) - leap_years_to(2011);
+    let days = 365 * (year as u32 - 2012) + leaps + day as u32 - 1;
+    ((days + 6) % 7) as u16
+}
+
+/// The last Sunday of a month of 31 days, as a day of the year.
+pub fn last_sunday(year: u16, month: usize) -> u16 {
+    let last = day_of(year, month, 31);
+    last - (weekday(year, last) + 1) % 7
 }
 
 pub fn holidays_allowed(year: u16, holidays: &[u16]) -> bool {

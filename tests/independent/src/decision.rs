@@ -1,8 +1,9 @@
 //! A customer's year and the decision (Rules 6.1 to 7.7): over a whole series, and day by day.
 
 use crate::calendar::{carrying_days, holidays_allowed, season_of_month, year_days, year_seasons, LONGEST_YEAR};
+use crate::layout::Sundays;
 use crate::sheet::Sheet;
-use crate::{first_above, Refusal, QUARTERS};
+use crate::{bad_day, first_above, Refusal, QUARTERS};
 
 /// W
 pub const CUSTOMER_LIMIT: u32 = 1_000_000_000;
@@ -118,6 +119,12 @@ impl Figures {
         self.sum += sum(day);
     }
 
+    /// A Sunday of the clock change: no Sunday carries windows.
+    fn take_sunday(&mut self, day: &[u32]) {
+        self.peak = day.iter().copied().fold(self.peak, u32::max);
+        self.sum += day.iter().map(|&reading| reading as u64).sum::<u64>();
+    }
+
     /// A day that carries windows, in a season that has some.
     fn take_in_window(&mut self, number: u16, day: &[u32; QUARTERS], mask: &[u32; QUARTERS]) {
         let reading = highest_masked(day, mask);
@@ -135,6 +142,7 @@ pub struct Terms {
     sheet: Sheet,
     option: bool,
     prices: Prices,
+    sundays: Sundays,
     carries: [bool; LONGEST_YEAR],
     masks: [[u32; QUARTERS]; 4],
 }
@@ -150,7 +158,8 @@ impl Terms {
             return Err(Refusal::Price);
         }
         let masks = sheet.seasons.map(|quarters| quarters.mask());
-        Ok(Terms { sheet, option, prices: *prices, carries: carrying_days(sheet.year, holidays), masks })
+        let sundays = Sundays::of_year(sheet.year);
+        Ok(Terms { sheet, option, prices: *prices, sundays, carries: carrying_days(sheet.year, holidays), masks })
     }
 
     fn days(&self) -> u16 {
@@ -160,11 +169,14 @@ impl Terms {
     /// The figures of a series that has the year's length.
     fn figures(&self, series: &[u32]) -> Figures {
         let mut figures = Figures::default();
-        let mut days = series.chunks_exact(QUARTERS).zip(self.carries).zip(1..);
+        let mut days = self.sundays.days(series).zip(self.carries).zip(1..);
         for (season, length) in year_seasons(self.sheet.year) {
             let has_windows = !self.sheet.seasons[season - 1].is_empty();
             for ((readings, carries), number) in days.by_ref().take(length as usize) {
-                let Ok(day) = <&[u32; QUARTERS]>::try_from(readings) else { continue };
+                let Ok(day) = <&[u32; QUARTERS]>::try_from(readings) else {
+                    figures.take_sunday(readings);
+                    continue;
+                };
                 figures.take(day);
                 if carries && has_windows {
                     figures.take_in_window(number, day, &self.masks[season - 1]);
@@ -190,7 +202,7 @@ pub fn decide(sheet: &[u8], option: bool, holidays: &[u16], prices: &Prices, ser
     }
     let figures = terms.figures(series);
     if figures.peak > CUSTOMER_LIMIT {
-        return Decision::Refused(first_above(series, CUSTOMER_LIMIT).unwrap_or(Refusal::Length));
+        return Decision::Refused(first_above(terms.sundays, series, CUSTOMER_LIMIT).unwrap_or(Refusal::Length));
     }
     terms.decide(&figures)
 }
@@ -220,18 +232,24 @@ impl CustomerDays {
         if self.taken >= terms.days() {
             return Err(Refusal::Sequence);
         }
-        let Ok(day) = <&[u32; QUARTERS]>::try_from(readings) else {
-            return Err(Refusal::Length);
-        };
         let number = self.taken + 1;
-        if highest(day) > CUSTOMER_LIMIT {
-            let quarter = day.iter().position(|&reading| reading > CUSTOMER_LIMIT).unwrap_or(0) as u8;
-            return Err(Refusal::Reading { day: number, quarter });
+        if readings.len() != terms.sundays.length(number) {
+            return Err(Refusal::Length);
         }
-        self.figures.take(day);
-        let season = season_of_month(self.month) - 1;
-        if terms.carries[self.taken as usize] && !terms.sheet.seasons[season].is_empty() {
-            self.figures.take_in_window(number, day, &terms.masks[season]);
+        if let Ok(day) = <&[u32; QUARTERS]>::try_from(readings) {
+            if highest(day) > CUSTOMER_LIMIT {
+                return Err(bad_day(number, day, CUSTOMER_LIMIT));
+            }
+            self.figures.take(day);
+            let season = season_of_month(self.month) - 1;
+            if terms.carries[self.taken as usize] && !terms.sheet.seasons[season].is_empty() {
+                self.figures.take_in_window(number, day, &terms.masks[season]);
+            }
+        } else {
+            if readings.iter().any(|&reading| reading > CUSTOMER_LIMIT) {
+                return Err(bad_day(number, readings, CUSTOMER_LIMIT));
+            }
+            self.figures.take_sunday(readings);
         }
         let year = terms.sheet.year;
         self.taken = number;

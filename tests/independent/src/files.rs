@@ -1,13 +1,14 @@
 //! What each program prints for the bytes of a file (Rules 10.1 to 10.7).
 
-use crate::calendar::{holidays_allowed, year_allowed, MOST_HOLIDAYS};
+use crate::calendar::{holidays_allowed, year_allowed, year_days, MOST_HOLIDAYS};
 use crate::decision::{CustomerDays, Decision, InWindow, Prices, Row, CAPACITY_LIMIT, ENERGY_LIMIT};
+use crate::layout::Sundays;
 use crate::sheet::{level_allowed, Quarters, Sheet, MOST_WINDOWS, SHEET_BYTES, VERSION};
 use crate::windows::GridDays;
 use crate::{Refusal, QUARTERS};
 use std::fmt::Write;
 
-pub const DAY_BYTES: usize = 4 * QUARTERS;
+pub const READING_BYTES: usize = 4;
 
 /// The bytes that are left to read. A field that the end cuts off is 12.
 struct Reader<'a> {
@@ -57,13 +58,9 @@ impl<'a> Reader<'a> {
         Ok((year, level))
     }
 
-    fn day(&mut self) -> Result<[u32; QUARTERS], Refusal> {
-        let bytes = self.field(DAY_BYTES).map_err(|_| Refusal::Length)?;
-        let mut day = [0; QUARTERS];
-        for (reading, field) in day.iter_mut().zip(bytes.chunks_exact(4)) {
-            *reading = u32::from_be_bytes([field[0], field[1], field[2], field[3]]);
-        }
-        Ok(day)
+    fn day(&mut self, length: usize) -> Result<Vec<u32>, Refusal> {
+        let bytes = self.field(length * READING_BYTES).map_err(|_| Refusal::Length)?;
+        Ok(bytes.chunks_exact(READING_BYTES).map(|field| u32::from_be_bytes([field[0], field[1], field[2], field[3]])).collect())
     }
 
     fn end(&self) -> Result<(), Refusal> {
@@ -81,8 +78,9 @@ fn grid_sheet(bytes: &[u8]) -> Result<Sheet, Refusal> {
     let (year, level) = file.year_and_level()?;
     let (opened, mut state) = GridDays::open(year, level);
     opened?;
-    for _ in 0..state.days() {
-        state.day(&file.day()?)?;
+    let sundays = Sundays::of_period(year);
+    for day in 1..=state.days() {
+        state.day(&file.day(sundays.length(day))?)?;
     }
     file.end()?;
     state.close(&mut [0; SHEET_BYTES])
@@ -147,8 +145,9 @@ fn customer_decision(bytes: &[u8]) -> Result<Decision, Refusal> {
     let prices = Prices { low: row_fields(&mut file)?, high: row_fields(&mut file)? };
     let (opened, mut state) = CustomerDays::open(sheet, option, &holidays, &prices);
     opened?;
-    for _ in 0..crate::calendar::year_days(year) {
-        state.day(&file.day()?)?;
+    let sundays = Sundays::of_year(year);
+    for day in 1..=year_days(year) {
+        state.day(&file.day(sundays.length(day))?)?;
     }
     file.end()?;
     Ok(state.close())
@@ -186,7 +185,7 @@ fn sheet_text(sheet: &Sheet) -> String {
 
 fn refusal_text(refusal: Refusal) -> String {
     match refusal {
-        Refusal::Reading { day, quarter } => format!("5 {day} {quarter}\n"),
+        Refusal::Reading { day, position } => format!("5 {day} {position}\n"),
         other => format!("{}\n", other.number()),
     }
 }

@@ -1,16 +1,19 @@
 //! A second implementation of the rules (docs/RULES.md): what the two programs must print, for any file. It was written
-//! from the rules alone, in an earlier wording of them, and not from the code.
+//! from the rules alone, in an earlier wording of them, and moved by the requests that changed them, not by the code.
 //! The comparison (tests/compare) holds the proved programs to it, and the benchmark (bench/run) measures beside it.
 
 pub mod calendar;
 pub mod decision;
 pub mod files;
+pub mod layout;
 pub mod sheet;
 pub mod windows;
 
 pub mod making;
 
-/// Readings of a day: quarters count from 0 to 95 (Rule 2.4).
+use layout::Sundays;
+
+/// Quarters of a day: they count from 0 to 95. All days of a year but two have one reading for each (layout).
 pub const QUARTERS: usize = 96;
 
 /// The numbered answers without charge figures (Rule 8.1).
@@ -20,7 +23,11 @@ pub enum Refusal {
     Level,
     Holidays,
     Length,
-    Reading { day: u16, quarter: u8 },
+    /// day from 1, position in the day from 0
+    Reading {
+        day: u16,
+        position: u8,
+    },
     Price,
     ZeroPeak,
     Malformed,
@@ -45,8 +52,18 @@ impl Refusal {
     }
 }
 
-/// The first reading of a series above its limit, by day from 1 and quarter from 0.
-pub fn first_above(series: &[u32], limit: u32) -> Option<Refusal> {
+/// The first reading of a series above its limit.
+pub fn first_above(sundays: Sundays, series: &[u32], limit: u32) -> Option<Refusal> {
     let at = series.iter().position(|&reading| reading > limit)?;
-    Some(Refusal::Reading { day: (at / QUARTERS + 1) as u16, quarter: (at % QUARTERS) as u8 })
+    let mut day = 1;
+    while sundays.start(day + 1) <= at {
+        day += 1;
+    }
+    Some(Refusal::Reading { day, position: (at - sundays.start(day)) as u8 })
+}
+
+/// The refusal of a day that has a reading above the limit.
+pub fn bad_day(day: u16, readings: &[u32], limit: u32) -> Refusal {
+    let position = readings.iter().position(|&reading| reading > limit).unwrap_or(0) as u8;
+    Refusal::Reading { day, position }
 }

@@ -1,8 +1,9 @@
 //! The windows (Rules 4.1 to 4.7): of a whole grid series, and day by day.
 
 use crate::calendar::{period_days, period_months, season_of_month, year_allowed};
+use crate::layout::{quarters, Sundays};
 use crate::sheet::{level_allowed, Quarters, Sheet, MOST_WINDOWS, SHEET_BYTES};
-use crate::{first_above, Refusal, QUARTERS};
+use crate::{bad_day, first_above, Refusal, QUARTERS};
 
 /// kW
 pub const GRID_LIMIT: u32 = 200_000_000;
@@ -10,23 +11,30 @@ pub const GRID_LIMIT: u32 = 200_000_000;
 /// The curves of the four seasons, season 1 at place 0.
 pub type Curves = [[u32; QUARTERS]; 4];
 
-/// Takes whole days into the curve of their season.
-fn lay(curve: &mut [u32; QUARTERS], days: &[u32]) {
-    for day in days.chunks_exact(QUARTERS) {
-        for (highest, &reading) in curve.iter_mut().zip(day) {
-            *highest = (*highest).max(reading);
-        }
+fn raise(curve: &mut [u32], readings: &[u32]) {
+    for (highest, &reading) in curve.iter_mut().zip(readings) {
+        *highest = (*highest).max(reading);
     }
+}
+
+/// Takes a day into the curve of its season: of a quarter that comes twice both readings.
+fn lay(curve: &mut [u32; QUARTERS], readings: &[u32]) {
+    if let Ok(day) = <&[u32; QUARTERS]>::try_from(readings) {
+        return raise(curve, day);
+    }
+    let [before, after] = quarters(readings.len());
+    let (first, second) = readings.split_at(before.len());
+    raise(&mut curve[before], first);
+    raise(&mut curve[after], second);
 }
 
 /// The curves of a series that has the period's length.
 pub fn curves(year: u16, series: &[u32]) -> Curves {
     let mut curves = [[0; QUARTERS]; 4];
-    let mut left = series;
-    for (month, days) in period_months(year) {
-        let (part, rest) = left.split_at(days as usize * QUARTERS);
-        lay(&mut curves[season_of_month(month) - 1], part);
-        left = rest;
+    let mut days = Sundays::of_period(year).days(series);
+    for (month, length) in period_months(year) {
+        let curve = &mut curves[season_of_month(month) - 1];
+        days.by_ref().take(length as usize).for_each(|day| lay(curve, day));
     }
     curves
 }
@@ -87,7 +95,7 @@ pub fn windows(year: u16, level: u8, series: &[u32], buffer: &mut [u8]) -> Resul
     }
     let curves = curves(year, series);
     if highest(&curves) > GRID_LIMIT {
-        return Err(first_above(series, GRID_LIMIT).unwrap_or(Refusal::Length));
+        return Err(first_above(Sundays::of_period(year), series, GRID_LIMIT).unwrap_or(Refusal::Length));
     }
     let sheet = sheet_of(year, level, &curves)?;
     sheet.write(buffer);
@@ -101,6 +109,7 @@ pub struct GridDays {
     level: u8,
     taken: u16,
     days: u16,
+    sundays: Sundays,
     /// the season (from 0) of the next day, and how many days of its month are left
     season: u8,
     month_left: u16,
@@ -109,7 +118,8 @@ pub struct GridDays {
 
 impl GridDays {
     /// The state of a refused opening: each day is 13, and so is closing (Rule 9.5).
-    const REFUSED: GridDays = GridDays { year: 0, level: 0, taken: 1, days: 0, season: 0, month_left: 0, curves: [[0; QUARTERS]; 4] };
+    const REFUSED: GridDays =
+        GridDays { year: 0, level: 0, taken: 1, days: 0, sundays: Sundays { short: 0, long: 0 }, season: 0, month_left: 0, curves: [[0; QUARTERS]; 4] };
 
     pub fn open(year: u16, level: u8) -> (Result<(), Refusal>, GridDays) {
         if !year_allowed(year) {
@@ -120,7 +130,8 @@ impl GridDays {
         }
         let (month, month_left) = period_months(year)[0];
         let season = season_of_month(month) as u8 - 1;
-        (Ok(()), GridDays { year, level, taken: 0, days: period_days(year), season, month_left, ..GridDays::REFUSED })
+        let (days, sundays) = (period_days(year), Sundays::of_period(year));
+        (Ok(()), GridDays { year, level, taken: 0, days, sundays, season, month_left, ..GridDays::REFUSED })
     }
 
     pub fn days(&self) -> u16 {
@@ -131,16 +142,19 @@ impl GridDays {
         if self.taken >= self.days {
             return Err(Refusal::Sequence);
         }
-        let Ok(day) = <&[u32; QUARTERS]>::try_from(readings) else {
+        let number = self.taken + 1;
+        if readings.len() != self.sundays.length(number) {
             return Err(Refusal::Length);
-        };
-        let highest = day.iter().copied().max().unwrap_or(0);
-        if highest > GRID_LIMIT {
-            let quarter = day.iter().position(|&reading| reading > GRID_LIMIT).unwrap_or(0) as u8;
-            return Err(Refusal::Reading { day: self.taken + 1, quarter });
         }
-        lay(&mut self.curves[self.season as usize], day);
-        self.taken += 1;
+        let highest = match <&[u32; QUARTERS]>::try_from(readings) {
+            Ok(day) => day.iter().copied().max(),
+            Err(_) => readings.iter().copied().max(),
+        };
+        if highest.unwrap_or(0) > GRID_LIMIT {
+            return Err(bad_day(number, readings, GRID_LIMIT));
+        }
+        lay(&mut self.curves[self.season as usize], readings);
+        self.taken = number;
         self.month_left -= 1;
         if self.month_left == 0 && self.taken < self.days {
             self.next_month();

@@ -3,6 +3,7 @@
 use independent::calendar::{carrying_days, day_of, weekday};
 use independent::decision::{judge, CustomerDays, Decision, Figures, InWindow, Prices, Row};
 use independent::files::{decision_text, statement_program, window_program};
+use independent::layout::Sundays;
 use independent::windows::{above_line, kept_quarters, windows, GridDays};
 use independent::{Refusal, QUARTERS};
 
@@ -28,10 +29,11 @@ fn bytes_of(readings: &[u32]) -> Vec<u8> {
     readings.iter().flat_map(|reading| reading.to_be_bytes()).collect()
 }
 
-/// The grid file of the example: 15 January 2024 is day 122 + 15 of the period, from 1.
+/// The grid file of the example: 15 January 2024 is day 122 + 15 of the period, from 1, and 29 October 2023 before it
+/// has four readings more than other days.
 fn example_grid() -> Vec<u8> {
     let mut readings = vec![1_000; 366 * QUARTERS];
-    readings[(122 + 14) * QUARTERS + 72] = 2_000;
+    readings[(122 + 14) * QUARTERS + 4 + 72] = 2_000;
     let mut file = b"GRD\x00\x01\x07\xe9\x05".to_vec();
     file.extend(bytes_of(&readings));
     file
@@ -128,8 +130,9 @@ fn case_12() {
 fn case_13() {
     let (opened, mut state) = CustomerDays::open(&example_sheet(), false, &[], &PRICES);
     assert!(opened.is_ok());
-    for _ in 0..365 {
-        assert_eq!(state.day(&[0; QUARTERS]), Ok(()));
+    let sundays = Sundays::of_year(2025);
+    for day in 1..=365 {
+        assert_eq!(state.day(&vec![0; sundays.length(day)]), Ok(()));
     }
     assert_eq!(decision_text(&state.close()), "10 0 0 0 0 2 72\n");
     for year in [2013, 2029] {

@@ -2,6 +2,7 @@
 
 use independent::calendar::{period_days, year_days};
 use independent::decision::{decide, CustomerDays, Decision, Prices, Row};
+use independent::layout::Sundays;
 use independent::making::Random;
 use independent::sheet::{Quarters, Sheet};
 use independent::windows::{windows, GridDays};
@@ -25,7 +26,7 @@ fn grid() {
         let expected = windows(year, 3, &series, &mut whole);
         let (_, mut state) = GridDays::open(year, 3);
         assert_eq!(state.day(&[0; 95]), Err(Refusal::Length));
-        let refused = series.chunks(QUARTERS).find_map(|day| state.day(day).err());
+        let refused = Sundays::of_period(year).days(&series).find_map(|day| state.day(day).err());
         assert_eq!(refused.map_or_else(|| state.close(&mut by_days), Err), expected);
         assert_eq!(whole, by_days);
         if refused.is_none() {
@@ -49,7 +50,7 @@ fn customer() {
         let expected = decide(&sheet, true, &[3, 7], &prices, &series);
         let (_, mut state) = CustomerDays::open(&sheet, true, &[3, 7], &prices);
         assert_eq!(state.close(), Decision::Refused(Refusal::Sequence));
-        let refused = series.chunks(QUARTERS).find_map(|day| state.day(day).err());
+        let refused = Sundays::of_year(year).days(&series).find_map(|day| state.day(day).err());
         assert_eq!(refused.map_or_else(|| state.close(), Decision::Refused), expected);
     }
 }

@@ -14,7 +14,7 @@ use Rattle.dates.specs.Dates.{yearDays}
 use Rattle.readings.specs.declared.Run.the-variants.{Year}
 use Rattle.readings.specs.Runs.{runDays, dayLen}
 use Rattle.readings.specs.Days.{nextAnswer}
-use Rattle.readings.proofs.Runs.{len-most, year-run, span-len}
+use Rattle.readings.proofs.Runs.{len-most, year-run}
 use Rattle.readings.proofs.Legal.{found-illegal, none-illegal}
 use Rattle.readings.proofs.Days.{next-out, next-length, next-bad, next-taken}
 use Rattle.customer_days.specs.Days.{sumMost}
@@ -39,10 +39,10 @@ left e =
 
 long :
     (e : tie.Else3)
-    → let spanned = e .before .before in
+    → let spanned = e .before in
     let a = spanned .before .before .before .before .before .args in
     length (a .day .now) ≡ dayLen (Year (a .year)) (a .seen)
-long e = e .if3 .left ∙ span-len _ _ (e .before .before .day-span .ensures)
+long e = e .if3 .left ∙ e .before .day-len .ensures
 
 returns : tie.Need-returns
 returns c = rw (lt-ltb (sumMost (c .before .before .args .seen)) (c .before .before .args .sum) (omega arith))
@@ -54,24 +54,24 @@ returns-2 c =
 
 returns-3 : tie.Need-returns-3
 returns-3 c =
-    let spanned = c .before .before in
+    let spanned = c .before in
     let is-left = spanned .before in
     let a = is-left .before .before .before .before .args in
     fair (is-left .before .before)
     (next-length (Year (a .year)) customerMost (a .seen) (a .day .now) (left is-left)
-    (λ e. c .if3 .taken (e ∙ sym (span-len _ _ (spanned .day-span .ensures)))))
+    (λ e. c .if3 .taken (e ∙ sym (spanned .day-len .ensures))))
 
 cast-t14 : tie.Need-cast-t14
 cast-t14 c =
     let fits = c .before .before in
-    let is-left = fits .before .before .before in
+    let is-left = fits .before .before in
     let a = is-left .before .before .before .before .args in
     omega (arith, long fits, len-most (Year (a .year)) (a .seen))
 
 returns-4 : tie.Need-returns-4
 returns-4 c =
     let fits = c .before .before in
-    let is-left = fits .before .before .before in
+    let is-left = fits .before .before in
     let a = is-left .before .before .before .before .args in
     let first = c .before .first-above .ensures in
     let bad = found-illegal customerMost (a .day .now) (omega (arith, first)) in
@@ -81,7 +81,7 @@ returns-4 c =
 returns-5 : tie.Need-returns-5
 returns-5 c =
     let fits = c .before .before in
-    let is-left = fits .before .before .before in
+    let is-left = fits .before .before in
     let a = is-left .before .before .before .before .args in
     let none = none-illegal customerMost (a .day .now) (omega (arith, c .before .first-above .ensures)) in
     fair (is-left .before .before)
@@ -95,7 +95,7 @@ day-answer-spec =
     returns
     (λ c κs. search needs)  -- year-days-requires
     returns-2
-    (λ c κs. search needs)  -- day-span-requires
+    (λ c κs. search needs)  -- day-len-requires
     returns-3
     (λ c κs. search needs)  -- first-above-requires
     (λ c. omega arith)  -- add-t13

@@ -10,7 +10,6 @@ pub days-out-spec : {M : Type 1} → statement M
 days-out-spec =
     tie.close
     (tie.spec
-    (λ c κs. search needs)  -- run-days-requires
     (λ c. out-days _ _ _ _ (omega arith))  -- returns
     (λ c. search needs)  -- cast-if2
     (λ c. out-days _ _ _ _ (omega arith))  -- returns-2

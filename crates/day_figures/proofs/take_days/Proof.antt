@@ -1,14 +1,15 @@
--- `day_figures::take_days` meets its contract. The loop's invariant: the first k days are taken in.
+-- `day_figures::take_days` meets its contract. The loop's invariant: the first k days are taken in, and the next one
+-- stands at `start`.
 -- Assumes nothing.
-use mathlib.Core.Path.{_≡_, sym, ap, _∙_}
+use mathlib.Core.Path.{_≡_, refl, sym, ap, _∙_}
 use mathlib.Core.Bool.{false}
 use Prim.Native.Nat.{_+_, _-_, _≤_, _<_}
 use native.Mathlib.Omega.{arith}
 use borrow.Author.Needs.{needs}
 use lib.ListN.{length, take, drop}
-use Rattle.readings.specs.declared.Run.{Run}
-use Rattle.readings.specs.Runs.{runDays, dayLen, runReadings}
-use Rattle.readings.proofs.Runs.{run-held, days-most, len-most, span-start, span-len}
+use Rattle.readings.specs.Runs.{lenBy, startBy}
+use Rattle.readings.proofs.Spans.{lens-over, starts-more, starts-most, starts-below}
+use Rattle.readings.proofs.Runs.{span-start}
 use Rattle.readings.proofs.Part.{cut-at, cut-long}
 use Rattle.tariff.specs.declared.Figures.{Figures}
 use Rattle.day_figures.specs.declared.Taking.the-variants.{Taken}
@@ -19,150 +20,135 @@ use Rattle.day_figures.proofs.take_days.Statement.{statement}
 use Rattle.day_figures.proofs.take_days.Tie as tie
 
 abbrev Inv-loop : tie.InvT-loop
-Inv-loop run from flags row series some masks figures₀ k₀ k-end figures k =
-    (k ≤ length flags) × (figures ≡ withDays figures₀ run from flags row series k)
+Inv-loop days change from flags row series masks some figures₀ start₀ k₀ k-end figures start k =
+    (k ≤ length flags) × (start ≡ startBy change (from + k)) × (figures ≡ withDays figures₀ change from flags row series k)
 
 abbrev μ-loop : tie.MeasureT-loop
-μ-loop run from flags row series some masks figures₀ k₀ k-end figures k = length flags - k
+μ-loop days change from flags row series masks some figures₀ start₀ k₀ k-end figures start k = length flags - k
 
--- the days are not answered 13, nor 4
-in-at :
-    (n : tie.Else1 Inv-loop μ-loop)
-    → let a = n .before .before .before .before .before .args in
-    daysOut (a .run) (a .from) (length (a .flags .now)) (a .f .sum) ≡ false
+-- where the call begins, and where it is known that the days are not answered 13, nor 4
+abbrev first : tie.Else1 Inv-loop μ-loop → tie.Start Inv-loop μ-loop
+first n = n .before .before .before .before .before
+
+abbrev fits : tie.At-loop Inv-loop μ-loop → tie.Else2 Inv-loop μ-loop
+fits l = l .before .before .before .before .before
+
+abbrev begun : tie.At-loop Inv-loop μ-loop → tie.Start Inv-loop μ-loop
+begun l = first (fits l .before .before .before)
+
+in-at : (n : tie.Else1 Inv-loop μ-loop) → let a = first n .args in daysOut (a .days) (a .from) (length (a .flags .now)) (a .f .sum) ≡ false
 in-at n = sym (n .before .days-out .ensures) ∙ n .if1 .left
 
 series-long :
     (o : tie.Else2 Inv-loop μ-loop)
-    → let n = o .before .before in
-    let a = n .before .before .before .before .before .args in
-    length (a .series .now) ≡ runReadings (a .run)
-series-long o = omega arith
+    → let a = first (o .before .before .before) .args in
+    length (a .series .now) ≡ startBy (a .change) (a .days)
+series-long o = o .if2 .left ∙ span-start _ _ (o .before .before .span-by .ensures)
 
--- the run
-abbrev run-of : tie.In-loop Inv-loop μ-loop → Run
-run-of i =
-    let o = i .before .before .before .before .before in
-    let n = o .before .before in
-    n .before .before .before .before .before .args .run
+-- a day of the loop is one of the series', its number fits 16 bits, and the sum has room for it
+day-left : (i : tie.In-loop Inv-loop μ-loop) → let a = begun (i .before) .args in a .from + i .before .loop .k < a .days
+day-left i = omega (arith, has-room _ _ _ _ (in-at (fits (i .before) .before .before .before)) .left)
 
--- a day of the loop is one of the run's, and the sum has room for it
-day-left :
-    (i : tie.In-loop Inv-loop μ-loop)
-    → let o = i .before .before .before .before .before in
-    let n = o .before .before in
-    let a = n .before .before .before .before .before .args in
-    a .from + i .before .loop .k < runDays (a .run)
-day-left i =
-    let o = i .before .before .before .before .before in
-    let n = o .before .before in
-    omega (arith, has-room _ _ _ _ (in-at n) .left)
+numbered : (i : tie.In-loop Inv-loop μ-loop) → begun (i .before) .args .from + i .before .loop .k < 65535
+numbered i = omega (arith, day-left i, begun (i .before) .fits .days .fits)
 
 day-room : (i : tie.In-loop Inv-loop μ-loop) → i .before .loop .figures .sum + dayMost < sumEnd
 day-room i =
     let at = i .before .loop in
-    let o = i .before .before .before .before .before in
-    let n = o .before .before in
-    let known = n .before .before in
-    let a = known .before .before .before .args in
-    let is = ap (λ (f : Figures). f .sum) (at .inv .1) in
-    let small = known .shared-slice-known3 .given in
+    let n = fits (i .before) .before .before .before in
+    let a = first n .args in
+    let is = ap (λ (f : Figures). f .sum) (at .inv .2) in
+    let small = n .before .before .shared-slice-known3 .given in
     omega (
       arith,
       has-room _ _ _ _ (in-at n) .roomy,
       is,
-      days-sum (a .f) (a .run) (a .from) (a .flags .now) (a .row .now) (a .series .now) (λ j. omega (arith, small j)) (at .k),
+      days-sum (a .f) (a .change) (a .from) (a .flags .now) (a .row .now) (a .series .now) (λ j. omega (arith, small j)) (at .k),
     )
 
--- its readings stand within the series, and are as many as the run says
+-- its readings stand within the series, so that their places fit 64 bits
 held :
-    (e : tie.After-struct-known Inv-loop μ-loop)
-    → let i = e .before .before in
-    let o = i .before .before .before .before .before in
-    let n = o .before .before in
-    let a = n .before .before .before .before .before .args in
-    e .before .day-span .result .start + e .before .day-span .result .len ≤ length (a .series .now)
+    (e : tie.After-len-by Inv-loop μ-loop)
+    → let l = e .before .before in
+    (l .loop .start + e .len-by .result ≤ length (begun l .args .series .now)) × (l .loop .start + e .len-by .result ≤ 6553500)
 held e =
-    let i = e .before .before in
-    let o = i .before .before .before .before .before in
-    let n = o .before .before in
-    let a = n .before .before .before .before .before .args in
-    let is = e .before .day-span .ensures in
-    omega (arith, series-long o, span-start _ _ is, span-len _ _ is, run-held (a .run) (a .from + i .before .loop .k) (day-left i))
+    let l = e .before .before in
+    let s = begun l in
+    let a = s .args in
+    let long = series-long (fits l) in
+    let below = starts-below (a .change) (a .days) (a .from + l .loop .k) (day-left (e .before)) in
+    let inside : l .loop .start + e .len-by .result ≤ length (a .series .now) = omega (arith, long, below, l .loop .inv .1, e .len-by .ensures) in
+    (inside, omega (arith, inside, long, starts-most (a .change) (a .days), s .fits .days .fits))
 
+-- and are as many as it has
 day-long :
-    (e : tie.After-struct-known Inv-loop μ-loop)
-    → let i = e .before .before in
-    let o = i .before .before .before .before .before in
-    let n = o .before .before in
-    let a = n .before .before .before .before .before .args in
-    let span = e .before .day-span .result in
-    length (take (span .start + span .len - span .start) (drop (span .start) (a .series .now)))
-    ≡ dayLen (a .run) (a .from + i .before .loop .k)
+    (e : tie.After-len-by Inv-loop μ-loop)
+    → let l = e .before .before in
+    let a = begun l .args in
+    let start = l .loop .start in
+    length (take (start + e .len-by .result - start) (drop start (a .series .now))) ≡ lenBy (a .change) (a .from + l .loop .k)
 day-long e =
-    let i = e .before .before in
-    let o = i .before .before .before .before .before in
-    let n = o .before .before in
-    let a = n .before .before .before .before .before .args in
-    let span = e .before .day-span .result in
-    let is = e .before .day-span .ensures in
-    cut-long (a .run) (a .series .now) (a .from + i .before .loop .k) {size = span .start + span .len - span .start}
-    (span-start _ _ is) (omega (arith, span-len _ _ is)) (omega (arith, held e))
+    let l = e .before .before in
+    let a = begun l .args in
+    let start = l .loop .start in
+    cut-long (a .series .now) {size = start + e .len-by .result - start} {start = start} {len = lenBy (a .change) (a .from + l .loop .k)} refl
+    (omega (arith, e .len-by .ensures)) (omega (arith, held e .0))
 
-plain-day-requires : tie.Need-plain-day-requires Inv-loop μ-loop
-plain-day-requires c κs =
-    let e = c .before in
-    let i = e .before .before in
-    let o = i .before .before .before .before .before in
-    let n = o .before .before in
-    let a = n .before .before .before .before .before .args in
-    (omega (arith, day-long e, len-most (a .run) (a .from + i .before .loop .k)), day-room i)
-
-take-fit-requires : tie.Need-take-fit-requires Inv-loop μ-loop
-take-fit-requires c κs =
-    let p = c .before .before in
-    let e = p .before .before in
-    let i = e .before .before in
-    let l = i .before .before in (
-      record { on = day-left i; long = day-long e; next-is = p .plain-day .ensures },
-      l .before .before .masks-of .ensures,
-      l .some-left .ensures,
+take-any-requires : tie.Need-take-any-requires Inv-loop μ-loop
+take-any-requires c κs =
+    let e = c .before .before .before in
+    let l = e .before .before in
+    let a = begun l .args in
+    let left = l .before .before in (
+      numbered (e .before),
+      lens-over (a .change) (a .from + l .loop .k) (day-long e),
+      day-room (e .before),
+      left .before .before .masks-of .ensures,
+      left .some-left .ensures,
     )
 
 add-k : tie.Need-add-k Inv-loop μ-loop
 add-k c =
-    let p = c .before .before .before in
-    let i = p .before .before .before .before in
-    omega (arith, day-left i, days-most (run-of i))
+    let day = c .before .before .before in
+    omega (arith, numbered (day .before .before))
 
 loop-again : tie.Need-loop-again Inv-loop μ-loop
 loop-again c =
-    let p = c .before .before .before in
-    let e = p .before .before in
-    let i = e .before .before in
-    let at = i .before .loop in
-    let o = i .before .before .before .before .before in
-    let n = o .before .before in
-    let a = n .before .before .before .before .before .args in
-    let span = e .before .day-span .result in
-    let is = e .before .day-span .ensures in
-    let size = span .start + span .len - span .start in
-    let part = cut-at (a .run) (a .series .now) (a .from + at .k) {size = size} (span-start _ _ is) (omega (arith, span-len _ _ is)) in (
+    let day = c .before .before .before in
+    let e = day .before in
+    let l = e .before .before in
+    let at = l .loop in
+    let a = begun l .args in
+    let size = at .start + e .len-by .result - at .start in
+    let part = cut-at (a .series .now) {size = size} {len = lenBy (a .change) (a .from + at .k)} (at .inv .1) (omega (arith, e .len-by .ensures)) in
+    let on : a .from + at .k + 1 ≡ a .from + (at .k + 1) = omega arith in (
       omega arith,
-      c .take-fit .ensures
-          ∙ days-more (a .f) (a .run) (a .from) (a .flags .now) (a .row .now) (a .series .now) (at .k)
-          (take size (drop (span .start) (a .series .now))) (at .inv .1) part,
+      omega (arith, at .inv .1, e .len-by .ensures, starts-more (a .change) (a .from + at .k), ap (startBy (a .change)) on),
+      c .take-any .ensures
+          ∙ days-more (a .f) (a .change) (a .from) (a .flags .now) (a .row .now) (a .series .now) (at .k)
+          (take size (drop (at .start) (a .series .now))) (at .inv .2) (day-long e) part,
     )
+
+returns-2 : tie.Need-returns-2 Inv-loop μ-loop
+returns-2 c =
+    let start = span-start _ _ (c .before .before .span-by .ensures) in
+    days-other _ _ _ _ _ _ _ (in-at (c .before .before .before)) (λ l. c .if2 .taken (l ∙ sym start))
+
+loop-holds : tie.Need-loop-holds Inv-loop μ-loop
+loop-holds c =
+    let o = c .before .before .before .before in
+    let a = first (o .before .before .before) .args in
+    let none : a .from ≡ a .from + 0 = omega arith in
+    (omega arith, span-start _ _ (c .span-by2 .ensures) ∙ ap (startBy (a .change)) none, days-none _ _ _ _ _ _)
 
 returns-3 : tie.Need-returns-3 Inv-loop μ-loop
 returns-3 c =
-    let at = c .before .loop in
-    let o = c .before .before .before .before .before in
-    let n = o .before .before in
-    let a = n .before .before .before .before .before .args in
+    let l = c .before in
+    let at = l .loop in
+    let a = begun l .args in
     let all : at .k ≡ length (a .flags .now) = omega arith in
-    ap Taken (at .inv .1 ∙ ap (withDays (a .f) (a .run) (a .from) (a .flags .now) (a .row .now) (a .series .now)) all)
-    ∙ days-fit _ _ _ _ _ _ (in-at n) (series-long o)
+    ap Taken (at .inv .2 ∙ ap (withDays (a .f) (a .change) (a .from) (a .flags .now) (a .row .now) (a .series .now)) all)
+    ∙ days-fit _ _ _ _ _ _ _ (in-at (fits l .before .before .before)) (series-long (fits l))
 
 pub take-days-spec : {M : Type 1} → statement M
 take-days-spec =
@@ -171,23 +157,23 @@ take-days-spec =
     Inv-loop
     μ-loop
     (λ c κs. search needs)  -- days-out-requires
-    (λ c. days-out _ _ _ _ _ _ (sym (c .before .days-out .ensures) ∙ c .if1 .taken))  -- returns
-    (λ c κs. search needs)  -- run-readings-requires
-    (λ c. days-other _ _ _ _ _ _ (in-at (c .before .before)) (λ l. omega arith))  -- returns-2
+    (λ c. days-out _ _ _ _ _ _ _ (sym (c .before .days-out .ensures) ∙ c .if1 .taken))  -- returns
+    (λ c κs. search needs)  -- span-by-requires
+    returns-2
     (λ c κs. search needs)  -- masks-of-requires
     (λ c κs. search needs)  -- some-left-requires
-    (λ c. (omega arith, days-none _ _ _ _ _ _))  -- loop-holds
-    (λ c. omega (arith, day-left c, days-most (run-of c)))  -- cast-d
-    (λ c. omega (arith, day-left c, days-most (run-of c)))  -- add-d
-    (λ c κs. search needs)  -- day-span-requires
+    (λ c κs. search needs)  -- span-by-requires-2
+    loop-holds
+    (λ c. omega (arith, numbered c))  -- cast-d
+    (λ c. omega (arith, numbered c))  -- add-d
+    (λ c κs. search needs)  -- len-by-requires
     (λ c. let h = held c in omega arith)  -- add-end
     (λ c. let h = held c in omega arith)  -- mul-day
     (λ c. search needs)  -- sub-day
     (λ c. search needs)  -- part-day-start
-    (λ c. let h = held c in search needs)  -- part-day-end
-    plain-day-requires
-    (λ c. search needs)  -- shared-slice-read-take-fit
-    take-fit-requires
+    (λ c. held c .0)  -- part-day-end
+    (λ c. search needs)  -- shared-slice-read-take-any
+    take-any-requires
     add-k
     (λ c. search needs)  -- loop-less
     loop-again

@@ -2,7 +2,9 @@
 -- Assumes nothing.
 use mathlib.Core.Path.{refl, sym, ap, _∙_}
 use mathlib.Core.Bool.{Bool, _&&_}
+use native.Mathlib.Omega.{arith}
 use borrow.Author.Needs.{needs}
+use lib.ListN.{length}
 use Rattle.ranges.proofs.Bools.{both}
 use Rattle.day_figures.specs.Day.{alone, inRow, withDay, rowIf}
 use Rattle.day_figures.specs.Passes.{someLeft}
@@ -15,7 +17,7 @@ returns c =
     let a = c .before .before .before .before .args in
     let set = both (a .flag) _ (c .before .if1 .taken) .0 in
     c .take-masked .ensures
-    ∙ ap (λ (b : Bool). withDay (a .f) (a .run) (a .d) (rowIf b (a .row .now)) (alone (a .day .now))) (sym set)
+    ∙ ap (λ (b : Bool). withDay (a .f) (length (a .day .now)) (a .d) (rowIf b (a .row .now)) (alone (a .day .now))) (sym set)
 
 returns-2 : tie.Need-returns-2
 returns-2 c =
@@ -23,9 +25,10 @@ returns-2 c =
     let a = s .args in
     let fits = s .pre .0 in
     let some = s .pre .2 ∙ ap someLeft (s .pre .1) in
-    let none = counts-none (a .run) (a .row .now) (a .d) (a .flag) (ap (λ (b : Bool). a .flag && b) (sym some) ∙ c .if1 .left) in
+    let off = ap (λ (b : Bool). a .flag && b) (sym some) ∙ c .if1 .left in
+    let none = counts-none (length (a .day .now)) (a .row .now) (a .flag) (λ h. absurd (omega (arith, h, fits .usual))) off in
     fits .next-is
-    ∙ taken-none (a .run) (inRow (a .run) (rowIf (a .flag) (a .row .now))) (a .d) (a .day .now) (fits .long) (a .f) refl none
+    ∙ taken-none (inRow (length (a .day .now)) (rowIf (a .flag) (a .row .now))) (a .d) (a .day .now) (a .f) refl none
 
 pub take-fit-spec : {M : Type 1} → statement M
 take-fit-spec =

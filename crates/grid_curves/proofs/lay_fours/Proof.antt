@@ -1,8 +1,8 @@
 -- `grid_curves::lay_fours` meets its contract. The loop's invariant: the curves are those of the first d days, and
 -- `at` is where day d stands.
 -- Assumes nothing.
-use mathlib.Core.Path.{_≡_, sym, _∙_}
-use Prim.Native.Nat.{_≤_, _<_, _+_, _-_}
+use mathlib.Core.Path.{_≡_, _∙_}
+use Prim.Native.Nat.{_≤_, _+_, _-_}
 use native.Mathlib.Omega.{arith}
 use borrow.Author.Needs.{needs}
 use borrow.Author.Tests.{leb-true}
@@ -12,7 +12,8 @@ use Rattle.periods.specs.Period.{periodSeason}
 use Rattle.periods.proofs.Periods.{period-most, period-season-range}
 use Rattle.readings.specs.declared.Run.the-variants.{Period}
 use Rattle.readings.specs.Runs.{dayStart}
-use Rattle.readings.proofs.Runs.{start-most, start-formula, span-start}
+use Rattle.readings.proofs.Near.{own-span}
+use Rattle.readings.proofs.Runs.{start-most, usual-on, span-start}
 use Rattle.grid_curves.specs.Curves.{flatCurves}
 use Rattle.grid_curves.specs.Four.{fourDays}
 use Rattle.grid_curves.proofs.Fours.{four-more}
@@ -44,7 +45,10 @@ four e =
     (leb-true _ _ (t .0), leb-true _ _ (t .1))
 
 loop-holds : tie.Need-loop-holds Inv-loop μ-loop
-loop-holds c = (omega arith, omega arith, span-start _ _ (c .day-span .ensures), c .before .before .pre .3)
+loop-holds c =
+    let s = c .before .before in
+    let is = c .span-by .ensures ∙ own-span (Period (s .args .year)) (s .args .from) (s .pre .2) in
+    (omega arith, omega arith, span-start _ _ is, s .pre .4)
 
 lay-four-requires : tie.Need-lay-four-requires Inv-loop μ-loop
 lay-four-requires c κs =
@@ -52,8 +56,8 @@ lay-four-requires c κs =
     let s = turn .before .before .before .before in
     let a = s .args in
     let r = period-season-range (a .year) (a .from + 1) in
-    let is : periodSeason (a .year) (a .from + 1) ≡ a .season = s .pre .2 (a .from) (omega arith) (s .pre .0) in
     let h = four turn in
+    let is : periodSeason (a .year) (a .from + 1) ≡ a .season = s .pre .3 (a .from) (omega arith) (omega arith) .0 in
     (simp (length-take, length-drop) (omega arith), omega (arith, is), omega (arith, is))
 
 loop-again : tie.Need-loop-again Inv-loop μ-loop
@@ -63,10 +67,10 @@ loop-again c =
     let s = turn .before .before .before .before in
     let a = s .args in
     let h = four turn in
-    let on = start-formula (Period (a .year)) in
+    let on = usual-on (Period (a .year)) (at .d) 4 (λ k l. s .pre .3 (at .d + k) (omega arith) (omega arith) .1) in
     let laid = four-more (a .year) (a .series .now) (at .d) (a .season) {size = at .at + fourDays - at .at} (at .inv .2)
-    (omega arith) (λ k l. s .pre .2 (at .d + k) (omega arith) (omega arith)) (at .inv .3) in
-    (omega arith, h .0, omega (arith, on (at .d), on (at .d + 4)), c .lay-four .ensures ∙ laid)
+    (omega arith) (λ k l. s .pre .3 (at .d + k) (omega arith) (omega arith)) (at .inv .3) in
+    (omega arith, h .0, omega (arith, on), c .lay-four .ensures ∙ laid)
 
 pub lay-fours-spec : {M : Type 1} → statement M
 lay-fours-spec =
@@ -74,7 +78,7 @@ lay-fours-spec =
     (tie.spec
     Inv-loop
     μ-loop
-    (λ c κs. search needs)  -- day-span-requires
+    (λ c κs. search needs)  -- span-by-requires
     loop-holds
     (λ c. let h = near c in omega arith)  -- add-loop
     (λ c. let h = near c in omega arith)  -- add-loop-2

@@ -6,15 +6,16 @@ use native.Mathlib.Omega.{arith}
 use borrow.Author.Needs.{needs}
 use Rattle.periods.specs.Period.{periodDays, periodSeason, periodLeft}
 use Rattle.periods.proofs.Periods.{period-most, period-stays, period-room}
+use Rattle.readings.proofs.Spans.{len-usual}
 use Rattle.grid_curves.specs.Curves.{flatCurves}
 use Rattle.grid_curves.proofs.lay_month.Statement.{statement}
 use Rattle.grid_curves.proofs.lay_month.Tie as tie
 
 abbrev Inv-loop : tie.InvT-loop
-Inv-loop curves₀ year from series season end d₀ curves d = (from ≤ d) × (d ≤ end) × (curves ≡ flatCurves year series d)
+Inv-loop curves₀ year change from series season end usual d₀ curves d = (from ≤ d) × (d ≤ end) × (curves ≡ flatCurves year series d)
 
 abbrev μ-loop : tie.MeasureT-loop
-μ-loop curves₀ year from series season end d₀ curves d = end - d
+μ-loop curves₀ year change from series season end usual d₀ curves d = end - d
 
 -- the days that are left of the month lie in the period
 room :
@@ -28,7 +29,7 @@ stays y from k a b =
     let e : k + 1 ≡ from + 1 + (k - from) = omega arith in
     ap (periodSeason y) e ∙ period-stays y (from + 1) (k - from) (omega arith)
 
--- so have the days up to the month's end
+-- so the days up to the month's end are in both
 record Month (e : tie.After-period-left Inv-loop μ-loop) : Type 0 where
   inside : e .before .before .before .args .from + 1 + e .period-left .result ≤ periodDays (e .before .before .before .args .year)
   alike :
@@ -50,27 +51,48 @@ month e =
 
 lay-fours-requires : tie.Need-lay-fours-requires Inv-loop μ-loop
 lay-fours-requires c κs =
-    let m = month (c .before) in
-    (omega arith, m .inside, m .alike, c .before .before .before .before .pre .1)
+    let stop = c .before in
+    let first = stop .before in
+    let m = month (first .before) in
+    let s = first .before .before .before .before in
+    let a = s .args in
+    let none = first .stop-at .ensures in
+    let usual = stop .stop-at2 .ensures in (
+      usual .at-least,
+      omega (arith, m .inside, none .at-most, usual .at-most),
+      s .pre .1,
+      λ k l h. (
+        m .alike k l (omega (arith, none .at-most, usual .at-most)),
+        rw (s .pre .1) at (len-usual (a .change) k (none .none k l (omega (arith, usual .at-most))) (usual .none k l h)),
+      ),
+      s .pre .2,
+    )
+
+loop-holds : tie.Need-loop-holds Inv-loop μ-loop
+loop-holds c =
+    let stop = c .before .before in
+    let h = c .lay-fours .ensures in
+    (h .from, omega (arith, h .upto, stop .stop-at2 .ensures .at-most, stop .before .stop-at .ensures .at-most), h .are)
 
 lay-held-requires : tie.Need-lay-held-requires Inv-loop μ-loop
 lay-held-requires c κs =
     let at = c .before .before in
-    let m = month (at .before .before .before) in
+    let e = at .before .before .before .before .before in
+    let m = month e in
     let inv = at .loop .inv in
-    (omega (arith, m .inside), sym (m .alike (at .loop .d) (inv .0) (omega arith)), inv .2)
+    (omega (arith, m .inside), sym (m .alike (at .loop .d) (inv .0) (omega arith)), e .before .before .before .pre .1, inv .2)
 
 add-d : tie.Need-add-d Inv-loop μ-loop
 add-d c =
-    let e = c .before .before .before .before in
-    let m = month (e .before .before) in
-    let few = period-most (e .before .before .before .before .before .args .year) in
-    omega (arith, m .inside)
+    let at = c .before .before .before in
+    let e = at .before .before .before .before .before in
+    let few = period-most (e .before .before .before .args .year) in
+    omega (arith, month e .inside)
 
 returns : tie.Need-returns Inv-loop μ-loop
 returns c =
     let at = c .before in
-    let m = month (at .before .before .before) in
+    let m = month (at .before .before .before .before .before) in
     record { from = omega arith; upto = omega (arith, m .inside); are = at .loop .inv .2 }
 
 pub lay-month-spec : {M : Type 1} → statement M
@@ -85,8 +107,10 @@ lay-month-spec =
     (λ c. let m = period-most (c .before .before .args .year) in omega arith)  -- add-period-left
     (λ c κs. search needs)  -- period-left-requires
     (λ c. let m = period-most (c .before .before .before .args .year) in let r = month c .inside in omega arith)  -- add-end-2
+    (λ c κs. omega arith)  -- stop-at-requires
+    (λ c κs. c .stop-at .ensures .at-least)  -- stop-at-requires-2
     lay-fours-requires
-    (λ c. let h = c .lay-fours .ensures in (h .from, h .upto, h .are))  -- loop-holds
+    loop-holds
     lay-held-requires
     add-d
     (λ c. search needs)  -- loop-less

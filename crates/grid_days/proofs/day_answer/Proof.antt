@@ -9,7 +9,7 @@ use Rattle.answers.specs.Ruling.{gridMost}
 use Rattle.periods.specs.Period.{periodDays}
 use Rattle.readings.specs.declared.Run.the-variants.{Period}
 use Rattle.readings.specs.Runs.{runDays, dayLen}
-use Rattle.readings.proofs.Runs.{len-most, period-run, span-len}
+use Rattle.readings.proofs.Runs.{len-most, period-run}
 use Rattle.readings.proofs.Legal.{found-illegal, none-illegal}
 use Rattle.readings.proofs.Days.{next-out, next-length, next-bad, next-taken}
 use Rattle.grid_days.proofs.day_answer.Statement.{statement}
@@ -24,10 +24,10 @@ left e =
 
 long :
     (e : tie.Else2)
-    → let spanned = e .before .before in
+    → let spanned = e .before in
     let a = spanned .before .before .before .before .args in
     length (a .day .now) ≡ dayLen (Period (a .year)) (a .seen)
-long e = e .if2 .left ∙ span-len _ _ (e .before .before .day-span .ensures)
+long e = e .if2 .left ∙ e .before .day-len .ensures
 
 returns : tie.Need-returns
 returns c =
@@ -36,22 +36,22 @@ returns c =
 
 returns-2 : tie.Need-returns-2
 returns-2 c =
-    let spanned = c .before .before in
+    let spanned = c .before in
     let a = spanned .before .before .before .before .args in
     next-length (Period (a .year)) gridMost (a .seen) (a .day .now) (left (spanned .before))
-    (λ e. c .if2 .taken (e ∙ sym (span-len _ _ (spanned .day-span .ensures))))
+    (λ e. c .if2 .taken (e ∙ sym (spanned .day-len .ensures)))
 
 cast-t11 : tie.Need-cast-t11
 cast-t11 c =
     let fits = c .before .before in
-    let is-left = fits .before .before .before in
+    let is-left = fits .before .before in
     let a = is-left .before .before .before .args in
     omega (arith, long fits, len-most (Period (a .year)) (a .seen))
 
 returns-3 : tie.Need-returns-3
 returns-3 c =
     let fits = c .before .before in
-    let is-left = fits .before .before .before in
+    let is-left = fits .before .before in
     let a = is-left .before .before .before .args in
     let first = c .before .first-above .ensures in
     let bad = found-illegal gridMost (a .day .now) (omega (arith, first)) in
@@ -60,7 +60,7 @@ returns-3 c =
 returns-4 : tie.Need-returns-4
 returns-4 c =
     let fits = c .before .before in
-    let is-left = fits .before .before .before in
+    let is-left = fits .before .before in
     let a = is-left .before .before .before .args in
     let none = none-illegal gridMost (a .day .now) (omega (arith, c .before .first-above .ensures)) in
     next-taken (Period (a .year)) gridMost (a .seen) (a .day .now) (left is-left) (long fits) none
@@ -71,7 +71,7 @@ day-answer-spec =
     (tie.spec
     (λ c κs. search needs)  -- period-days-requires
     returns
-    (λ c κs. search needs)  -- day-span-requires
+    (λ c κs. search needs)  -- day-len-requires
     returns-2
     (λ c κs. search needs)  -- first-above-requires
     (λ c. omega arith)  -- add-t10

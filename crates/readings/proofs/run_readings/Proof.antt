@@ -1,7 +1,10 @@
 -- `readings::run_readings` meets its contract: 96 readings a day.
 -- Assumes nothing.
+use mathlib.Core.Path.{sym, ap, _∙_}
+use Prim.Native.Nat.{ℕ, _*_}
 use borrow.Author.Needs.{needs}
-use Rattle.readings.proofs.Runs.{readings-formula}
+use Rattle.answers.specs.Ruling.{dayQuarters}
+use Rattle.readings.proofs.Runs.{keeps-length}
 use Rattle.readings.proofs.run_readings.Statement.{statement}
 use Rattle.readings.proofs.run_readings.Tie as tie
 
@@ -12,4 +15,4 @@ run-readings-spec =
     (λ c κs. search needs)  -- run-days-requires
     (λ c. search needs)  -- cast-result
     (λ c. search needs)  -- mul-result
-    (λ c. readings-formula _ _ (c .run-days .ensures)))
+    (λ c. ap (λ (n : ℕ). dayQuarters * n) (c .run-days .ensures) ∙ sym (keeps-length _)))

@@ -112,16 +112,15 @@ impl Header {
     }
 }
 
-fn some_series(random: &mut Random, sheet: &Sheet, holidays: &[u16], prices: &mut Prices) -> (&'static str, Vec<u32>) {
-    let year = Year::new(sheet.year, &sheet.seasons, holidays);
+fn some_series(random: &mut Random, level: u8, year: &Year, holidays: &[u16], prices: &mut Prices) -> (&'static str, Vec<u32>) {
     match random.below(20) {
         0..=9 => {
-            let (name, target) = some_target(random, sheet.level, prices);
-            (name, fitted(random, &year, &target))
+            let (name, target) = some_target(random, level, prices);
+            (name, fitted(random, year, &target))
         }
-        10..=16 => ("calendar probe", calendar_probe(random, &year, holidays)),
-        17 => ("flat", flat(random, &year)),
-        _ => ("noise", noise(random, &year)),
+        10..=16 => ("calendar probe", calendar_probe(random, year, holidays)),
+        17 => ("flat", flat(random, year)),
+        _ => ("noise", noise(random, year)),
     }
 }
 
@@ -129,18 +128,19 @@ pub fn customer_file(random: &mut Random) -> Made {
     let sheet = Sheet { year: some_year(random), level: random.between(1, 7) as u8, seasons: some_seasons(random) };
     let holidays = some_holidays(random, sheet.year);
     let mut prices = some_prices(random);
-    let (name, mut series) = some_series(random, &sheet, &holidays, &mut prices);
+    let year = Year::new(sheet.year, &sheet.seasons, &holidays);
+    let (name, mut series) = some_series(random, sheet.level, &year, &holidays, &mut prices);
     let mut recipe = format!("customer file, {name}");
     let mut header = Header::new(&sheet, random.percent(50), &holidays, &prices);
     if random.percent(15) {
         recipe += header.spoil(random, sheet.year);
     }
     if random.percent(6) {
-        spoil(random, &mut series, CUSTOMER_LIMIT);
+        spoil(random, year.sundays, &mut series, CUSTOMER_LIMIT);
         recipe += ", bad readings";
     }
     let (mut bytes, borders) = header.bytes();
-    let layout = Layout { borders, days: series.len() / QUARTERS, limit: CUSTOMER_LIMIT };
+    let layout = Layout { borders, days: year.days, sundays: year.sundays, limit: CUSTOMER_LIMIT };
     bytes.extend(series.iter().flat_map(|reading| reading.to_be_bytes()));
     if random.percent(35) {
         recipe += damage(random, &mut bytes, &layout);

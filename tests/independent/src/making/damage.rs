@@ -1,13 +1,19 @@
 //! Damage to a file's bytes: cuts, bytes too many, flipped bytes, a bad reading before a cut.
 
-use super::{illegal_reading, Random};
-use crate::files::DAY_BYTES;
+use super::{about_sundays, illegal_reading, some_position, Random};
+use crate::files::READING_BYTES;
+use crate::layout::Sundays;
+use crate::QUARTERS;
 
-/// Where a file's fields end, how many days follow, and the limit of its readings.
+/// Bytes of a usual day.
+const DAY_BYTES: u64 = (QUARTERS * READING_BYTES) as u64;
+
+/// Where a file's fields end, how many days follow, which of them are the two Sundays, and the limit of its readings.
 pub struct Layout {
     /// the end of each header field; the last is the end of the header
     pub borders: Vec<usize>,
-    pub days: usize,
+    pub days: u16,
+    pub sundays: Sundays,
     pub limit: u32,
 }
 
@@ -16,8 +22,9 @@ impl Layout {
         self.borders.last().copied().unwrap_or(0)
     }
 
-    fn day_start(&self, day: usize) -> usize {
-        self.header() + day * DAY_BYTES
+    /// Of a day from 1; the day after the last starts at the end.
+    fn day_start(&self, day: u16) -> usize {
+        self.header() + self.sundays.start(day) * READING_BYTES
     }
 }
 
@@ -27,10 +34,11 @@ fn beside(random: &mut Random, place: usize) -> usize {
 }
 
 fn cut_at_day(random: &mut Random, bytes: &mut Vec<u8>, layout: &Layout) {
-    let day = match random.below(3) {
-        0 => random.below(3) as usize,
-        1 => layout.days - random.below(2) as usize,
-        _ => random.below(layout.days as u64 + 1) as usize,
+    let day = match random.below(4) {
+        0 => random.between(1, 3) as u16,
+        1 => layout.days + random.below(2) as u16,
+        2 => about_sundays(random, layout.sundays),
+        _ => random.between(1, layout.days as u64 + 1) as u16,
     };
     bytes.truncate(beside(random, layout.day_start(day)));
 }
@@ -38,8 +46,8 @@ fn cut_at_day(random: &mut Random, bytes: &mut Vec<u8>, layout: &Layout) {
 fn lengthen(random: &mut Random, bytes: &mut Vec<u8>) {
     let more = match random.below(3) {
         0 => 1,
-        1 => DAY_BYTES as u64,
-        _ => random.between(1, 3 * DAY_BYTES as u64),
+        1 => DAY_BYTES,
+        _ => random.between(1, 3 * DAY_BYTES),
     };
     let byte = *random.pick(&[0, 10, 255]);
     bytes.extend((0..more).map(|_| byte));
@@ -53,15 +61,15 @@ fn flip(random: &mut Random, bytes: &mut [u8], to: usize) {
 /// A bad reading, and the file cut inside its day, at the day's end, or later.
 fn bad_then_cut(random: &mut Random, bytes: &mut Vec<u8>, layout: &Layout) {
     let day = match random.below(3) {
-        0 => layout.days - 1,
-        _ => random.below(layout.days as u64) as usize,
+        0 => layout.days,
+        1 => about_sundays(random, layout.sundays),
+        _ => random.between(1, layout.days as u64) as u16,
     };
-    let quarter = random.below(96) as usize;
-    let at = layout.day_start(day) + 4 * quarter;
-    bytes[at..at + 4].copy_from_slice(&illegal_reading(random, layout.limit).to_be_bytes());
+    let at = layout.day_start(day) + READING_BYTES * some_position(random, layout.sundays.length(day));
+    bytes[at..at + READING_BYTES].copy_from_slice(&illegal_reading(random, layout.limit).to_be_bytes());
     let end = layout.day_start(day + 1);
     match random.below(5) {
-        0 => bytes.truncate(random.between(at as u64 + 4, end as u64 - 1) as usize),
+        0 => bytes.truncate(random.between((at + READING_BYTES) as u64, end as u64 - 1) as usize),
         1 => bytes.truncate(end),
         2 => bytes.truncate(beside(random, end)),
         3 => bytes.truncate(random.between(end as u64, bytes.len() as u64) as usize),

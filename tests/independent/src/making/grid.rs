@@ -1,36 +1,52 @@
-//! Grid files: curves at the line, ties for the forty, peaks at the seasons' borders, bad readings.
+//! Grid files: curves at the line, ties for the forty, peaks at the seasons' borders and about the clock change, bad
+//! readings.
 
 use super::damage::{damage, Layout};
-use super::{near, some_year, spoil, Made, Random};
-use crate::calendar::{period_days, period_months, season_of_month, year_allowed};
+use super::{about_sundays, near, some_position, some_year, spoil, Made, Random};
+use crate::calendar::{period_months, season_of_month, year_allowed};
+use crate::layout::{quarters, Sundays};
 use crate::windows::GRID_LIMIT;
 use crate::QUARTERS;
 
 const HEADER_BORDERS: [usize; 4] = [3, 5, 7, 8];
 
+/// Days count from 1.
 struct Period {
-    days: usize,
-    /// the days (from 0) of each season
-    seasons: [Vec<usize>; 4],
+    days: u16,
+    sundays: Sundays,
+    /// the days of each season
+    seasons: [Vec<u16>; 4],
     /// the first and the last day of each month
-    borders: Vec<usize>,
+    borders: Vec<u16>,
 }
 
 impl Period {
     fn new(year: u16) -> Period {
-        let mut period = Period { days: 0, seasons: Default::default(), borders: Vec::new() };
+        let mut period = Period { days: 0, sundays: Sundays::of_period(year), seasons: Default::default(), borders: Vec::new() };
         for (month, length) in period_months(year) {
-            let (from, to) = (period.days, period.days + length as usize);
-            period.seasons[season_of_month(month) - 1].extend(from..to);
-            period.borders.extend([from, to - 1]);
-            period.days = to;
+            let (first, last) = (period.days + 1, period.days + length);
+            period.seasons[season_of_month(month) - 1].extend(first..=last);
+            period.borders.extend([first, last]);
+            period.days = last;
         }
         period
     }
 
+    fn readings(&self) -> usize {
+        self.days as usize * QUARTERS
+    }
+
     /// A place of the series that stands for a season's quarter.
     fn place(&self, random: &mut Random, season: usize, quarter: usize) -> usize {
-        *random.pick(&self.seasons[season]) * QUARTERS + quarter
+        loop {
+            let day = *random.pick(&self.seasons[season]);
+            let own = quarters(self.sundays.length(day)).into_iter().flatten();
+            let positions: Vec<usize> = own.zip(0..).filter(|&(other, _)| other == quarter).map(|(_, position)| position).collect();
+            // one Sunday leaves an hour out
+            if !positions.is_empty() {
+                return self.sundays.start(day) + *random.pick(&positions);
+            }
+        }
     }
 }
 
@@ -48,7 +64,7 @@ fn some_peak(random: &mut Random) -> u32 {
 fn at_the_line(random: &mut Random, period: &Period) -> Vec<u32> {
     let peak = some_peak(random);
     let line = (19 * peak as u64 / 20) as u32;
-    let mut series = vec![random.below(line as u64 / 2 + 1) as u32; period.days * QUARTERS];
+    let mut series = vec![random.below(line as u64 / 2 + 1) as u32; period.readings()];
     for _ in 0..random.between(1, 120) {
         let (season, quarter) = (random.below(4) as usize, random.below(QUARTERS as u64) as usize);
         let value = near(random, line as u64).min(peak as u64) as u32;
@@ -63,7 +79,7 @@ fn at_the_line(random: &mut Random, period: &Period) -> Vec<u32> {
 fn ties(random: &mut Random, period: &Period) -> Vec<u32> {
     let peak = some_peak(random).max(100);
     let line = (19 * peak as u64 / 20) as u32;
-    let mut series = vec![0; period.days * QUARTERS];
+    let mut series = vec![0; period.readings()];
     for season in 0..4 {
         let count = *random.pick(&[0, 1, 38, 39, 40, 41, 42, 43, 60, 95, 96]);
         let spread = *random.pick(&[1, 1, 2, 3, (peak - line) as u64]);
@@ -81,11 +97,30 @@ fn ties(random: &mut Random, period: &Period) -> Vec<u32> {
 /// High readings on the first and last days of months, so that a day in a wrong season shows.
 fn at_the_borders(random: &mut Random, period: &Period) -> Vec<u32> {
     let peak = some_peak(random);
-    let mut series = vec![0; period.days * QUARTERS];
+    let mut series = vec![0; period.readings()];
     for &day in &period.borders {
-        let near_day = (day + random.below(3) as usize).saturating_sub(1).min(period.days - 1);
-        let quarter = random.below(QUARTERS as u64) as usize;
-        series[near_day * QUARTERS + quarter] = if random.percent(80) { peak } else { (19 * peak as u64 / 20) as u32 };
+        let near_day = (day + random.below(3) as u16 - 1).clamp(1, period.days);
+        let position = random.below(period.sundays.length(near_day) as u64) as usize;
+        series[period.sundays.start(near_day) + position] = if random.percent(80) { peak } else { (19 * peak as u64 / 20) as u32 };
+    }
+    series
+}
+
+/// High readings on the two Sundays of the clock change and on the days about them, so that one that is taken for
+/// another quarter's shows; and often two readings of one doubled quarter, on different sides of the line.
+fn at_the_clock_change(random: &mut Random, period: &Period) -> Vec<u32> {
+    let peak = some_peak(random).max(100);
+    let line = (19 * peak as u64 / 20) as u32;
+    let mut series = vec![random.below(line as u64 / 2 + 1) as u32; period.readings()];
+    for _ in 0..random.between(1, 10) {
+        let day = about_sundays(random, period.sundays);
+        let position = some_position(random, period.sundays.length(day));
+        series[period.sundays.start(day) + position] = if random.percent(70) { peak } else { near(random, line as u64) as u32 };
+    }
+    if random.percent(60) {
+        let first = period.sundays.start(period.sundays.long) + random.between(8, 11) as usize;
+        let (low, high) = (*random.pick(&[0, line / 2, line]), *random.pick(&[line + 1, peak]));
+        (series[first], series[first + 4]) = if random.percent(50) { (low, high) } else { (high, low) };
     }
     series
 }
@@ -93,7 +128,7 @@ fn at_the_borders(random: &mut Random, period: &Period) -> Vec<u32> {
 /// Unbroken runs, midnight among them.
 fn runs(random: &mut Random, period: &Period) -> Vec<u32> {
     let peak = some_peak(random);
-    let mut series = vec![peak / 2; period.days * QUARTERS];
+    let mut series = vec![peak / 2; period.readings()];
     for season in 0..4 {
         for _ in 0..random.below(5) {
             let anywhere = random.below(QUARTERS as u64) as usize;
@@ -109,11 +144,11 @@ fn runs(random: &mut Random, period: &Period) -> Vec<u32> {
 fn noise(random: &mut Random, period: &Period) -> Vec<u32> {
     let most = some_peak(random) as u64;
     let least = if random.percent(50) { 0 } else { most * random.between(80, 99) / 100 };
-    (0..period.days * QUARTERS).map(|_| random.between(least, most) as u32).collect()
+    (0..period.readings()).map(|_| random.between(least, most) as u32).collect()
 }
 
 fn flat(random: &mut Random, period: &Period) -> Vec<u32> {
-    let mut series = vec![*random.pick(&[0, 0, 0, 1, 1_000, GRID_LIMIT]); period.days * QUARTERS];
+    let mut series = vec![*random.pick(&[0, 0, 0, 1, 1_000, GRID_LIMIT]); period.readings()];
     if random.percent(40) {
         let at = random.below(series.len() as u64) as usize;
         series[at] = *random.pick(&[0, 1, 2, GRID_LIMIT]);
@@ -121,15 +156,15 @@ fn flat(random: &mut Random, period: &Period) -> Vec<u32> {
     series
 }
 
-fn some_series(random: &mut Random, year: u16) -> (&'static str, Vec<u32>) {
-    let period = Period::new(year);
-    match random.below(12) {
-        0..=2 => ("at the line", at_the_line(random, &period)),
-        3..=5 => ("ties", ties(random, &period)),
-        6 => ("at the borders", at_the_borders(random, &period)),
-        7 | 8 => ("runs", runs(random, &period)),
-        9 => ("flat", flat(random, &period)),
-        _ => ("noise", noise(random, &period)),
+fn some_series(random: &mut Random, period: &Period) -> (&'static str, Vec<u32>) {
+    match random.below(14) {
+        0..=2 => ("at the line", at_the_line(random, period)),
+        3..=5 => ("ties", ties(random, period)),
+        6 => ("at the borders", at_the_borders(random, period)),
+        7 | 8 => ("runs", runs(random, period)),
+        9 => ("flat", flat(random, period)),
+        10 | 11 => ("at the clock change", at_the_clock_change(random, period)),
+        _ => ("noise", noise(random, period)),
     }
 }
 
@@ -148,14 +183,14 @@ fn header(random: &mut Random) -> (Vec<u8>, u16) {
 
 pub fn grid_file(random: &mut Random) -> Made {
     let (mut bytes, year) = header(random);
-    let series_year = if year_allowed(year) { year } else { 2020 };
-    let (name, mut series) = some_series(random, series_year);
+    let period = Period::new(if year_allowed(year) { year } else { 2020 });
+    let (name, mut series) = some_series(random, &period);
     let mut recipe = format!("grid file, {name}");
     if random.percent(12) {
-        spoil(random, &mut series, GRID_LIMIT);
+        spoil(random, period.sundays, &mut series, GRID_LIMIT);
         recipe += ", bad readings";
     }
-    let layout = Layout { borders: HEADER_BORDERS.to_vec(), days: period_days(series_year) as usize, limit: GRID_LIMIT };
+    let layout = Layout { borders: HEADER_BORDERS.to_vec(), days: period.days, sundays: period.sundays, limit: GRID_LIMIT };
     bytes.extend(series.iter().flat_map(|reading| reading.to_be_bytes()));
     if random.percent(45) {
         recipe += damage(random, &mut bytes, &layout);

@@ -13,6 +13,7 @@ pub use grid::grid_file;
 pub use random::Random;
 
 use crate::calendar::{FIRST_YEAR, LAST_YEAR};
+use crate::layout::Sundays;
 
 /// A file, and how it was made.
 pub struct Made {
@@ -43,12 +44,35 @@ fn illegal_reading(random: &mut Random, limit: u32) -> u32 {
     }
 }
 
-/// Spoils one to three readings, often one at an edge.
-fn spoil(random: &mut Random, series: &mut [u32], limit: u32) {
+/// A Sunday of the clock change, or a day within a week of one.
+fn about_sundays(random: &mut Random, sundays: Sundays) -> u16 {
+    let sunday = *random.pick(&[sundays.short, sundays.long]);
+    match random.below(3) {
+        0 => sunday,
+        1 => sunday + 1,
+        _ => sunday - 7 + random.below(15) as u16,
+    }
+}
+
+/// A position in a day of so many readings, often about the hours that the clock change touches, or among the last.
+fn some_position(random: &mut Random, length: usize) -> usize {
+    match random.below(3) {
+        0 => random.between(4, 19) as usize,
+        1 => length - random.between(1, 8) as usize,
+        _ => random.below(length as u64) as usize,
+    }
+}
+
+/// Spoils one to three readings, often one at an edge or on a Sunday of the clock change.
+fn spoil(random: &mut Random, sundays: Sundays, series: &mut [u32], limit: u32) {
     for _ in 0..random.between(1, 3) {
         let last = series.len() - 1;
         let at = match random.below(6) {
             0 => *random.pick(&[0, 95, 96, last, last - 95, last - 96]),
+            1 => {
+                let day = about_sundays(random, sundays);
+                sundays.start(day) + some_position(random, sundays.length(day))
+            }
             _ => random.below(series.len() as u64) as usize,
         };
         series[at] = illegal_reading(random, limit);

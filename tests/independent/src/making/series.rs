@@ -3,31 +3,44 @@
 use super::Random;
 use crate::calendar::{carrying_days, season_of_month, year_days, year_seasons};
 use crate::decision::CUSTOMER_LIMIT;
+use crate::layout::{quarters, Sundays};
 use crate::sheet::Quarters;
 use crate::QUARTERS;
 
-/// A year's places, told apart by the windows.
+/// A year's places, told apart by the windows. Days count from 1.
 pub struct Year {
     pub year: u16,
-    pub days: usize,
+    pub days: u16,
+    pub sundays: Sundays,
     pub inside: Vec<usize>,
     pub outside: Vec<usize>,
-    /// the windows that a day would have if it carried any, for each day from 0
-    pub windows: Vec<Quarters>,
+    /// the places of a day that would be in a window if the day carried any, the first day at place 0
+    windows: Vec<Vec<usize>>,
 }
 
 impl Year {
     pub fn new(year: u16, seasons: &[Quarters; 4], holidays: &[u16]) -> Year {
-        let carries = carrying_days(year, holidays);
-        let windows: Vec<Quarters> = year_seasons(year).iter().flat_map(|&(season, days)| vec![seasons[season - 1]; days as usize]).collect();
-        let days = year_days(year) as usize;
-        let is_inside = |place: &usize| carries[place / QUARTERS] && windows[place / QUARTERS].has(place % QUARTERS);
-        let (inside, outside) = (0..days * QUARTERS).partition(is_inside);
-        Year { year, days, inside, outside, windows }
+        let (carries, sundays) = (carrying_days(year, holidays), Sundays::of_year(year));
+        let season_of_day = year_seasons(year).into_iter().flat_map(|(season, days)| (0..days).map(move |_| season - 1));
+        let mut made = Year { year, days: year_days(year), sundays, inside: Vec::new(), outside: Vec::new(), windows: Vec::new() };
+        for (day, season) in (1..).zip(season_of_day) {
+            let places = quarters(sundays.length(day)).into_iter().flatten().zip(sundays.start(day)..);
+            let mut windows = Vec::new();
+            for (quarter, place) in places {
+                let in_window = seasons[season].has(quarter);
+                let side = if in_window && carries[day as usize - 1] { &mut made.inside } else { &mut made.outside };
+                side.push(place);
+                if in_window {
+                    windows.push(place);
+                }
+            }
+            made.windows.push(windows);
+        }
+        made
     }
 
     pub fn places(&self) -> usize {
-        self.days * QUARTERS
+        self.days as usize * QUARTERS
     }
 }
 
@@ -66,21 +79,22 @@ pub fn fitted(random: &mut Random, year: &Year, target: &Target) -> Vec<u32> {
     series
 }
 
-/// Days at which calendars go wrong: the year's ends, the ends of February and of seasons, holidays and their
-/// neighbours.
-fn delicate_days(random: &mut Random, year: &Year, holidays: &[u16]) -> Vec<usize> {
-    let last = year.days - 1;
-    let mut days: Vec<usize> = (0..9).chain(last - 10..=last).chain(57..62).collect();
-    let mut start = 0;
-    for (season_days, month) in year_seasons(year.year).iter().map(|run| run.1 as usize).zip(1..) {
-        if start > 0 && season_of_month(month) != season_of_month(month - 1) {
+/// Days at which calendars go wrong: the year's ends, the ends of February and of seasons, the weeks about the clock
+/// change, holidays and their neighbours.
+fn delicate_days(random: &mut Random, year: &Year, holidays: &[u16]) -> Vec<u16> {
+    let last = year.days;
+    let mut days: Vec<u16> = (1..10).chain(last - 10..=last).chain(58..63).collect();
+    let mut start = 1;
+    for (season_days, month) in year_seasons(year.year).iter().map(|run| run.1).zip(1..) {
+        if start > 1 && season_of_month(month) != season_of_month(month - 1) {
             days.extend([start - 1, start]);
         }
         start += season_days;
     }
-    let listed = holidays.iter().map(|&holiday| holiday as usize - 1);
-    let beside: Vec<usize> = listed.flat_map(|day| [day.saturating_sub(1), day, (day + 1).min(last), (day + 3).min(last)]).collect();
-    if !beside.is_empty() && random.percent(70) {
+    let beside: Vec<u16> = holidays.iter().flat_map(|&day| [(day - 1).max(1), day, (day + 1).min(last), (day + 3).min(last)]).collect();
+    if random.percent(20) {
+        days = [year.sundays.short, year.sundays.long].into_iter().flat_map(|sunday| sunday - 8..sunday + 9).collect();
+    } else if !beside.is_empty() && random.percent(70) {
         days = beside;
     }
     (0..random.between(1, 8)).map(|_| *random.pick(&days)).collect()
@@ -94,9 +108,9 @@ pub fn calendar_probe(random: &mut Random, year: &Year, holidays: &[u16]) -> Vec
     let mut height = base + 1_000;
     for day in delicate_days(random, year, holidays) {
         height += random.between(0, 1_000) as u32;
-        for quarter in 0..QUARTERS {
-            if year.windows[day].has(quarter) && random.percent(80) {
-                series[day * QUARTERS + quarter] = height - random.below(2) as u32;
+        for &place in &year.windows[day as usize - 1] {
+            if random.percent(80) {
+                series[place] = height - random.below(2) as u32;
             }
         }
     }

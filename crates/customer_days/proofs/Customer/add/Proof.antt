@@ -6,10 +6,11 @@ use Prim.Native.Nat.{_+_}
 use native.Mathlib.Omega.{arith}
 use borrow.Author.Needs.{needs}
 use Rattle.readings.specs.declared.Run.the-variants.{Year}
+use Rattle.dates.specs.Dates.{mostDays}
+use Rattle.readings.specs.Runs.{changeOf}
 use Rattle.readings.proofs.Runs.{days-most}
-use Rattle.figures.specs.Figures.{anyOn, highOn, quarterOn}
 use Rattle.day_figures.specs.Day.{daysOut}
-use Rattle.day_figures.proofs.Fits.{room-is, day-taken}
+use Rattle.day_figures.proofs.Fits.{room-is, day-taken, a-day}
 use Rattle.year_figures.proofs.Rows.{row-taken}
 use Rattle.customer_days.specs.Days.{takenFigures}
 use Rattle.customer_days.proofs.Customer.add.Statement.{statement}
@@ -20,13 +21,16 @@ in-at :
     (e : tie.After-take-day)
     → let t = e .before .before .before .before in
     let self = t .before .before .before .args .self in
-    daysOut (Year (self .terms .rates .year)) (self .seen) 1 (self .figures .sum) ≡ false
+    daysOut mostDays (self .seen) 1 (self .figures .sum) ≡ false
 in-at e =
     let t = e .before .before .before .before in
     let s = t .before .before .before in
     let next = s .pre .next .left in
     room-is _ _ _ _
-    (record { left = omega arith; roomy = omega (arith, s .pre .fair, days-most (Year (s .args .self .terms .rates .year))) })
+    (record {
+      left = omega (arith, days-most (Year (s .args .self .terms .rates .year)));
+      roomy = omega (arith, s .pre .fair, days-most (Year (s .args .self .terms .rates .year)));
+    })
 
 -- so its number fits 16 bits
 add-t7 : tie.Need-add-t7
@@ -36,15 +40,14 @@ add-t7 c =
     omega (arith, s .pre .next .left, days-most (Year (s .args .self .terms .rates .year)))
 
 returns : tie.Need-returns
-unfolding anyOn highOn quarterOn
 returns c =
     let e = c .before in
     let t = e .before .before .before .before in
     let s = t .before .before .before in
     let self = s .args .self in
-    let fits = day-taken _ _ _ _ _ (in-at e) (e .take-day .ensures) (s .pre .next .long) in
+    let fits = day-taken _ _ _ _ (in-at e) (e .take-day .ensures) (a-day (changeOf (Year (self .terms .rates .year))) (self .seen) (s .pre .next .long)) in
     let row = row-taken (self .terms .rates .year) (self .terms .carrying) (self .terms .windows) (self .seen) (self .figures) _
-    (e .before .day-row .ensures) in
+    (e .before .day-row .ensures) (s .pre .next .long) in
     λ i. record {
       terms = self .terms;
       seen = self .seen + 1;

@@ -6,7 +6,7 @@ use native.Mathlib.Omega.{arith}
 use borrow.Author.Needs.{needs}
 use Rattle.readings.specs.declared.Run.the-variants.{Year}
 use Rattle.customer_file.specs.CustomerMachine.{customerReader}
-use Rattle.readings.proofs.Runs.{len-most, span-len}
+use Rattle.readings.proofs.Runs.{len-most}
 use Rattle.customer_head.proofs.CustomerLayout.{fits}
 use Rattle.fields.proofs.Header.{span-width, span-few, is-field, no-field}
 use Rattle.fields.proofs.Machine.{wants-field, wants-day, wants-end, wants-none}
@@ -14,11 +14,11 @@ use Rattle.customer_file.proofs.CustomerFile.want.Statement.{statement}
 use Rattle.customer_file.proofs.CustomerFile.want.Tie as tie
 
 -- a day has at most a hundred readings
-len-few : (e : tie.After-day-span) → e .day-span .result .len ≤ 100
+len-few : (e : tie.After-day-len) → e .day-len .result ≤ 100
 len-few e =
     let asked = e .before .before .before .before in
     let s = asked .before .before .before .before .before .args .self in
-    omega (arith, span-len _ _ (e .day-span .ensures), len-most (Year (s .customer .terms .rates .year)) (s .customer .seen))
+    omega (arith, e .day-len .ensures, len-most (Year (s .customer .terms .rates .year)) (s .customer .seen))
 
 returns : tie.Need-returns
 returns c =
@@ -29,11 +29,10 @@ returns c =
 
 returns-2 : tie.Need-returns-2
 returns-2 c =
-    let spanned = c .before in
-    let span = spanned .before .before .before .before .span-of .ensures in (
-      ap (λ (n : ℕ). 4 * n) (span-len _ _ (spanned .day-span .ensures))
+    let span = c .before .before .before .before .span-of .ensures in (
+      ap (λ (n : ℕ). 4 * n) (c .day-len .ensures)
           ∙ wants-day customerReader _ (cc) (no-field (fits _ _) span (omega arith)) (omega arith),
-      omega (arith, len-few spanned),
+      omega (arith, len-few c),
     )
 
 returns-3 : tie.Need-returns-3
@@ -53,8 +52,8 @@ want-spec =
     (λ c κs. search needs)  -- span-of-requires
     returns
     (λ c κs. search needs)  -- year-days-requires
-    (λ c κs. search needs)  -- day-span-requires
-    (λ c. omega (arith, len-few (c .before)))  -- mul-result
+    (λ c κs. search needs)  -- day-len-requires
+    (λ c. omega (arith, len-few c))  -- mul-result
     returns-2
     returns-3
     returns-4)

@@ -11,15 +11,15 @@ use Rattle.grid_file.specs.GridMachine.{gridReader}
 use Rattle.fields.proofs.Machine.{day-cut, day-read}
 use Rattle.grid_file.proofs.GridDays.{day-given}
 use Rattle.readings.specs.declared.Run.the-variants.{Period}
-use Rattle.readings.proofs.Runs.{len-most, span-len}
+use Rattle.readings.proofs.Runs.{len-most}
 use Rattle.grid_file.proofs.GridFile.take_day.Statement.{statement}
 use Rattle.grid_file.proofs.GridFile.take_day.Tie as tie
 
 -- a day has at most a hundred readings
-len-few : (e : tie.After-day-span) → e .day-span .result .len ≤ 100
+len-few : (e : tie.After-day-len) → e .day-len .result ≤ 100
 len-few e =
     let s = e .before .before .args .self in
-    omega (arith, span-len _ _ (e .day-span .ensures), len-most (Period (s .grid .year)) (s .grid .seen))
+    omega (arith, e .day-len .ensures, len-most (Period (s .grid .year)) (s .grid .seen))
 
 array-share-prefix-readings : tie.Need-array-share-prefix-readings
 array-share-prefix-readings c =
@@ -32,7 +32,7 @@ slice-aggregate-day c =
     sym (length-take-le _ _ (omega (arith, len-few (c .before .before .before))))
 
 returns : tie.Need-returns
-returns c = c .ended .ensures ∙ day-cut gridReader _ _ (omega (arith, span-len _ _ (c .before .before .day-span .ensures)))
+returns c = c .ended .ensures ∙ day-cut gridReader _ _ (omega (arith, c .before .before .day-len .ensures))
 
 returns-2 : tie.Need-returns-2
 returns-2 c =
@@ -42,14 +42,14 @@ returns-2 c =
     let step = c .before .before .before .day .ensures in
     let stage = c .stage-of .ensures ∙ ap dayStage (step .0) in
     (λ i. record { field = a .self .field; head = a .self .head; grid = step .1 i; stage = stage i })
-    ∙ day-given (a .self) (take (len .day-span .result .len) (all .readings-in .result))
-    ∙ day-read gridReader (a .self) (a .b .now) (span-len _ _ (len .day-span .ensures)) (all .readings-in .ensures) (omega arith)
+    ∙ day-given (a .self) (take (len .day-len .result) (all .readings-in .result))
+    ∙ day-read gridReader (a .self) (a .b .now) (len .day-len .ensures) (all .readings-in .ensures) (omega arith)
 
 pub take-day-spec : {M : Type 1} → statement M
 take-day-spec =
     tie.close
     (tie.spec
-    (λ c κs. search needs)  -- day-span-requires
+    (λ c κs. search needs)  -- day-len-requires
     (λ c. omega (arith, len-few c))  -- mul-if1
     (λ c κs. search needs)  -- ended-requires
     returns
