@@ -1,11 +1,12 @@
 -- Laws of the charges: the sum split at the parts of a cent gives the same charge, its products are small, it is the
 -- exact value rounded with half a cent up, the floor is the smallest, and a smaller capacity figure never costs more.
 -- Assumes nothing.
-use mathlib.Core.Path.{_≡_, sym, ap, ap₂, _∙_}
+use mathlib.Core.Path.{_≡_, ap, ap₂}
 use mathlib.Core.Bool.{Bool, true, false}
 use Prim.Native.Nat.{ℕ, _+_, _*_, _/_, _%_, _≤_, _<_, max}
-use native.Mathlib.Nat.{mul-le-mul, mul-le-mul-right, add-mul, div-add-mod', mul-assoc, mul-comm}
+use native.Mathlib.Nat.{mul-le-mul-right}
 use native.Mathlib.Omega.{arith}
+use Rattle.ranges.proofs.Products.{product, split-at}
 use Rattle.answers.specs.Ruling.{capacityMost, energyMost, floorParts}
 use Rattle.tariff.specs.declared.Row.{Row}
 use Rattle.tariff.specs.declared.Prices.{Prices}
@@ -19,13 +20,7 @@ module _ (power : ℕ) (row : Row) (sum : ℕ) where
       sum / centParts * row .energy + (capacityParts * power * row .capacity + sum % centParts * row .energy + centParts / 2) / centParts
       ≡ chargeFor power row sum
   unfolding chargeFor
-  charge-split =
-      let a : ℕ = row .energy in
-      let whole : sum * a ≡ sum / centParts * centParts * a + sum % centParts * a =
-      ap (λ (n : ℕ). n * a) (sym (div-add-mod' sum centParts)) ∙ add-mul _ _ a in
-      let turned : sum / centParts * centParts * a ≡ sum / centParts * a * centParts =
-      mul-assoc _ _ a ∙ ap (_*_ (sum / centParts)) (mul-comm centParts a) ∙ sym (mul-assoc _ a centParts) in
-      omega arith
+  charge-split = omega (arith, split-at sum (row .energy) (capacityParts * power * row .capacity + centParts / 2) centParts (omega arith))
 
   -- a charge is its exact value rounded, half a cent up: twice the exact value lies from 2 c - 1 to below 2 c + 1 (Rule
   -- 7.1)
@@ -40,9 +35,6 @@ pub record Small (power l a sum : ℕ) : Type 0 where
   pub peak : capacityParts * power * l ≤ 1717986918000000000
   pub most : sum / centParts * a ≤ 230584300921350000
   pub rest : sum % centParts * a ≤ 200000000000
-
-pub product : (a b : ℕ) {m n : ℕ} → a ≤ m → b ≤ n → a * b ≤ m * n
-product a b h k = mul-le-mul h k
 
 pub small : (power l a sum : ℕ) → power ≤ 4294967295 → l ≤ capacityMost → a ≤ energyMost → sum < 18446744073709551616 → Small power l a sum
 small power l a sum hp hl ha hs =

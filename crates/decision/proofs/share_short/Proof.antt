@@ -1,15 +1,13 @@
 -- `decision::share_short` meets its contract: the code's order is the definition's, and no product is too large.
 -- Assumes nothing.
-use native.Mathlib.Omega.{arith}
+use mir.Facts.{fits-le, fits-lit}
 use borrow.Author.Needs.{needs}
-use Rattle.tariff.proofs.Charges.{product}
+use Rattle.ranges.proofs.Products.{product}
 use Rattle.decision.proofs.share_short.Statement.{statement}
 use Rattle.decision.proofs.share_short.Tie as tie
 
 mul-result-2 : tie.Need-mul-result-2
-mul-result-2 c =
-    let peak = c .before .before .before .args .figures .peak in
-    omega (arith, product (c .before .share .result) peak {m = 255} {n = 4294967295} (search needs) (search needs))
+mul-result-2 c = fits-le (product _ _ {m = 255} {n = 4294967295} (search needs) (search needs)) (fits-lit tt)
 
 returns : tie.Need-returns
 returns c = rw (c .before .before .moved-out .ensures, c .before .share .ensures)
