@@ -3,9 +3,10 @@
 ghost use mathlib.Core.Path.{_≡_};
 ghost use Prim.Native.Nat.{_≤_, max};
 ghost use Rattle.tariff.specs.Prices.{LegalRow, LegalPrices};
-ghost use Rattle.tariff.specs.Charges.{fewHours, rowOf, chargeFor, chargeMost, general, reduced, floorOf};
+ghost use Rattle.tariff.specs.Charges.{fewHoursBy, rowOf, chargeFor, chargeMost, generalBy, reducedBy, floorOf};
 ghost use Rattle.tariff.specs.Answers.{saidOfGeneral, saidOfCharges};
 ghost use Rattle.tariff.specs.Decision.{generalAnswer, chargesAnswer};
+use answers::Edition;
 use tariff::BothCharges;
 use tariff::Figures;
 use tariff::General;
@@ -14,11 +15,8 @@ use tariff::Rates;
 use tariff::Row;
 use tariff::TwoCharges;
 
-// Fewer than 2,500 hours of use: S is less than 10,000 times M (Rule 6.6).
-const ROW_QUARTERS: u64 = 10_000;
-
-// The floor is a fifth of the general charge (Rule 7.4).
-const FLOOR_PARTS: u64 = 5;
+// An hour has four quarters: hours of use are held against a sum of readings (Rule 6.6).
+const HOUR_QUARTERS: u64 = 4;
 
 // A cent has 4,000,000 parts, in which charges are added up; one W at one cent for one kW a year is 4,000 of them.
 const CENT_PARTS: u64 = 4_000_000;
@@ -39,11 +37,11 @@ fn charge_for(power: u32, row: Row, sum: u64) -> u64
         + (CAPACITY_PARTS * (power as u64) * l + sum % CENT_PARTS * a + HALF_CENT) / CENT_PARTS
 }
 
-// Are there fewer than 2,500 hours of use? There is no division, since M may be 0: then the high row applies.
-fn few_hours(figures: Figures) -> bool
-    ensures { λ r. ⌜ r ≡ fewHours figures ⌝ }
+// Are there fewer hours of use than the edition's? There is no division, since M may be 0: then the high row applies.
+fn few_hours(edition: Edition, figures: Figures) -> bool
+    ensures { λ r. ⌜ r ≡ fewHoursBy edition figures ⌝ }
 {
-    figures.sum < ROW_QUARTERS * (figures.peak as u64)
+    figures.sum < HOUR_QUARTERS * (edition.hours as u64) * (figures.peak as u64)
 }
 
 // The low row where `low` is set, else the high row.
@@ -60,32 +58,36 @@ fn row_of(prices: Prices, low: bool) -> Row
 }
 
 // The general charge: for M. It never goes by the option, and the reduction is measured from it.
-fn general_cents(figures: Figures, rates: Rates) -> u64
+fn general_cents(edition: Edition, figures: Figures, rates: Rates) -> u64
     requires { ⌜ LegalPrices (rates .prices) ⌝ }
-    ensures { λ r. ⌜ r ≡ general figures rates ⌝ }
+    ensures { λ r. ⌜ r ≡ generalBy edition figures rates ⌝ }
 {
     let prices = rates.prices;
-    let row = row_of(prices, few_hours(figures));
+    let row = row_of(prices, few_hours(edition, figures));
     charge_for(figures.peak, row, figures.sum)
 }
 
-// The reduced charge: for H, in the same row. With the option and fewer than 2,500 hours of use it is the high row.
-fn reduced_cents(figures: Figures, rates: Rates) -> u64
+// The reduced charge: for H, in the same row. With the option and fewer hours of use than the edition's it is the high
+// row.
+fn reduced_cents(edition: Edition, figures: Figures, rates: Rates) -> u64
     requires { ⌜ LegalPrices (rates .prices) ⌝ }
-    ensures { λ r. ⌜ r ≡ reduced figures rates ⌝ }
+    ensures { λ r. ⌜ r ≡ reducedBy edition figures rates ⌝ }
 {
     let prices = rates.prices;
-    let row = row_of(prices, few_hours(figures) & !rates.option);
+    let row = row_of(prices, few_hours(edition, figures) & !rates.option);
     charge_for(figures.high, row, figures.sum)
 }
 
-// The larger of the reduced charge r and the floor, a fifth of the general charge g. The fifth goes up to a whole cent:
-// down, it could be less than a fifth, which the ordinance does not allow (Rule 7.4).
-fn with_floor(r: u64, g: u64) -> u64
+// The larger of the reduced charge r and the floor, a percentage of the general charge g. It goes up to a whole cent:
+// down, it could be less than that percentage, which the ordinance does not allow (Rule 7.4). g is taken apart into
+// hundreds and the rest, as a sum is for a charge: 100 times g would not fit 64 bits.
+fn with_floor(edition: Edition, r: u64, g: u64) -> u64
     requires { ⌜ g ≤ chargeMost ⌝ }
-    ensures { λ c. ⌜ c ≡ max r (floorOf g) ⌝ }
+    ensures { λ c. ⌜ c ≡ max r (floorOf edition g) ⌝ }
 {
-    let f = (g + (FLOOR_PARTS - 1)) / FLOOR_PARTS;
+    let percent = edition.floor as u64;
+    let f = g / answers::WHOLE_SHARE * percent
+        + (g % answers::WHOLE_SHARE * percent + (answers::WHOLE_SHARE - 1)) / answers::WHOLE_SHARE;
     if r < f { f } else { r }
 }
 
@@ -97,7 +99,7 @@ pub fn general_charge(figures: Figures, rates: Rates) -> General
     if price_limits::prices_out(prices) {
         return General::PriceOut;
     }
-    General::Cents(general_cents(figures, rates))
+    General::Cents(general_cents(answers::today(), figures, rates))
 }
 
 // The charge c beside the general charge g, or 6. The decision needs both and asks once. Any figures and any rates have
@@ -109,7 +111,8 @@ pub fn both_charges(figures: Figures, rates: Rates) -> BothCharges
     if price_limits::prices_out(prices) {
         return BothCharges::PriceOut;
     }
-    let general = general_cents(figures, rates);
-    let charge = with_floor(reduced_cents(figures, rates), general);
+    let edition = answers::today();
+    let general = general_cents(edition, figures, rates);
+    let charge = with_floor(edition, reduced_cents(edition, figures, rates), general);
     BothCharges::Cents(TwoCharges { charge, general })
 }

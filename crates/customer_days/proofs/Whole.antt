@@ -9,6 +9,7 @@ use native.Mathlib.Omega.{arith}
 use borrow.Author.Tests.{le-ltb}
 use Rattle.ranges.specs.Ranges.{sumOver}
 use Rattle.ranges.proofs.Sums.{sum-le}
+use Rattle.answers.specs.declared.Edition.{Edition}
 use Rattle.answers.specs.Ruling.{customerMost}
 use Rattle.answers.specs.Said.{Said, only, badPlace}
 use Rattle.dates.specs.Dates.{yearDays}
@@ -96,7 +97,7 @@ module _ (t : Terms) where
       ∙ whole-judged t xs e
 
   -- the decision over figures never answers 5
-  pub judge-five : {f : Figures} {n : ℕ} → JudgeRow f (t .rates) n → n ≡ 5 → ⊥
+  pub judge-five : {ed : Edition} {f : Figures} {n : ℕ} → JudgeRow ed f (t .rates) n → n ≡ 5 → ⊥
   judge-five (two l) e = omega arith
   judge-five (six l q) e = omega arith
   judge-five (eight l a) e = omega arith

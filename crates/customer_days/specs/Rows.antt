@@ -4,6 +4,7 @@
 use mathlib.Core.Path.{_≡_}
 use mathlib.Core.List.{List}
 use Prim.Native.Nat.{ℕ, _≤_, _<_}
+use Rattle.answers.specs.Edition.{today}
 use Rattle.answers.specs.Ruling.{customerMost}
 use Rattle.dates.specs.Dates.{yearDays}
 use Rattle.readings.specs.declared.Run.the-variants.{Year}
@@ -31,5 +32,5 @@ pub data CustomerCloseRow (c : Customer) : ℕ → Type 0 where
   judged :
       {n : ℕ}
       → c .seen ≡ yearDays (c .terms .rates .year)
-      → JudgeRow (c .figures) (c .terms .rates) n
+      → JudgeRow today (c .figures) (c .terms .rates) n
       → CustomerCloseRow c n

@@ -4,7 +4,7 @@
 use mathlib.Core.Path.{refl}
 use mathlib.Core.List.{List, [], _∷_}
 use Rattle.ranges.specs.Ranges.{joined, sumOver, anyOver, table}
-use Rattle.answers.specs.Ruling.{yearOut}
+use Rattle.answers.specs.Ruling.{lacksYear}
 use Rattle.dates.specs.Dates.{leap, leapDay, daysTo, dayNumber, weekdayOf}
 use Rattle.holidays.specs.Holidays.{listed, badHolidays}
 use Rattle.day_kinds.specs.Kinds.{christmas, free, candidate, bridge, kindBy}
@@ -41,6 +41,6 @@ cases =
 pub worked : Hold cases
 unfolding
     whyText noDates noSuchDate whyAnswer weekdayName kindWord dayLine wrongLine usageLine calendarAnswer dayOut
-    kindBy bridge candidate free christmas badHolidays listed dayNumber weekdayOf daysTo leapDay leap yearOut
+    kindBy bridge candidate free christmas badHolidays listed dayNumber weekdayOf daysTo leapDay leap lacksYear
     anyOver table sumOver joined
 worked = (refl, (refl, (refl, (refl, (refl, (refl, (refl, (refl, (refl, (refl, tt))))))))))

@@ -3,11 +3,12 @@
 ghost use mathlib.Core.Path.{_≡_};
 ghost use Prim.Native.Nat.{_+_};
 ghost use lib.Dec.{ltb};
-ghost use Rattle.answers.specs.Ruling.{shareOf, leastReduction, Level};
+ghost use Rattle.answers.specs.Ruling.{leastReduction, shareOf, Level};
 ghost use Rattle.tariff.specs.declared.Rates.{Rates};
 ghost use Rattle.tariff.specs.Answers.{saidOf, plainOf, peaksOf};
-ghost use Rattle.tariff.specs.Charges.{general, chargesOf};
+ghost use Rattle.tariff.specs.Charges.{generalBy, chargesOf};
 ghost use Rattle.tariff.specs.Decision.{moved, shareShort, eligibleRules, chargeRules, eligibleAnswer, chargeAnswer, judgeAnswer};
+use answers::Edition;
 use tariff::BothCharges;
 use tariff::Charged;
 use tariff::Decision;
@@ -17,17 +18,6 @@ use tariff::Peaks;
 use tariff::Plain;
 use tariff::Rates;
 use tariff::TwoCharges;
-
-// The share of M that each level asks for, in percent. Levels count from 1: level 1 has place 0. Rule 2.3.
-const SHARES: [u8; 7] = [5, 10, 10, 20, 20, 30, 30];
-
-// All of M, in percent.
-const WHOLE_SHARE: u64 = 100;
-
-// The least move, in W, and the least reduction, in cent (Rule 7.6).
-const LEAST_MOVE: u32 = 100_000;
-
-const LEAST_REDUCTION: u64 = 50_000;
 
 // M - H, in W. 0 where H is above M: no year has such figures, but all figures have an answer.
 fn moved_out(figures: Figures) -> u32
@@ -39,21 +29,23 @@ fn moved_out(figures: Figures) -> u32
     figures.peak - figures.high
 }
 
-// The share that a level, from 1, asks for, in percent.
-fn share(level: u8) -> u8
+// The share that an edition asks for at a level, in percent. Levels count from 1: level 1 has place 0.
+fn share(edition: Edition, level: u8) -> u8
     requires { ⌜ Level level ⌝ }
-    ensures { λ r. ⌜ r ≡ shareOf level ⌝ }
+    ensures { λ r. ⌜ r ≡ shareOf edition level ⌝ }
 {
+    let shares = edition.shares;
     let i = (level - 1) as usize;
-    SHARES[i]
+    shares[i]
 }
 
 // Is the share missed (9)? Equality passes.
-fn share_short(figures: Figures, rates: Rates) -> bool
+fn share_short(edition: Edition, figures: Figures, rates: Rates) -> bool
     requires { ⌜ Level (rates .level) ⌝ }
-    ensures { λ r. ⌜ r ≡ shareShort figures rates ⌝ }
+    ensures { λ r. ⌜ r ≡ shareShort edition figures rates ⌝ }
 {
-    WHOLE_SHARE * (moved_out(figures) as u64) < share(rates.level) as u64 * (figures.peak as u64)
+    answers::WHOLE_SHARE * (moved_out(figures) as u64)
+        < share(edition, rates.level) as u64 * (figures.peak as u64)
 }
 
 // The figures of 8: g, M and S.
@@ -80,29 +72,29 @@ fn peaks_of(figures: Figures, g: u64) -> Peaks
     }
 }
 
-// Is the reduction less than 500 euro (11)? There is no sum that could be too large: charges of any size have an
-// answer.
-fn reduction_short(charges: TwoCharges) -> bool
-    ensures { λ r. ⌜ r ≡ ltb (charges .general) (charges .charge + leastReduction) ⌝ }
+// Is the reduction less than the edition's least one (11)? There is no sum that could be too large: charges of any size
+// have an answer.
+fn reduction_short(edition: Edition, charges: TwoCharges) -> bool
+    ensures { λ r. ⌜ r ≡ ltb (charges .general) (charges .charge + leastReduction edition) ⌝ }
 {
     if charges.general < charges.charge {
         return true;
     }
-    charges.general - charges.charge < LEAST_REDUCTION
+    charges.general - charges.charge < edition.least_reduction as u64
 }
 
 // The rules of the first half: 8, 9, 10, else 0 with yes, where g is the general charge.
-fn eligible_rules(figures: Figures, rates: Rates, g: u64) -> Decision
-    requires { ⌜ Level (rates .level) × (g ≡ general figures rates) ⌝ }
-    ensures { λ r. ⌜ saidOf r ≡ eligibleRules figures rates ⌝ }
+fn eligible_rules(edition: Edition, figures: Figures, rates: Rates, g: u64) -> Decision
+    requires { ⌜ Level (rates .level) × (g ≡ generalBy edition figures rates) ⌝ }
+    ensures { λ r. ⌜ saidOf r ≡ eligibleRules edition figures rates ⌝ }
 {
     if !figures.any {
         return Decision::NoWindow(plain_of(figures, g));
     }
-    if share_short(figures, rates) {
+    if share_short(edition, figures, rates) {
         return Decision::ShareShort(peaks_of(figures, g));
     }
-    if moved_out(figures) < LEAST_MOVE {
+    if moved_out(figures) < edition.least_move {
         return Decision::MoveShort(peaks_of(figures, g));
     }
     Decision::Eligible
@@ -110,15 +102,15 @@ fn eligible_rules(figures: Figures, rates: Rates, g: u64) -> Decision
 
 // The rules of the second half: 8, 11, else 0 with the charge. They look at the charges and not at the rates that these
 // come from.
-fn charge_rules(figures: Figures, charges: TwoCharges) -> Decision
-    ensures { λ r. ⌜ ((rates : Rates) → charges ≡ chargesOf figures rates → saidOf r ≡ chargeRules figures rates) ⌝ }
+fn charge_rules(edition: Edition, figures: Figures, charges: TwoCharges) -> Decision
+    ensures { λ r. ⌜ ((rates : Rates) → charges ≡ chargesOf edition figures rates → saidOf r ≡ chargeRules edition figures rates) ⌝ }
 {
     let g = charges.general;
     if !figures.any {
         return Decision::NoWindow(plain_of(figures, g));
     }
     let peaks = peaks_of(figures, g);
-    if reduction_short(charges) {
+    if reduction_short(edition, charges) {
         return Decision::ReductionShort(peaks);
     }
     Decision::Accepted(Charged {
@@ -139,7 +131,7 @@ pub fn eligible(figures: Figures, rates: Rates) -> Decision
     let General::Cents(g) = asked else {
         return Decision::PriceOut;
     };
-    eligible_rules(figures, rates, g)
+    eligible_rules(answers::today(), figures, rates, g)
 }
 
 // What a customer who may pay the reduced charge is charged. Refuses 6, 8, 11 in this order, else 0 with the charge.
@@ -151,7 +143,7 @@ pub fn charge(figures: Figures, rates: Rates) -> Decision
     let BothCharges::Cents(both) = asked else {
         return Decision::PriceOut;
     };
-    charge_rules(figures, both)
+    charge_rules(answers::today(), figures, both)
 }
 
 // The decision over a year's figures: the two halves in a row, by their rules, so that no rule is written twice, the
@@ -167,9 +159,10 @@ pub fn judge(figures: Figures, rates: Rates) -> Decision
     let BothCharges::Cents(both) = asked else {
         return Decision::PriceOut;
     };
-    let first = eligible_rules(figures, rates, both.general);
+    let edition = answers::today();
+    let first = eligible_rules(edition, figures, rates, both.general);
     if let Decision::Eligible = first {
-        return charge_rules(figures, both);
+        return charge_rules(edition, figures, both);
     }
     first
 }

@@ -13,6 +13,7 @@ use lib.ListN.{length, getD, take, drop}
 use Rattle.ranges.specs.Limits.{Within}
 use Rattle.ranges.specs.Ranges.{table}
 use Rattle.ranges.proofs.Tables.{getD-table, table-cong}
+use Rattle.answers.specs.Edition.{today}
 use Rattle.answers.specs.Ruling.{dayQuarters, gridMost}
 use Rattle.answers.specs.Said.{Said, only, orElse}
 use Rattle.periods.specs.Period.{periodDays}
@@ -29,7 +30,7 @@ use Rattle.sheet.proofs.Windows.{set-at, length-flat}
 use Rattle.sheet.proofs.Exactly.{read-exactly, write-exactly}
 use Rattle.sheet.proofs.Back.{buffer-read}
 use Rattle.windows.specs.Chosen.{kept}
-use Rattle.windows.proofs.Forty.{chosen-at}
+use Rattle.windows.proofs.Kept.{chosen-at}
 use Rattle.grid_curves.specs.Curves.{curveAt, flatCurves}
 use Rattle.grid.specs.Answers.{gridOpenAnswer, curveOf, curvesOf, sheetOf, finishAnswer, finished, windowsAnswer, windowsBuffer}
 use Rattle.grid.specs.Rows.{periodPeak}
@@ -52,15 +53,15 @@ pub exactly-when : ExactlyWhen ours
 exactly-when =
     record {
       calendar = exactly;
-      read = read-exactly;
-      write = write-exactly;
+      read = read-exactly today;
+      write = write-exactly today;
       windows = windows-exactly;
       grid-open = open-exactly;
       grid-day = λ g day. next-exactly _ _ (g .seen) day;
       grid-close = close-exactly;
-      eligible = eligible-exactly;
-      charge = charge-exactly;
-      judge = judge-exactly;
+      eligible = eligible-exactly today;
+      charge = charge-exactly today;
+      judge = judge-exactly today;
       decide = decide-exactly;
       customer-open = customer-open-exactly;
       customer-day = customer-day-exactly;
@@ -132,15 +133,15 @@ module _ (y level : ℕ) (xs buffer : List ℕ) (z : windowsAnswer y level xs (l
 
   reads : readOf (take sheetSize (windowsBuffer y level xs buffer)) ≡ record { answer = only 0; sheet = laid }
   unfolding sheetOf
-  reads = ap (λ (b : List ℕ). readOf (take sheetSize b)) buffer-is ∙ buffer-read laid buffer (length-flat _) accepts
+  reads = ap (λ (b : List ℕ). readOf (take sheetSize b)) buffer-is ∙ buffer-read today laid buffer (length-flat _) accepts
 
-  window-is : (s q : ℕ) → Within 1 seasons s → q < dayQuarters → isSet (laid .windows) s q ≡ kept (periodPeak y xs) (curveIn y xs s) q
+  window-is : (s q : ℕ) → Within 1 seasons s → q < dayQuarters → isSet (laid .windows) s q ≡ kept today (periodPeak y xs) (curveIn y xs s) q
   unfolding sheetOf
   window-is s q h l =
       sym (set-at (laid .windows) s q h l)
-      ∙ chosen-at (highestOf flat) (curvesOf flat) s q h l
-      ∙ ap (λ (m : ℕ). kept m (getD (curvesOf flat) (s - 1) []) q) (peak-curves y xs (periodDays y))
-      ∙ ap (λ (curve : List ℕ). kept (periodPeak y xs) curve q) (curve-is y xs s h)
+      ∙ chosen-at today (highestOf flat) (curvesOf flat) s q h l
+      ∙ ap (λ (m : ℕ). kept today m (getD (curvesOf flat) (s - 1) []) q) (peak-curves y xs (periodDays y))
+      ∙ ap (λ (curve : List ℕ). kept today (periodPeak y xs) curve q) (curve-is y xs s h)
 
 pub to-the-quarter-hour : ToTheQuarterHour ours
 unfolding sheetOf

@@ -9,7 +9,9 @@ use native.Mathlib.Omega.{arith}
 use borrow.Author.Tests.{lt-ltb, eq-eqb, ne-eqb}
 use lib.Dec.{leb, ltb, eqb}
 use lib.ListN.{length, getD}
+use Rattle.answers.specs.declared.Edition.{Edition}
 use Rattle.answers.specs.declared.Place.{Place}
+use Rattle.answers.specs.Edition.{today}
 use Rattle.answers.specs.Ruling.{gridMost, customerMost, yearOut, levelOut}
 use Rattle.answers.specs.Said.{Said, only, orElse}
 use Rattle.dates.specs.Dates.{yearDays}
@@ -32,7 +34,7 @@ use Rattle.sheet.specs.declared.Sheet.{Sheet}
 use Rattle.sheet.specs.Windows.{tooFull}
 use Rattle.encoding.specs.Bytes.{twoAt, versionOut}
 use Rattle.sheet.specs.Bytes.{versionAt, yearAt, levelAt, sheetSize, windowsIn, unmarked}
-use Rattle.sheet.specs.Answers.{readAnswer, writeAnswer}
+use Rattle.sheet.specs.Answers.{readAnswer, readAnswerBy, writeAnswer, writeAnswerBy}
 use Rattle.sheet.specs.Rows.{ReadRow}
 use Rattle.sheet.specs.Rows.ReadRow.{malformed, one, two, full, zero}
 use Rattle.sheet.proofs.Exactly.{read-zero}
@@ -46,7 +48,7 @@ use Rattle.tariff.specs.declared.Rates.{Rates}
 use Rattle.tariff.specs.declared.Figures.{Figures}
 use Rattle.tariff.specs.Prices.{pricesOut}
 use Rattle.tariff.specs.Charges.{general, charge}
-use Rattle.tariff.specs.Decision.{noWindow, shareShort, moveShort, reductionShort, eligibleRules, chargeRules, judgeRules, eligibleAnswer, chargeAnswer, judgeAnswer}
+use Rattle.tariff.specs.Decision.{noWindow, shareShort, moveShort, reductionShort, eligibleRules, chargeRules, judgeRules, eligibleAnswer, eligibleAnswerBy, chargeAnswer, chargeAnswerBy, judgeAnswer, judgeAnswerBy}
 use Rattle.terms.specs.Basis.{Basis, basisYear, basisRates}
 use Rattle.terms.specs.Opening.{termsOf, customerOpenAnswer}
 use Rattle.terms.specs.Rows.{CustomerOpenRow}
@@ -91,14 +93,14 @@ behind a {b} {column} p q = go (ℕ-discrete (a .number) 0)
 -- any column that lists nothing for the refusals of reading a sheet and of opening
 module _ (column : ℕ → List ℕ) (one : column 1 ≡ []) (two : column 2 ≡ []) (three : column 3 ≡ []) (six : column 6 ≡ []) (twelve : column 12 ≡ []) where
   reads : (b : List ℕ) → Refusing column (readAnswer b)
-  unfolding readAnswer
+  unfolding readAnswerBy
   reads b =
       choice (Refusing column) (not (eqb (length b) sheetSize)) (λ r. leaf (sym twelve))
       (choice (Refusing column) (unmarked b) (λ r. leaf (sym twelve))
       (choice (Refusing column) (versionOut b versionAt) (λ r. leaf (sym twelve))
       (choice (Refusing column) (yearOut (twoAt b yearAt)) (λ r. leaf (sym one))
       (choice (Refusing column) (levelOut (getD b levelAt 0)) (λ r. leaf (sym two))
-      (choice (Refusing column) (tooFull (windowsIn b)) (λ r. leaf (sym twelve))
+      (choice (Refusing column) (tooFull today (windowsIn b)) (λ r. leaf (sym twelve))
       (λ r. absurd (r refl)))))))
 
   opens : (k : Basis) → Refusing column (customerOpenAnswer k)
@@ -124,12 +126,12 @@ module _ (column : ℕ → List ℕ) (same : (n : ℕ) → eqb n 5 ≡ false →
   nothing n e z = leaf (sym (same n e ∙ z))
 
   writes : (s : Sheet) (room : ℕ) → Carries (writeAnswer s room) column
-  unfolding writeAnswer
+  unfolding writeAnswerBy
   writes s room =
       either (ltb room sheetSize) (nothing 14 refl refl)
       (either (yearOut (s .year)) (nothing 1 refl refl)
       (either (levelOut (s .level)) (nothing 2 refl refl)
-      (either (tooFull (s .windows)) (nothing 12 refl refl)
+      (either (tooFull today (s .windows)) (nothing 12 refl refl)
       (nothing 0 refl refl))))
 
   grid-opens : (y level : ℕ) → Carries (gridOpenAnswer y level) column
@@ -193,41 +195,41 @@ windows-listed y level xs room =
 -- the decision over figures, under any column that lists what the year's does, but for 5
 module _ (f : Figures) (r : Rates) (column : ℕ → List ℕ) where
   module _ (done : List ℕ) (same : (n : ℕ) → eqb n 5 ≡ false → column n ≡ withFigures f (general f r) (zeroAlone done) n) where
-    eligible-refuses : Refusing column (eligibleRules f r)
+    eligible-refuses : Refusing column (eligibleRules today f r)
     unfolding eligibleRules
     eligible-refuses =
         choice (Refusing column) (noWindow f) (λ z. leaf (sym (same 8 refl)))
-        (choice (Refusing column) (shareShort f r) (λ z. leaf (sym (same 9 refl)))
-        (choice (Refusing column) (moveShort f) (λ z. leaf (sym (same 10 refl)))
+        (choice (Refusing column) (shareShort today f r) (λ z. leaf (sym (same 9 refl)))
+        (choice (Refusing column) (moveShort today f) (λ z. leaf (sym (same 10 refl)))
         (λ z. absurd (z refl))))
 
     module _ (is : done ≡ charge f r ∷ general f r ∷ f .peak ∷ f .sum ∷ f .high ∷ f .day ∷ f .quarter ∷ []) where
-      charge-listed : Carries (chargeRules f r) column
+      charge-listed : Carries (chargeRules today f r) column
       unfolding chargeRules
       charge-listed =
           either (noWindow f) (leaf (sym (same 8 refl)))
-          (either (reductionShort f r) (leaf (sym (same 11 refl)))
+          (either (reductionShort today f r) (leaf (sym (same 11 refl)))
           (leaf (sym (same 0 refl ∙ is))))
 
       judge-listed : Carries (judgeAnswer f r) column
-      unfolding judgeAnswer judgeRules
+      unfolding judgeAnswerBy judgeRules
       judge-listed =
           either (levelOut (r .level)) (leaf (sym (same 2 refl)))
           (either (pricesOut (r .prices)) (leaf (sym (same 6 refl)))
-          (behind (eligibleRules f r) eligible-refuses charge-listed))
+          (behind (eligibleRules today f r) eligible-refuses charge-listed))
 
 eligible-listed : (f : Figures) (r : Rates) → Carries (eligibleAnswer f r) (withFigures f (general f r) (zeroAlone (1 ∷ [])))
-unfolding eligibleAnswer eligibleRules
+unfolding eligibleAnswerBy eligibleRules
 eligible-listed f r =
     either (levelOut (r .level)) (leaf refl)
     (either (pricesOut (r .prices)) (leaf refl)
     (either (noWindow f) (leaf refl)
-    (either (shareShort f r) (leaf refl)
-    (either (moveShort f) (leaf refl)
+    (either (shareShort today f r) (leaf refl)
+    (either (moveShort today f) (leaf refl)
     (leaf refl)))))
 
 charged : (f : Figures) (r : Rates) → Carries (chargeAnswer f r) (yearColumn f r)
-unfolding chargeAnswer
+unfolding chargeAnswerBy
 charged f r = either (pricesOut (r .prices)) (leaf refl) (charge-listed f r (yearColumn f r) _ (λ n e. refl) refl)
 
 judged-listed : (f : Figures) (r : Rates) → Carries (judgeAnswer f r) (yearColumn f r)
@@ -306,7 +308,7 @@ windows-place y level xs buffer e = go (windows-exactly y level xs buffer 5 .0 e
     go (five c v) = found-in (Period y) gridMost xs v
 
 -- reading a sheet and opening are never answered 5
-read-five : {b : List ℕ} {n : ℕ} → ReadRow b n → n ≡ 5 → ⊥
+read-five : {ed : Edition} {b : List ℕ} {n : ℕ} → ReadRow ed b n → n ≡ 5 → ⊥
 read-five (malformed f) e = omega arith
 read-five (one f y) e = omega arith
 read-five (two f y l) e = omega arith
@@ -364,7 +366,7 @@ pub carried : Carried ours
 carried =
     record {
       calendar = calendar-listed;
-      read = λ b. zero-alone-all (readAnswer b) (reads (zeroAlone []) refl refl refl refl refl b) (read-zero b);
+      read = λ b. zero-alone-all (readAnswer b) (reads (zeroAlone []) refl refl refl refl refl b) (read-zero today b);
       write = writes (zeroAlone []) (λ n e. refl);
       windows = λ y level xs buffer. placed (windows-listed y level xs (length buffer)) (windows-place y level xs buffer);
       grid-open = grid-opens (zeroAlone []) (λ n e. refl);

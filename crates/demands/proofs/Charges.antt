@@ -4,13 +4,13 @@ use mathlib.Core.Path.{_≡_, refl}
 use mathlib.Core.Bool.{true, false}
 use Prim.Native.Nat.{ℕ, _*_}
 use native.Mathlib.Omega.{arith}
-use borrow.Author.Tests.{lt-ltb, le-ltb}
-use Rattle.answers.specs.Ruling.{rowQuarters}
+use borrow.Author.Tests.{le-ltb}
+use Rattle.answers.specs.Edition.{today}
 use Rattle.tariff.specs.declared.Row.{Row}
 use Rattle.tariff.specs.declared.Rates.{Rates}
 use Rattle.tariff.specs.declared.Figures.{Figures}
-use Rattle.tariff.specs.Charges.{fewHours, chargeFor, general, reduced, floorOf, charge}
-use Rattle.tariff.proofs.Charges.{floor-least}
+use Rattle.tariff.specs.Charges.{fewHours, chargeFor, general, generalBy, reduced, reducedBy, floorOf, charge, chargeBy}
+use Rattle.demands.proofs.Forms.{today-forms}
 use Rattle.demands.specs.Charges.{Rounded, Few, Many, GeneralIs, ReducedIs, ChargeIs, ToTheCent}
 
 rounded : (power : ℕ) (row : Row) (sum : ℕ) → Rounded power row sum (chargeFor power row sum)
@@ -19,13 +19,13 @@ rounded power row sum = record { low = omega arith; high = omega arith }
 
 module _ (f : Figures) (r : Rates) where
   few : Few f r → fewHours f ≡ true
-  few h = lt-ltb (f .sum) (rowQuarters * f .peak) h
+  few h = today-forms .hours f .1 h
 
   many : Many f r → fewHours f ≡ false
-  many h = le-ltb (f .sum) (rowQuarters * f .peak) h
+  many h = le-ltb (f .sum) (10000 * f .peak) h
 
   general-is : GeneralIs f r (general f r)
-  unfolding general
+  unfolding generalBy
   general-is =
       record {
         few = λ h. rw (few h) (rounded (f .peak) (r .prices .few) (f .sum));
@@ -33,7 +33,7 @@ module _ (f : Figures) (r : Rates) where
       }
 
   reduced-is : ReducedIs f r (reduced f r)
-  unfolding reduced
+  unfolding reducedBy
   reduced-is =
       record {
         few = λ h e. rw (few h, e) (rounded (f .high) (r .prices .few) (f .sum));
@@ -42,14 +42,14 @@ module _ (f : Figures) (r : Rates) where
       }
 
   charge-is : ChargeIs f r (general f r) (charge f r)
-  unfolding charge
+  unfolding chargeBy
   charge-is =
       record {
         reduced = reduced f r;
-        floor = floorOf (general f r);
+        floor = floorOf today (general f r);
         reduced-is = reduced-is;
-        fifth = floor-least (general f r) .0;
-        least = floor-least (general f r) .1;
+        fifth = today-forms .fifth (general f r);
+        least = today-forms .least (general f r);
         larger = refl;
       }
 

@@ -14,6 +14,7 @@ use Rattle.ranges.specs.Ranges.{sumOver}
 use Rattle.ranges.proofs.Largest.{largest-le}
 use Rattle.ranges.proofs.Bools.{both, pair}
 use Rattle.ranges.proofs.Tests.{any-at, any-fails}
+use Rattle.answers.specs.Edition.{today}
 use Rattle.answers.specs.Ruling.{ChargeYear}
 use Rattle.answers.specs.Said.{only}
 use Rattle.dates.specs.Dates.{seasonOf}
@@ -27,7 +28,7 @@ use Rattle.readings.proofs.Runs.{run-all, year-run}
 use Rattle.readings.proofs.Legal.{reading-le}
 use Rattle.sheet.specs.Windows.{isSet}
 use Rattle.sheet.specs.Bytes.{sheetIn}
-use Rattle.sheet.specs.Answers.{readAnswer, readSheet}
+use Rattle.sheet.specs.Answers.{readAnswer, readSheet, readSheetBy}
 use Rattle.sheet.specs.Rows.{ReadRow}
 use Rattle.sheet.specs.Rows.ReadRow.{malformed, one, two, full, zero}
 use Rattle.sheet.proofs.Exactly.{read-exactly}
@@ -75,7 +76,7 @@ module _ (k : Basis) (xs : List ℕ) where
   -- the decision over the figures is 8 exactly when none is
   module _ (l : LegalYear k xs) where
     abbrev Row : ℕ → Type 0
-    Row n = JudgeRow (basisFigures k xs) (basisRates k) n
+    Row n = JudgeRow today (basisFigures k xs) (basisRates k) n
 
     eight-none : {n : ℕ} → Row n → n ≡ 8 → basisFigures k xs .any ≡ false
     eight-none (two a) e = absurd (omega arith)
@@ -88,7 +89,7 @@ module _ (k : Basis) (xs : List ℕ) where
 
     told : (n : ℕ) → (decideAnswer k xs .number ≡ n) ↔ Row n
     told n =
-        let j = judge-exactly (basisFigures k xs) (basisRates k) n in
+        let j = judge-exactly today (basisFigures k xs) (basisRates k) n in
         (λ e. j .0 (sym (number-is (whole-one k l)) ∙ e), λ r. number-is (whole-one k l) ∙ j .1 r)
 
     eight-when : (decideAnswer k xs .number ≡ 8) ↔ ((d p : ℕ) → d < basisDays k → p < dayLen (basisRun k) d → inWindow k d p ≡ false)
@@ -121,7 +122,7 @@ module _ (k : Basis) (o : customerOpenAnswer k ≡ only 0) where
   legal : LegalBasis k
   legal = open-legal k (number-is o)
 
-  legal-year : {n : ℕ} → ReadRow (k .sheet) n → n ≡ 0 → ChargeYear (basisYear k)
+  legal-year : {n : ℕ} → ReadRow today (k .sheet) n → n ≡ 0 → ChargeYear (basisYear k)
   legal-year (malformed f) e = absurd (omega arith)
   legal-year (one f y) e = absurd (omega arith)
   legal-year (two f y l) e = absurd (omega arith)
@@ -129,8 +130,8 @@ module _ (k : Basis) (o : customerOpenAnswer k ≡ only 0) where
   legal-year (zero f y l w) e = y
 
   shown : readSheet (k .sheet) ≡ sheetIn (k .sheet)
-  unfolding readSheet
-  shown = handed (readAnswer (k .sheet)) (sheetIn (k .sheet)) _ (read-exactly (k .sheet) 0 .1 (legal .read))
+  unfolding readSheetBy
+  shown = handed (readAnswer (k .sheet)) (sheetIn (k .sheet)) _ (read-exactly today (k .sheet) 0 .1 (legal .read))
 
   module _ (d p : ℕ) (l : d < basisDays k) where
     answered : calendarAnswer (basisYear k) hs (d + 1) .number ≡ 0

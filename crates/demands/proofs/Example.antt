@@ -8,7 +8,8 @@ use Prim.Native.Nat.{ℕ, _+_, _<_}
 use lib.ListN.{getD}
 use Rattle.ranges.specs.Ranges.{joined, sumOver, countOver, anyOver, table, inBase}
 use Rattle.ranges.proofs.Tables.{getD-table}
-use Rattle.answers.specs.Ruling.{yearOut, levelOut, shareOf}
+use Rattle.answers.specs.Edition.{today}
+use Rattle.answers.specs.Ruling.{lacksYear, levelOut, shareOf}
 use Rattle.answers.specs.Said.{only}
 use Rattle.dates.specs.Dates.{leap, leapDay, daysTo, monthOf, seasonOf, weekdayOf, lastSunday, mostDays}
 use Rattle.holidays.specs.Holidays.{listed, badHolidays}
@@ -17,7 +18,7 @@ use Rattle.readings.specs.Runs.{changeOf, lenBy, quarterIn}
 use Rattle.sheet.specs.Windows.{isSet, setIn, tooFull}
 use Rattle.encoding.specs.Bytes.{twoAt, otherMark}
 use Rattle.sheet.specs.Bytes.{windowsIn, sheetIn}
-use Rattle.sheet.specs.Answers.{readAnswer}
+use Rattle.sheet.specs.Answers.{readAnswer, readAnswerBy}
 use Rattle.year_figures.specs.Counts.{setOn}
 use Rattle.demands.specs.Cases.{exampleSheet}
 
@@ -26,14 +27,14 @@ unfoldable pub example : List ℕ
 example = exampleSheet
 
 pub example-read : readAnswer example ≡ only 0
-unfolding example readAnswer otherMark twoAt yearOut levelOut tooFull setIn windowsIn table inBase anyOver countOver sumOver joined
+unfolding example readAnswerBy otherMark twoAt lacksYear levelOut tooFull setIn windowsIn table inBase anyOver countOver sumOver joined
 example-read = refl
 
 pub example-year : sheetIn example .year ≡ 2025
 unfolding example twoAt inBase joined
 example-year = refl
 
-pub example-share : shareOf (sheetIn example .level) ≡ 20
+pub example-share : shareOf today (sheetIn example .level) ≡ 20
 unfolding example shareOf
 example-share = refl
 

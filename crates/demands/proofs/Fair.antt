@@ -6,6 +6,8 @@ use mathlib.Core.List.{List}
 use Prim.Native.Nat.{ℕ}
 use native.Mathlib.Omega.{arith}
 use Rattle.ranges.specs.Limits.{Within}
+use Rattle.answers.specs.declared.Edition.{Edition}
+use Rattle.answers.specs.Edition.{today}
 use Rattle.answers.specs.Ruling.{Level}
 use Rattle.answers.specs.Said.{Said, only}
 use Rattle.readings.proofs.Runs.{year-run}
@@ -36,7 +38,7 @@ use Rattle.demands.specs.Fair.Given.{whole, days}
 use Rattle.demands.proofs.Carried.{carried, said-is}
 
 -- a legal year's level and prices are legal
-legal-read : {b : List ℕ} → ReadRow b 0 → Level (sheetIn b .level)
+legal-read : {ed : Edition} {b : List ℕ} → ReadRow ed b 0 → Level (sheetIn b .level)
 legal-read (zero f y l w) = l
 
 pub legal-opening : (k : Basis) → customerOpenAnswer k ≡ only 0 → LegalRates (basisRates k)
@@ -52,9 +54,9 @@ pub judged-numbers :
     (f : Figures) (r : Rates)
     → LegalRates r
     → (judgeAnswer f r .number ≡ 0) ⊎ Within 8 11 (judgeAnswer f r .number)
-judged-numbers f r l = go (judge-exactly f r _ .0 refl)
+judged-numbers f r l = go (judge-exactly today f r _ .0 refl)
   where
-    go : {n : ℕ} → JudgeRow f r n → (n ≡ 0) ⊎ Within 8 11 n
+    go : {n : ℕ} → JudgeRow today f r n → (n ≡ 0) ⊎ Within 8 11 n
     go (two a) = absurd (a (l .legal-level))
     go (six a b) = absurd (b (l .legal-prices))
     go (eight h n) = inr (record { from = omega arith; to = omega arith })
@@ -78,7 +80,14 @@ fair k xs a l g z =
     let c = chargedOf f (general f (basisRates k)) (charge f (basisRates k)) in
     let is : a ≡ withCharge c = one ∙ said-is _ (yearColumn f (basisRates k)) 0 (carried .judge f (basisRates k)) (sym (number-is one) ∙ z) in
     let fair = accepted-fair k xs c (sym is ∙ one) in
-    record { c = c .charge; g = c .peaks .plain .general; rest = _; carried = ap (λ (s : Said). s .figures) is; fifth = fair .floor; below = fair .reduction }
+    record {
+      c = c .charge;
+      g = c .peaks .plain .general;
+      rest = _;
+      carried = ap (λ (s : Said). s .figures) is;
+      fifth = omega (arith, fair .floor);
+      below = fair .reduction;
+    }
 
 pub fairness : Fairness ours
 fairness =
@@ -96,6 +105,6 @@ fairness =
           number-is (given-one k (t .second) (t .second-given))
           ∙ stays-accepted k (t .alike) none (sym (number-is (given-one k (t .first) (t .first-given))) ∙ z);
       answered = λ k xs a l g. rw (given-one k l g) (judged-numbers (basisFigures k xs) _ (legal-basis k xs l));
-      pays = λ k xs a l g. rw (given-one k l g) (pays-is _ (legal-basis k xs l) (basisFigures k xs));
+      pays = λ k xs a l g. rw (given-one k l g) (pays-is today _ (legal-basis k xs l) (basisFigures k xs));
       accepted-fair = fair;
     }

@@ -8,6 +8,7 @@ use Prim.Native.Nat.{ℕ, _≤_, _<_}
 use native.Mathlib.Decide.{decLt, ℕ-discrete}
 use native.Mathlib.Omega.{arith}
 use lib.ListN.{length}
+use Rattle.answers.specs.declared.Edition.{Edition}
 use Rattle.answers.specs.Ruling.{ChargeYear, Level}
 use Rattle.answers.specs.Said.{Said, only}
 use Rattle.periods.specs.Period.{periodDays}
@@ -141,7 +142,7 @@ module _ (k : Basis) (days : List (List ℕ)) where
     customer-holds =
         holds-taken (customerMachine terms) (openCustomer k) (sym (opened-state k (sym opens)) ∙ opens-holding terms) days
 
-    judge-row : {n : ℕ} {f : Figures} → JudgeRow f (terms .rates) n → (n ≡ 2 → ⊥) × (n ≡ 6 → ⊥)
+    judge-row : {ed : Edition} {n : ℕ} {f : Figures} → JudgeRow ed f (terms .rates) n → (n ≡ 2 → ⊥) × (n ≡ 6 → ⊥)
     judge-row (two a) = absurd (a (legal-opening k opens .legal-level))
     judge-row (six a b) = absurd (b (legal-opening k opens .legal-prices))
     judge-row (eight h a) = ((λ e. omega arith), (λ e. omega arith))

@@ -4,6 +4,7 @@ pub mod Calendar
 pub mod Fair
 pub mod HandedBack
 pub mod Sheets
+pub mod Forms
 pub mod Windows
 pub mod Charges
 pub mod Numbers

@@ -7,6 +7,7 @@ use Prim.Native.Nat.{ℕ, _<_}
 use native.Mathlib.Omega.{arith}
 use lib.ListN.{length, getD}
 use Rattle.ranges.specs.Limits.{Within}
+use Rattle.answers.specs.declared.Edition.{Edition}
 use Rattle.answers.specs.Ruling.{gridMost, customerMost, missing}
 use Rattle.periods.specs.Period.{periodDays}
 use Rattle.readings.specs.declared.Run.{Run}
@@ -72,7 +73,7 @@ Decided n = (n ≡ 0) ⊎ Within 8 11 n
 refuted : {n : ℕ} → (n ≡ 0 → ⊥) → (Within 8 11 n → ⊥) → Decided n → ⊥
 refuted a b = ⊎-elim a b
 
-read-other : {b : List ℕ} {n : ℕ} → ReadRow b n → (n ≡ 0 → ⊥) → Decided n → ⊥
+read-other : {ed : Edition} {b : List ℕ} {n : ℕ} → ReadRow ed b n → (n ≡ 0 → ⊥) → Decided n → ⊥
 read-other (malformed f) z = refuted z (λ (w : Within 8 11 12). omega (arith, w .to))
 read-other (one f y) z = refuted z (λ (w : Within 8 11 1). omega (arith, w .from))
 read-other (two f y l) z = refuted z (λ (w : Within 8 11 2). omega (arith, w .from))

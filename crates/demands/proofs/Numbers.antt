@@ -9,6 +9,7 @@ use borrow.Author.Tests.{le-leb, lt-leb, eq-eqb, ne-eqb}
 use Rattle.ranges.specs.Limits.{Within}
 use Rattle.ranges.proofs.Sums.{sum-more}
 use Rattle.answers.specs.Ruling.{shareOf}
+use Rattle.answers.proofs.Laws.{today-legal}
 use Rattle.dates.specs.Dates.{leap, leapDay, yearDays, monthDays, daysTo, dayOf, seasonOfMonth, seasonOf}
 use Rattle.dates.proofs.Counted.{anchor, next-day, new-year}
 use Rattle.dates.proofs.Months.{grows, month-first}
@@ -42,6 +43,7 @@ numbers =
       share-6 = refl;
       share-7 = refl;
       move = refl;
+      legal = today-legal;
     }
 
 -- the days of a year

@@ -4,7 +4,7 @@ use mathlib.Core.Path.{_≡_, sym}
 use borrow.Author.Tests.{ne-eqb}
 use lib.ListN.{length}
 use Rattle.answers.specs.Said.{Said, after}
-use Rattle.sheet.specs.Answers.{readAnswer, readSheet, writeAnswer, written}
+use Rattle.sheet.specs.Answers.{readAnswer, readSheetBy, writeAnswer, writtenBy}
 use Rattle.grid.specs.Answers.{windowsAnswer, windowsBuffer, gridOpenAnswer}
 use Rattle.grid_days.specs.Days.{shutGrid, gridDayAnswer, dayGrid, gridCloseAnswer, gridCloseBuffer}
 use Rattle.grid_days.proofs.Steps.{close-short}
@@ -20,7 +20,7 @@ stays : {A : Type 0} (a : Said) (new old : A) → Refused a → after a new old 
 stays a new old r = rw (ne-eqb _ _ r)
 
 pub left-as-before : LeftAsBefore ours
-unfolding written windowsBuffer dayGrid gridCloseBuffer dayCustomer
+unfolding writtenBy windowsBuffer dayGrid gridCloseBuffer dayCustomer
 left-as-before =
     record {
       write = λ s buffer r. stays (writeAnswer s (length buffer)) _ _ r;
@@ -31,7 +31,7 @@ left-as-before =
     }
 
 pub fixed-state : FixedState ours
-unfolding readSheet openCustomer
+unfolding readSheetBy openCustomer
 fixed-state =
     record {
       read = λ b r. stays (readAnswer b) _ _ r;

@@ -8,7 +8,9 @@ use native.Mathlib.Omega.{arith}
 use lib.ListN.{length, getD, take, length-replicate}
 use Rattle.ranges.specs.Ranges.{joined, anyOver}
 use Rattle.ranges.proofs.Tables.{length-table}
-use Rattle.answers.specs.Ruling.{Level, gridMost, customerMost, yearOut, levelOut}
+use Rattle.answers.specs.declared.Edition.{Edition}
+use Rattle.answers.specs.Edition.{today}
+use Rattle.answers.specs.Ruling.{Level, gridMost, customerMost, lacksYear, levelOut}
 use Rattle.answers.specs.Said.{Said, only}
 use Rattle.dates.specs.Dates.{leap, leapDay}
 use Rattle.holidays.specs.Holidays.{badHolidays}
@@ -55,7 +57,7 @@ use Rattle.demands.proofs.WrongDays.{wrong-grid-days, wrong-customer-da
 
 -- 2 January 2025 without holidays is answered
 second-january : calendarAnswer 2025 [] 2 .number ≡ 0
-unfolding calendarAnswer yearOut badHolidays dayOut leapDay leap anyOver joined
+unfolding calendarAnswer lacksYear badHolidays dayOut leapDay leap anyOver joined
 second-january = refl
 
 -- the sheet of the example of Rule 10.6 can be read, so it can be written
@@ -66,7 +68,7 @@ sheet-long : length (sheet .windows) ≡ windowPlaces
 unfolding windowsIn
 sheet-long = length-table (windowAt example) windowPlaces
 
-write-row : {b : List ℕ} {n : ℕ} → ReadRow b n → n ≡ 0 → WriteRow (sheetIn b) (length blankBuffer) 0
+write-row : {ed : Edition} {b : List ℕ} {n : ℕ} → ReadRow ed b n → n ≡ 0 → WriteRow ed (sheetIn b) (length blankBuffer) 0
 write-row (malformed f) e = absurd (omega arith)
 write-row (one f y) e = absurd (omega arith)
 write-row (two f y l) e = absurd (omega arith)
@@ -78,11 +80,11 @@ level-in : (level : ℕ) → 1 ≤ level → level ≤ 7 → Level level
 level-in level a b = record { from = a; to = b }
 
 opened-5 : gridOpenAnswer 2025 5 .number ≡ 0
-unfolding gridOpenAnswer yearOut levelOut
+unfolding gridOpenAnswer lacksYear levelOut
 opened-5 = refl
 
 opened-6 : gridOpenAnswer 2025 6 .number ≡ 0
-unfolding gridOpenAnswer yearOut levelOut
+unfolding gridOpenAnswer lacksYear levelOut
 opened-6 = refl
 
 abbrev period : Run
@@ -108,10 +110,10 @@ figures = basisFigures k year
 lawful : LegalYear k year
 lawful = legal 100 (omega arith) (omega arith)
 
-judged : JudgeRow figures (basisRates k) 0
+judged : JudgeRow today figures (basisRates k) 0
 judged = row 100 (omega arith) (omega arith)
 
-eligible-row : {n : ℕ} → JudgeRow figures (basisRates k) n → n ≡ 0 → EligibleRow figures (basisRates k) 0
+eligible-row : {ed : Edition} {n : ℕ} → JudgeRow ed figures (basisRates k) n → n ≡ 0 → EligibleRow ed figures (basisRates k) 0
 eligible-row (two a) e = absurd (omega arith)
 eligible-row (six a b) e = absurd (omega arith)
 eligible-row (eight h a) e = absurd (omega arith)
@@ -120,7 +122,7 @@ eligible-row (ten h s m) e = absurd (omega arith)
 eligible-row (eleven h s m cut) e = absurd (omega arith)
 eligible-row (zero h s m cut) e = zero h s m
 
-charge-row : {n : ℕ} → JudgeRow figures (basisRates k) n → n ≡ 0 → ChargeRow figures (basisRates k) 0
+charge-row : {ed : Edition} {n : ℕ} → JudgeRow ed figures (basisRates k) n → n ≡ 0 → ChargeRow ed figures (basisRates k) 0
 charge-row (two a) e = absurd (omega arith)
 charge-row (six a b) e = absurd (omega arith)
 charge-row (eight h a) e = absurd (omega arith)

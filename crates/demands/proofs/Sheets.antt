@@ -12,12 +12,14 @@ use lib.Seq.{drop-at}
 use Rattle.ranges.specs.Limits.{Within}
 use Rattle.ranges.specs.Ranges.{inBase, joined}
 use Rattle.ranges.proofs.Tables.{getD-table}
+use Rattle.answers.specs.declared.Edition.{Edition}
+use Rattle.answers.specs.Edition.{today}
 use Rattle.answers.specs.Said.{Said, after, only}
 use Rattle.encoding.specs.Bytes.{twoAt}
 use Rattle.sheet.specs.declared.Sheet.{Sheet}
 use Rattle.sheet.specs.Windows.{windowPlaces, quarterPlace, isSet}
 use Rattle.sheet.specs.Bytes.{sheetSize, sheetBytes, windowAt, windowsIn, sheetIn}
-use Rattle.sheet.specs.Answers.{ReadSaid, readAnswer, readSheet, writeAnswer, written}
+use Rattle.sheet.specs.Answers.{ReadSaid, readAnswer, readSheet, readSheetBy, writeAnswer, written, writtenBy}
 use Rattle.sheet.specs.Rows.{ReadRow}
 use Rattle.sheet.specs.Rows.ReadRow.{malformed, one, two, full, zero}
 use Rattle.sheet.proofs.Windows.{set-at}
@@ -45,7 +47,7 @@ bit-there b n q w l =
     sym (getD-table (windowAt b) windowPlaces (quarterPlace n q) _ (omega arith)) ∙ set-at (windowsIn b) n q w l in
     rw (← shown, ← byte, ← bit) ((λ e. eq-eqb _ _ e), eqb-true _ _)
 
-laid-out : (b : List ℕ) {n : ℕ} → ReadRow b n → n ≡ 0 → LaidOut b (sheetIn b)
+laid-out : {ed : Edition} (b : List ℕ) {n : ℕ} → ReadRow ed b n → n ≡ 0 → LaidOut b (sheetIn b)
 unfolding twoAt inBase joined
 laid-out b (malformed f) e = absurd (omega arith)
 laid-out b (one f y) e = absurd (omega arith)
@@ -64,8 +66,8 @@ laid-out b (zero f y l w) e =
     }
 
 read-so : (b : List ℕ) → readAnswer b .number ≡ 0 → LaidOut b (readSheet b)
-unfolding readSheet
-read-so b z = rw (handed (readAnswer b) (sheetIn b) _ z) (laid-out b (read-exactly b 0 .0 z) refl)
+unfolding readSheetBy
+read-so b z = rw (handed (readAnswer b) (sheetIn b) _ z) (laid-out b (read-exactly today b 0 .0 z) refl)
 
 reads-back :
     (s : Sheet) (buffer : List ℕ)
@@ -73,11 +75,11 @@ reads-back :
     → writeAnswer s (length buffer) .number ≡ 0
     → (readAnswer (take 56 (written s buffer)) ≡ only 0) × (readSheet (take 56 (written s buffer)) ≡ s)
 reads-back s buffer l z =
-    let r = buffer-read s buffer l z in
+    let r = buffer-read today s buffer l z in
     (ap (λ (x : ReadSaid). x .answer) r, ap (λ (x : ReadSaid). x .sheet) r)
 
 pub rest-stays : (s : Sheet) (buffer : List ℕ) → writeAnswer s (length buffer) .number ≡ 0 → drop 56 (written s buffer) ≡ drop 56 buffer
-unfolding written
+unfolding writtenBy
 rest-stays s buffer z =
     ap (drop 56) (handed (writeAnswer s (length buffer)) (sheetBytes s ++ drop sheetSize buffer) _ z)
     ∙ drop-at (sheetBytes s) (drop sheetSize buffer) sheetSize (length-bytes (s .year) (s .level) (s .windows))
@@ -93,4 +95,4 @@ written-so s buffer l z =
 
 pub sheets : Sheets ours
 sheets =
-    record { written-so = written-so; rest-stays = rest-stays; read-so = read-so; reads-back = reads-back; same-bytes = same-bytes }
+    record { written-so = written-so; rest-stays = rest-stays; read-so = read-so; reads-back = reads-back; same-bytes = same-bytes today }

@@ -1,7 +1,7 @@
 -- The peak, the curves and the kept quarters of the definitions are those of specs/Windows.
 -- Assumes nothing.
-use mathlib.Core.Path.{_≡_, refl, sym, ap}
-use mathlib.Core.Bool.{Bool, true, false, cond, _&&_, _||_, or-false}
+use mathlib.Core.Path.{_≡_, refl, sym, ap, _∙_}
+use mathlib.Core.Bool.{true, cond, _&&_, _||_, or-false}
 use mathlib.Core.Logic.{_↔_}
 use mathlib.Core.List.{List}
 use Prim.Native.Nat.{ℕ, _*_, _≤_, _<_}
@@ -11,11 +11,12 @@ use native.Mathlib.Omega.{arith}
 use borrow.Author.Tests.{lt-ltb, le-ltb, ltb-true, eq-eqb, ne-eqb, eqb-true}
 use lib.Dec.{ltb, eqb}
 use lib.ListN.{getD}
-use Rattle.ranges.specs.Ranges.{countOver, numberIf}
+use Rattle.ranges.specs.Ranges.{countOver}
 use Rattle.ranges.proofs.Inside.{number-if-low}
 use Rattle.ranges.proofs.Bools.{both, pair}
 use Rattle.ranges.proofs.Largest.{largest-le}
 use Rattle.ranges.proofs.Tests.{count-cong}
+use Rattle.answers.specs.Edition.{today}
 use Rattle.periods.specs.Period.{periodDays}
 use Rattle.readings.specs.declared.Run.the-variants.{Period}
 use Rattle.readings.specs.Runs.{dayLen, quarterOf, reading}
@@ -26,6 +27,7 @@ use Rattle.grid_curves.specs.Curves.{inSeason, topOf, curveAt}
 use Rattle.grid.specs.Rows.{periodPeak}
 use Rattle.grid_curves.proofs.Curves.{in-curve}
 use Rattle.demands.specs.Windows.{NoneAboveIn, IsPeak, IsCurve, ahead, Kept}
+use Rattle.demands.proofs.Forms.{line-form}
 
 -- a value that counts where a test passes
 module _ (y : ℕ) (xs : List ℕ) where
@@ -67,8 +69,7 @@ module _ (y : ℕ) (xs : List ℕ) where
 -- kept quarters: the test of the definition, and what specs/Windows says, of values that are the same
 module _ (peak : ℕ) (c : ℕ → ℕ) (values : List ℕ) (same : (q : ℕ) → q < 96 → c q ≡ getD values q 0) where
   line-same : (p : ℕ) → p < 96 → aboveLine peak (getD values p 0) ≡ ltb (19 * peak) (20 * c p)
-  unfolding aboveLine
-  line-same p l = ap (λ (v : ℕ). ltb (19 * peak) (20 * v)) (sym (same p l))
+  line-same p l = line-form peak (getD values p 0) ∙ ap (λ (v : ℕ). ltb (19 * peak) (20 * v)) (sym (same p l))
 
   order : (v w p q : ℕ) → cond (eqb v w) (ltb p q) (ltb w v) ≡ (ltb w v || (eqb v w && ltb p q))
   order v w p q = go (ℕ-discrete v w)
@@ -81,11 +82,11 @@ module _ (peak : ℕ) (c : ℕ → ℕ) (values : List ℕ) (same : (q : ℕ) �
   unfolding comesBefore
   ahead-same q p m l = rw (line-same p l, ← same p l, ← same q m, order (c p) (c q) p q) refl
 
-  rank-same : (q : ℕ) → q < 96 → rank peak values q ≡ countOver (ahead peak c q) 96
+  rank-same : (q : ℕ) → q < 96 → rank today peak values q ≡ countOver (ahead peak c q) 96
   unfolding rank
   rank-same q m = count-cong _ (ahead peak c q) 96 (λ p l. ahead-same q p m l)
 
-  pub kept-plain : (q : ℕ) → q < 96 → (kept peak values q ≡ true) ↔ Kept peak c q
+  pub kept-plain : (q : ℕ) → q < 96 → (kept today peak values q ≡ true) ↔ Kept peak c q
   unfolding kept
   kept-plain q m =
       rw (line-same q m, rank-same q m) (

@@ -17,7 +17,9 @@ use Rattle.ranges.proofs.Bools.{clash, pair}
 use Rattle.ranges.proofs.Largest.{largest-le}
 use Rattle.ranges.proofs.Tables.{getD-table}
 use Rattle.ranges.proofs.Tests.{count-fails}
-use Rattle.answers.specs.Ruling.{Level, gridMost, dayQuarters, lineParts, peakParts, windowsMost}
+use Rattle.answers.specs.declared.Edition.{Edition}
+use Rattle.answers.specs.Edition.{wholeShare, today}
+use Rattle.answers.specs.Ruling.{Level, gridMost, dayQuarters}
 use Rattle.dates.specs.Dates.{leap, leapDay, daysTo, monthOf, seasonOf}
 use Rattle.periods.specs.Period.{periodDays, periodDate, periodSeason}
 use Rattle.readings.specs.declared.Run.the-variants.{Period}
@@ -28,7 +30,7 @@ use Rattle.readings.proofs.Runs.{len-some, period-run}
 use Rattle.readings.proofs.Illegal.{all-legal-in}
 use Rattle.sheet.specs.Windows.{isSet}
 use Rattle.sheet.specs.Bytes.{sheetSize}
-use Rattle.windows.specs.Chosen.{aboveLine, comesBefore, rank, kept}
+use Rattle.windows.specs.Chosen.{aboveLine, aboveLineBy, comesBefore, rank, kept}
 use Rattle.grid_curves.specs.Curves.{inSeason, topOf, curveAt}
 use Rattle.grid.specs.Rows.{periodPeak}
 use Rattle.grid.specs.Rows.WindowsRow.{zero}
@@ -67,12 +69,12 @@ first-peak : periodPeak 2025 first ≡ 1
 first-peak = rw (← period-run 2025) (start-peak (Period 2025) 1 some-2025)
 
 -- quarter 0 is kept where it has the peak, and a quarter with curve value 0 never is
-kept-top : (peak : ℕ) (curve : List ℕ) → 0 < peak → getD curve 0 0 ≡ peak → ((p : ℕ) → p < dayQuarters → getD curve p 0 ≤ peak) → kept peak curve 0 ≡ true
-unfolding kept rank aboveLine comesBefore
+kept-top : (peak : ℕ) (curve : List ℕ) → 0 < peak → getD curve 0 0 ≡ peak → ((p : ℕ) → p < dayQuarters → getD curve p 0 ≤ peak) → kept today peak curve 0 ≡ true
+unfolding kept rank aboveLineBy comesBefore
 kept-top peak curve h e low =
     let none = count-fails (λ p. aboveLine peak (getD curve p 0) && comesBefore curve p 0) dayQuarters (λ p l. no-one p (low p l)) in
-    pair (lt-ltb (lineParts * peak) (peakParts * getD curve 0 0) (omega arith))
-    (lt-ltb (countOver (λ p. aboveLine peak (getD curve p 0) && comesBefore curve p 0) dayQuarters) windowsMost (omega arith))
+    pair (lt-ltb (today .line * peak) (wholeShare * getD curve 0 0) (omega arith))
+    (lt-ltb (countOver (λ p. aboveLine peak (getD curve p 0) && comesBefore curve p 0) dayQuarters) (today .limit) (omega arith))
   where
     last : (p : ℕ) → getD curve p 0 ≤ peak → Dec (getD curve p 0 ≡ getD curve 0 0) → comesBefore curve p 0 ≡ false
     last p l (yes q) = simp (eq-eqb _ _ q, le-ltb p 0 (omega arith))
@@ -81,9 +83,9 @@ kept-top peak curve h e low =
     no-one : (p : ℕ) → getD curve p 0 ≤ peak → (aboveLine peak (getD curve p 0) && comesBefore curve p 0) ≡ false
     no-one p l = rw (last p l (ℕ-discrete (getD curve p 0) (getD curve 0 0))) (and-false (aboveLine peak (getD curve p 0)))
 
-kept-none : (peak : ℕ) (curve : List ℕ) (q : ℕ) → getD curve q 0 ≡ 0 → kept peak curve q ≡ false
-unfolding kept aboveLine
-kept-none peak curve q e = rw (le-ltb (lineParts * peak) (peakParts * getD curve q 0) (omega arith))
+kept-none : (ed : Edition) (peak : ℕ) (curve : List ℕ) (q : ℕ) → getD curve q 0 ≡ 0 → kept ed peak curve q ≡ false
+unfolding kept aboveLineBy
+kept-none ed peak curve q e = rw (le-ltb (ed .line * peak) (wholeShare * getD curve q 0) (omega arith))
 
 -- summer, season 3: the last day of the period lies in it, and the first does not
 last-season : periodSeason 2025 366 ≡ 3
@@ -110,7 +112,7 @@ same-top =
     let c = in-curve 2025 same (periodDays 2025) 365 0 d (len-some (Period 2025) 365) in
     omega (arith, same-low 0 (omega arith), value-is same 0 (omega arith), rw (last-season, quarter-first (dayLen (Period 2025) 365)) at c)
 
-same-kept : kept (periodPeak 2025 same) (summerCurve same) 0 ≡ true
+same-kept : kept today (periodPeak 2025 same) (summerCurve same) 0 ≡ true
 same-kept = rw same-peak (kept-top 1 (summerCurve same) (omega arith) same-top same-low)
 
 first-zero : curveAt 2025 first (periodDays 2025) 3 0 ≤ 0
@@ -130,8 +132,8 @@ first-zero = largest-le _ (periodDays 2025) 0 (λ d l. go d (decLt 0 d))
         let e : d ≡ 0 = omega arith in
         rw (e, first-season) (omega arith)
 
-first-kept : kept (periodPeak 2025 first) (summerCurve first) 0 ≡ false
-first-kept = kept-none (periodPeak 2025 first) (summerCurve first) 0 (omega (arith, value-is first 0 (omega arith), first-zero))
+first-left-out : kept today (periodPeak 2025 first) (summerCurve first) 0 ≡ false
+first-left-out = kept-none today (periodPeak 2025 first) (summerCurve first) 0 (omega (arith, value-is first 0 (omega arith), first-zero))
 
 -- any module that meets the demands
 module _ (m : Module) (d : Demands m) (level : ℕ) (l : Level level) where
@@ -172,7 +174,7 @@ module _ (m : Module) (d : Demands m) (level : ℕ) (l : Level level) where
       omega (arith, marked, ap (λ (b : List ℕ). getD (take sheetSize b) 0 0) stays)
 
   -- quarter 0 of summer, by the definition
-  kept-there : (xs : List ℕ) → (kept (periodPeak 2025 xs) (summerCurve xs) 0 ≡ true) ↔ Kept (periodPeak 2025 xs) (curveAt 2025 xs (periodDays 2025) 3) 0
+  kept-there : (xs : List ℕ) → (kept today (periodPeak 2025 xs) (summerCurve xs) 0 ≡ true) ↔ Kept (periodPeak 2025 xs) (curveAt 2025 xs (periodDays 2025) 3) 0
   kept-there xs = kept-plain (periodPeak 2025 xs) (curveAt 2025 xs (periodDays 2025) 3) (summerCurve xs) (λ q l. sym (value-is xs q l)) 0 (omega arith)
 
   window :
@@ -191,4 +193,4 @@ module _ (m : Module) (d : Demands m) (level : ℕ) (l : Level level) where
       ap shown (sym (o .fixed 2025 level same blankBuffer same-accepted)) ∙ window same same-laid .1 (kept-there same .0 same-kept) in
       let held : isSet (sheetShown m 2025 level first blankBuffer .windows) 3 0 ≡ true =
       ap shown (o .fixed 2025 level first blankBuffer first-accepted) ∙ set in
-      clash (kept-there first .1 (window first first-laid .0 held)) first-kept
+      clash (kept-there first .1 (window first first-laid .0 held)) first-left-out

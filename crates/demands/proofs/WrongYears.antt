@@ -9,6 +9,7 @@ use native.Mathlib.Decide.{decLt}
 use native.Mathlib.Omega.{arith}
 use Rattle.ranges.proofs.Bools.{clash, both, pair}
 use Rattle.ranges.proofs.Tests.{any-at}
+use Rattle.answers.specs.Edition.{today}
 use Rattle.answers.specs.Ruling.{capacityMost, customerMost}
 use Rattle.answers.specs.Said.{only}
 use Rattle.readings.specs.Runs.{runDays, dayLen}
@@ -17,7 +18,7 @@ use Rattle.readings.proofs.Illegal.{all-legal-in}
 use Rattle.sheet.specs.Bytes.{sheetIn}
 use Rattle.tariff.specs.declared.Prices.{Prices}
 use Rattle.tariff.specs.Prices.{LegalRow}
-use Rattle.tariff.specs.Charges.{rowOf, chargeFor, general, reduced, floorOf, charge}
+use Rattle.tariff.specs.Charges.{rowOf, chargeFor, general, generalBy, reducedBy, floorOf, charge, chargeBy}
 use Rattle.tariff.specs.Answers.{payable}
 use Rattle.tariff.specs.Rows.{JudgeRow}
 use Rattle.tariff.specs.Rows.JudgeRow.{zero}
@@ -116,20 +117,20 @@ module _ (price : ℕ) (least : 100 ≤ price) (most : price ≤ capacityMost) w
   row-is false = refl
 
   general-is : general (basisFigures k xs) (basisRates k) ≡ 1000 * price
-  unfolding general chargeFor
+  unfolding generalBy chargeFor
   general-is = rw (row-is _, peak-is) (omega arith)
 
   charge-is : charge (basisFigures k xs) (basisRates k) ≡ 200 * price
-  unfolding charge reduced floorOf chargeFor
+  unfolding chargeBy reducedBy floorOf chargeFor
   charge-is = rw (general-is, row-is _, high-is) (omega arith)
 
-  pub row : JudgeRow (basisFigures k xs) (basisRates k) 0
+  pub row : JudgeRow today (basisFigures k xs) (basisRates k) 0
   row =
       zero (legal-basis k xs legal) (record { some = any-there; share = rw (example-share, peak-is, high-is) (omega arith) })
       (omega (arith, peak-is, high-is)) (omega (arith, general-is, charge-is))
 
   ours-accepted : decideAnswer k xs .number ≡ 0
-  ours-accepted = number-is (given-one k legal whole) ∙ judge-exactly (basisFigures k xs) (basisRates k) 0 .1 row
+  ours-accepted = number-is (given-one k legal whole) ∙ judge-exactly today (basisFigures k xs) (basisRates k) 0 .1 row
 
   -- what a module that meets the demands answers
   module _ (m : Module) (d : Demands m) where

@@ -11,6 +11,7 @@ use Prim.Native.Nat.{ℕ, _+_, _≤_, _<_}
 use lib.ListN.{length, getD, take, drop}
 use Rattle.ranges.specs.Limits.{Within}
 use Rattle.ranges.specs.Ranges.{sumOver}
+use Rattle.answers.specs.Edition.{today}
 use Rattle.answers.specs.Ruling.{ChargeYear, dayQuarters, gridMost, customerMost, missing}
 use Rattle.answers.specs.Said.{only, badPlace}
 use Rattle.dates.specs.Dates.{seasonOf}
@@ -48,9 +49,9 @@ pub record ExactlyWhen (m : Module) : Type 0 where
   -- 0, 1, 3, 13; the day d counts from 1
   pub calendar : (y : ℕ) (hs : List ℕ) (d n : ℕ) → (m .calendar y hs d .number ≡ n) ↔ DayRow y hs d n
   -- 0, 1, 2, 12
-  pub read : (b : List ℕ) (n : ℕ) → (m .read b .number ≡ n) ↔ ReadRow b n
+  pub read : (b : List ℕ) (n : ℕ) → (m .read b .number ≡ n) ↔ ReadRow today b n
   -- 0, 1, 2, 12, 14
-  pub write : (s : Sheet) (room n : ℕ) → (m .write s room .number ≡ n) ↔ WriteRow s room n
+  pub write : (s : Sheet) (room n : ℕ) → (m .write s room .number ≡ n) ↔ WriteRow today s room n
   -- 0, 1, 2, 4, 5, 7, 14
   pub windows :
       (y level : ℕ) (xs buffer : List ℕ) (n : ℕ)
@@ -61,9 +62,9 @@ pub record ExactlyWhen (m : Module) : Type 0 where
   pub grid-day : (g : Grid) (day : List ℕ) (n : ℕ) → (m .gridDay g day .number ≡ n) ↔ NextRow (Period (g .year)) gridMost (g .seen) day n
   pub grid-close : (g : Grid) (buffer : List ℕ) (n : ℕ) → (m .gridClose g (length buffer) .number ≡ n) ↔ CloseRow g (length buffer) n
   -- may the customer pay less: 0, 2, 6, 8, 9, 10; what is the charge: 0, 6, 8, 11; both: 0, 2, 6, 8, 9, 10, 11
-  pub eligible : (f : Figures) (r : Rates) (n : ℕ) → (m .eligible f r .number ≡ n) ↔ EligibleRow f r n
-  pub charge : (f : Figures) (r : Rates) (n : ℕ) → (m .charge f r .number ≡ n) ↔ ChargeRow f r n
-  pub judge : (f : Figures) (r : Rates) (n : ℕ) → (m .judge f r .number ≡ n) ↔ JudgeRow f r n
+  pub eligible : (f : Figures) (r : Rates) (n : ℕ) → (m .eligible f r .number ≡ n) ↔ EligibleRow today f r n
+  pub charge : (f : Figures) (r : Rates) (n : ℕ) → (m .charge f r .number ≡ n) ↔ ChargeRow today f r n
+  pub judge : (f : Figures) (r : Rates) (n : ℕ) → (m .judge f r .number ≡ n) ↔ JudgeRow today f r n
   -- 0 to 6, 8 to 12
   pub decide :
       (k : Basis) (xs : List ℕ) (n : ℕ)

@@ -15,6 +15,7 @@ use Rattle.demands.specs.Module.{Module}
 use Rattle.demands.specs.Refusals.{LeftAsBefore, FixedState, HandedBack, Carried}
 use Rattle.demands.specs.Calendar.{Calendar}
 use Rattle.demands.specs.Numbers.{Numbers, Dates}
+use Rattle.demands.specs.Forms.{TodayForms}
 use Rattle.demands.specs.Charges.{ToTheCent}
 use Rattle.demands.specs.Answers.{ExactlyWhen, NeverLegal, HandedOut, ToTheQuarterHour, Eligibility, DaysAsWhole}
 use Rattle.demands.specs.Sheets.{Sheets}
@@ -28,6 +29,7 @@ pub record Demands (m : Module) : Type 0 where
   pub carried : Carried m
   -- demand 2: what is answered is what the rules say (Rule 12.2)
   pub numbers : Numbers
+  pub today-forms : TodayForms
   pub dates : Dates
   pub plain-days : (run : Run) → PlainDays run
   pub each-quarter : EachQuarter

@@ -4,6 +4,7 @@ pub mod Calendar
 pub mod Windows
 pub mod Charges
 pub mod Numbers
+pub mod Forms
 pub mod Answers
 pub mod Sheets
 pub mod Fair

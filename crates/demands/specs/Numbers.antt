@@ -1,11 +1,13 @@
 -- The numbers and dates of the rules, written out: the limits and shares that the rows of specs/Answers name, and what
 -- a weekday, a season and the reference period are. The line, the forty quarters, the hours of use, the floor and the
--- least reduction stand in specs/Windows, Charges and Fair. Rules 1.5, 2.1 to 2.3, 2.6, 3.1, 3.2, 4.1, 4.5 and 7.6.
+-- least reduction stand in specs/Forms, Windows, Charges and Fair. Rules 1.5, 2.1 to 2.3, 2.6, 3.1, 3.2, 4.1, 4.5 and
+-- 7.6.
 use mathlib.Core.Path.{_≡_}
 use mathlib.Core.Logic.{_↔_, _⊎_}
 use Prim.Native.Nat.{ℕ, suc, _+_, _-_, _*_, _%_, _≤_, _<_}
 use Rattle.ranges.specs.Limits.{Within}
-use Rattle.answers.specs.Ruling.{ChargeYear, Level, gridMost, customerMost, missing, capacityMost, energyMost, holidaysMost, dayQuarters, windowsMost, shareOf, leastMove}
+use Rattle.answers.specs.Edition.{today}
+use Rattle.answers.specs.Ruling.{ChargeYear, Level, gridMost, customerMost, missing, capacityMost, energyMost, holidaysMost, dayQuarters, shareOf, leastMove, LegalEdition}
 use Rattle.dates.specs.Dates.{yearDays, monthDays, dayOf, weekdayOf, seasonOf}
 use Rattle.periods.specs.Period.{periodDays, periodDate, periodSeason}
 
@@ -22,17 +24,19 @@ pub record Numbers : Type 0 where
   -- how many holidays a list has at most, quarters a day, and windows a season
   pub holidays-limit : holidaysMost ≡ 40
   pub quarters : dayQuarters ≡ 96
-  pub windows-limit : windowsMost ≡ 40
+  pub windows-limit : today .limit ≡ 40
   -- the share of each level, 1 to 7, in percent
-  pub share-1 : shareOf 1 ≡ 5
-  pub share-2 : shareOf 2 ≡ 10
-  pub share-3 : shareOf 3 ≡ 10
-  pub share-4 : shareOf 4 ≡ 20
-  pub share-5 : shareOf 5 ≡ 20
-  pub share-6 : shareOf 6 ≡ 30
-  pub share-7 : shareOf 7 ≡ 30
+  pub share-1 : shareOf today 1 ≡ 5
+  pub share-2 : shareOf today 2 ≡ 10
+  pub share-3 : shareOf today 3 ≡ 10
+  pub share-4 : shareOf today 4 ≡ 20
+  pub share-5 : shareOf today 5 ≡ 20
+  pub share-6 : shareOf today 6 ≡ 30
+  pub share-7 : shareOf today 7 ≡ 30
   -- the least move in W: 100 kW
-  pub move : leastMove ≡ 100 * 1000
+  pub move : leastMove today ≡ 100 * 1000
+  -- today's edition is a legal one
+  pub legal : LegalEdition today
 
 pub record Dates : Type 0 where
   -- every fourth year has 366 days; of the hundreds, every fourth

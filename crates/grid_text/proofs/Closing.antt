@@ -6,13 +6,14 @@ use mathlib.Core.List.{[], _∷_}
 use Prim.Native.Nat.{ℕ}
 use borrow.Author.Tests.{eq-eqb, ne-eqb}
 use lib.Dec.{ltb, eqb}
+use Rattle.answers.specs.Edition.{today}
 use Rattle.answers.specs.Ruling.{yearOut, levelOut}
 use Rattle.answers.specs.Said.{Said, only}
 use Rattle.periods.specs.Period.{periodDays}
 use Rattle.readings.specs.Legal.{highestOf}
 use Rattle.sheet.specs.Windows.{tooFull}
 use Rattle.sheet.specs.Bytes.{sheetSize}
-use Rattle.sheet.specs.Answers.{readSheet, writeAnswer}
+use Rattle.sheet.specs.Answers.{readSheet, writeAnswerBy}
 use Rattle.grid_days.specs.declared.Grid.{Grid}
 use Rattle.grid.specs.Answers.{sheetOf, finishAnswer}
 use Rattle.grid_days.specs.Days.{gridCloseAnswer, gridCloseBuffer}
@@ -30,7 +31,7 @@ only-of true x y h k = h
 only-of false x y h k = k
 
 close-only : (g : Grid) (room : ℕ) → Only (gridCloseAnswer g room)
-unfolding gridCloseAnswer finishAnswer writeAnswer
+unfolding gridCloseAnswer finishAnswer writeAnswerBy
 close-only g room =
     let s = sheetOf (g .year) (g .level) (g .curves) in
     only-of (ltb room sheetSize) (only 14) _ refl
@@ -39,7 +40,7 @@ close-only g room =
     (only-of (ltb room sheetSize) (only 14) _ refl
     (only-of (yearOut (s .year)) (only 1) _ refl
     (only-of (levelOut (s .level)) (only 2) _ refl
-    (only-of (tooFull (s .windows)) (only 12) (only 0) refl refl))))))
+    (only-of (tooFull today (s .windows)) (only 12) (only 0) refl refl))))))
 
 module _ (g : Grid) where
   abbrev said : Said

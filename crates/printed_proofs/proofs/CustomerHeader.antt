@@ -13,6 +13,7 @@ use lib.ListN.{length, getD}
 use lib.Seq.{ext-getD}
 use Rattle.ranges.specs.Ranges.{numberIf, table}
 use Rattle.ranges.proofs.Tables.{table-cong}
+use Rattle.answers.specs.Edition.{today}
 use Rattle.answers.specs.Ruling.{holidaysMost, capacityOut, energyOut}
 use Rattle.encoding.specs.Bytes.{twoAt, fourAt}
 use Rattle.encoding.proofs.Bytes.{two-same, four-same}
@@ -34,7 +35,7 @@ use Rattle.customer_head.proofs.CustomerLayout.{firstWidths, firstStarts, count
 -- the fields look at their own bytes
 season-own : Own seasonField seasonBytes
 unfolding seasonField
-season-own b c i h = ap (λ (n : ℕ). numberIf (tooMany n) 12) (set-same b c i i h)
+season-own b c i h = ap (λ (n : ℕ). numberIf (tooMany today n) 12) (set-same b c i i h)
 
 option-own : Own optionField 1
 unfolding optionField

@@ -11,6 +11,7 @@ use lib.ListN.{length, getD}
 use Rattle.ranges.specs.Ranges.{numberIf}
 use Rattle.ranges.proofs.Tables.{length-table}
 use Rattle.ranges.proofs.Tests.{any-fails, Passed}
+use Rattle.answers.specs.Edition.{today}
 use Rattle.answers.specs.Ruling.{yearOut, levelOut, capacityOut, energyOut}
 use Rattle.answers.specs.Said.{only}
 use Rattle.encoding.specs.Bytes.{twoAt, versionOut}
@@ -78,8 +79,8 @@ module _ (bytes : List ℕ) where
   pub level-tested : numberIf (levelOut (getD sheet levelAt 0)) 2 ≡ l .refusal 5
   level-tested = level-no bytes 12 (ap levelOut (byte levelAt 0 (omega arith))) ∙ refusal-first bytes 5 (omega arith)
 
-  pub season-tested : (j : ℕ) → j < seasons → numberIf (tooMany (setIn (windowsIn sheet) (j + 1))) 12 ≡ l .refusal (6 + j)
-  season-tested j m = season-no bytes (13 + 12 * j) (ap tooMany (season-is j m)) ∙ season-refused bytes j m
+  pub season-tested : (j : ℕ) → j < seasons → numberIf (tooMany today (setIn (windowsIn sheet) (j + 1))) 12 ≡ l .refusal (6 + j)
+  season-tested j m = season-no bytes (13 + 12 * j) (ap (tooMany today) (season-is j m)) ∙ season-refused bytes j m
 
   -- the holidays
   pub holiday-tested : (j : ℕ) → j < n → numberIf (badEntry (sheetIn sheet .year) hs j) 3 ≡ l .refusal (12 + j)
@@ -118,12 +119,14 @@ module _ (bytes : List ℕ) where
     pub level-in : 6 ≤ m → levelOut (getD sheet levelAt 0) ≡ false
     level-in o = unrefused _ 1 (level-tested ∙ passed 5 (omega arith))
 
-    roomy : 10 ≤ m → tooFull (windowsIn sheet) ≡ false
+    roomy : 10 ≤ m → tooFull today (windowsIn sheet) ≡ false
     unfolding tooFull
-    roomy o = any-fails (λ k. tooMany (setIn (windowsIn sheet) (k + 1))) seasons (λ j a. unrefused _ 11 (season-tested j a ∙ passed (6 + j) (omega arith)))
+    roomy o =
+        any-fails (λ k. tooMany today (setIn (windowsIn sheet) (k + 1))) seasons
+        (λ j a. unrefused _ 11 (season-tested j a ∙ passed (6 + j) (omega arith)))
 
     pub sheet-in : headSize l ≤ length bytes → 10 ≤ m → only 0 ≡ readAnswer sheet
-    sheet-in whole o = read-accepted sheet (formed whole (omega arith)) (year-in (omega arith)) (level-in (omega arith)) (roomy o)
+    sheet-in whole o = read-accepted today sheet (formed whole (omega arith)) (year-in (omega arith)) (level-in (omega arith)) (roomy o)
 
     pub holidays-in : 12 + n ≤ m → badHolidays (sheetIn sheet .year) hs ≡ false
     holidays-in o =

@@ -21,8 +21,8 @@ use Rattle.readings.proofs.Runs.{usual-len, usual-quarter, run-all, year-run}
 use Rattle.readings.proofs.Days.{series-legal}
 use Rattle.tariff.specs.declared.Figures.{Figures}
 use Rattle.tariff.specs.Prices.{rowOut, pricesOut}
-use Rattle.tariff.specs.Charges.{chargeFor, general, reduced, floorOf, charge}
-use Rattle.tariff.specs.Decision.{eligibleRules, chargeRules, judgeRules, judgeAnswer}
+use Rattle.tariff.specs.Charges.{chargeFor, generalBy, reducedBy, floorOf, chargeBy}
+use Rattle.tariff.specs.Decision.{eligibleRules, chargeRules, judgeRules, judgeAnswerBy}
 use Rattle.figures.specs.Figures.{figuresOf}
 use Rattle.terms.specs.declared.Terms.{Terms}
 use Rattle.terms.specs.Basis.{Basis, basis}
@@ -141,7 +141,7 @@ figures-are =
     ∙ ap (λ (q : ℕ). record { peak = 1000000; sum = 1500000; any = true; high = 500000; day = 2; quarter = q }) (usual-quarter customerRun 1 72 usual-1)
 
 judged-is : judged terms figures ≡ customerSaid
-unfolding example shareOf levelOut rowOut pricesOut chargeFor general reduced floorOf charge eligibleRules chargeRules judgeRules judgeAnswer
+unfolding example shareOf levelOut rowOut pricesOut chargeFor generalBy reducedBy floorOf chargeBy eligibleRules chargeRules judgeRules judgeAnswerBy
 judged-is = refl
 
 legal : only 0 ≡ seriesAnswer (Year (terms .rates .year)) customerMost customerSeries

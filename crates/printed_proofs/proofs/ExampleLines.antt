@@ -11,7 +11,7 @@ use lib.Dec.{eqb}
 use lib.ListN.{length, getD, length-append}
 use Rattle.ranges.specs.Ranges.{joined, sumOver, countOver, anyOver, allOver, firstOver, table, inBase}
 use Rattle.ranges.proofs.Tests.{all-at}
-use Rattle.answers.specs.Ruling.{gridMost, yearOut, levelOut}
+use Rattle.answers.specs.Ruling.{gridMost, lacksYear, levelOut}
 use Rattle.answers.specs.Said.{only}
 use Rattle.readings.specs.declared.Run.the-variants.{Period}
 use Rattle.readings.specs.Runs.{runDays}
@@ -19,7 +19,7 @@ use Rattle.readings.specs.Days.{seriesAnswer}
 use Rattle.encoding.specs.Bytes.{twoAt, otherMark}
 use Rattle.sheet.specs.Windows.{isSet, setIn, tooFull}
 use Rattle.sheet.specs.Bytes.{windowsIn}
-use Rattle.sheet.specs.Answers.{readAnswer, readSheet}
+use Rattle.sheet.specs.Answers.{readAnswerBy, readSheetBy}
 use Rattle.fields.specs.Layout.{layoutOf, startOf, headSize}
 use Rattle.fields.specs.Common.{markField, versionField, yearField, levelField}
 use Rattle.fields.specs.Series.{seriesIn, fileSize}
@@ -54,7 +54,7 @@ module _ (rest : List ℕ) where
   size-is = ap (startOf (gridLayout b)) (grid-count b) ∙ grid-size b
 
   taken : (k : ℕ) → k < gridLayout b .count → gridLayout b .refusal k ≡ 0
-  unfolding gridLayout layoutOf markField versionField yearField levelField otherMark twoAt inBase yearOut levelOut sumOver anyOver allOver joined
+  unfolding gridLayout layoutOf markField versionField yearField levelField otherMark twoAt inBase lacksYear levelOut sumOver anyOver allOver joined
   taken k l = eqb-true _ _ (all-at (λ i. eqb (gridLayout b .refusal i) 0) 4 refl k l)
 
 -- the series, read back from its bytes
@@ -78,7 +78,7 @@ whole-is : wholeGrid 2025 5 gridSeries ≡ record { number = 0; figures = exampl
 whole-is = let s = sheet-laid blankSheet (omega arith) in rw (s .accepted, s .laid)
 
 lines-are : windowLines (record { number = 0; figures = exampleSheet }) ≡ exampleWindows
-unfolding windowLines readSheet readAnswer otherMark twoAt inBase yearOut levelOut tooFull setIn windowsIn isSet
+unfolding windowLines readSheetBy readAnswerBy otherMark twoAt inBase lacksYear levelOut tooFull setIn windowsIn isSet
     windowsText seasonText runText runLine timeOf headLine figuresLine fieldOf decimalOf textOver
     table countOver sumOver anyOver firstOver joined
 lines-are = refl

@@ -14,7 +14,8 @@ use Rattle.ranges.specs.Ranges.{joined, sumOver, countOver, allOver, largestOve
 use Rattle.ranges.proofs.Tests.{all-at}
 use Rattle.ranges.proofs.Tables.{table-cong}
 use Rattle.ranges.specs.Limits.{outside}
-use Rattle.answers.specs.Ruling.{dayQuarters, gridMost, yearOut, levelOut}
+use Rattle.answers.specs.Edition.{today}
+use Rattle.answers.specs.Ruling.{dayQuarters, gridMost, yearOut, lacksYear, levelOut}
 use Rattle.answers.specs.Said.{only}
 use Rattle.dates.specs.Dates.{leap, leapDay, daysTo, monthOf, seasonOf}
 use Rattle.periods.specs.Period.{periodDays, periodDate, periodSeason}
@@ -29,7 +30,7 @@ use Rattle.sheet.specs.Bytes.{sheetSize}
 use Rattle.sheet.specs.Answers.{writeAnswer}
 use Rattle.sheet.proofs.Windows.{roomy}
 use Rattle.sheet.proofs.Answered.{write-accepted, write-taken}
-use Rattle.windows.proofs.Forty.{chosen-roomy}
+use Rattle.windows.proofs.Kept.{chosen-roomy}
 use Rattle.grid_curves.specs.Curves.{curveAt, flatCurves}
 use Rattle.grid.specs.Answers.{curvesOf, sheetOf, windowsAnswer, windowsBuffer}
 use Rattle.grid.proofs.Answered.{open-done}
@@ -148,7 +149,7 @@ unfolding joined largestOver highestOf
 peak-is = refl
 
 years-in : yearOut 2025 ≡ false
-unfolding yearOut
+unfolding lacksYear
 years-in = refl
 
 level-in : levelOut 5 ≡ false
@@ -162,12 +163,12 @@ module _ (buffer : List ℕ) (room : sheetSize ≤ length buffer) where
   writes : only 0 ≡ writeAnswer sheet (length buffer)
   unfolding sheetOf
   writes =
-      write-accepted sheet (length buffer) room years-in level-in
-      (roomy _ .1 (chosen-roomy (highestOf exampleCurves) (curvesOf exampleCurves)))
+      write-accepted today sheet (length buffer) room years-in level-in
+      (roomy today _ .1 (chosen-roomy today (highestOf exampleCurves) (curvesOf exampleCurves)))
 
   lays : (only 0 ≡ windowsAnswer 2025 5 gridSeries (length buffer)) × (next ≡ windowsBuffer 2025 5 gridSeries buffer)
   lays =
-      let w = write-taken sheet buffer next writes (ap (λ (b : List ℕ). b ++ drop sheetSize buffer) (sym example-bytes)) in
+      let w = write-taken today sheet buffer next writes (ap (λ (b : List ℕ). b ++ drop sheetSize buffer) (sym example-bytes)) in
       whole-finish 2025 5 gridSeries buffer room (open-done 2025 5 years-in level-in) grid-legal curves-are
       (finish-sheet 2025 5 exampleCurves buffer (λ z. omega (arith, peak-is)) (w .0) (w .1))
 

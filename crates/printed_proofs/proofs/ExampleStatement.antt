@@ -11,7 +11,7 @@ use lib.Dec.{eqb}
 use lib.ListN.{length, getD, drop, length-append}
 use Rattle.ranges.specs.Ranges.{joined, sumOver, countOver, anyOver, allOver, firstOver, table, inBase}
 use Rattle.ranges.proofs.Tests.{all-at}
-use Rattle.answers.specs.Ruling.{customerMost, yearOut, levelOut}
+use Rattle.answers.specs.Ruling.{customerMost, lacksYear, levelOut}
 use Rattle.answers.specs.Said.{only}
 use Rattle.readings.specs.declared.Run.the-variants.{Year}
 use Rattle.readings.specs.Runs.{runDays}
@@ -72,7 +72,7 @@ module _ (rest : List ℕ) where
 
   taken : (k : ℕ) → k < customerLayout b .count → customerLayout b .refusal k ≡ 0
   unfolding customerLayout layoutOf markField versionField yearField levelField seasonField optionField countField holidayField
-      capacityField energyField fourBytes otherMark twoAt fourAt inBase setFrom yearOut levelOut
+      capacityField energyField fourBytes otherMark twoAt fourAt inBase setFrom lacksYear levelOut
       table countOver sumOver anyOver allOver joined
   taken k l = eqb-true _ _ (all-at (λ i. eqb (customerLayout b .refusal i) 0) 16 refl k l)
 

@@ -12,6 +12,7 @@ use native.Mathlib.Omega.{arith}
 use borrow.Author.Tests.{eq-eqb, ne-eqb}
 use lib.ListN.{length}
 use Rattle.ranges.proofs.Bools.{clash}
+use Rattle.answers.specs.Edition.{today}
 use Rattle.answers.specs.Said.{Said, only}
 use Rattle.holidays.proofs.Lists.{bad-at}
 use Rattle.sheet.specs.Windows.{seasons}
@@ -92,20 +93,21 @@ module _ (bytes : List ℕ) where
         let form = formed bytes (6 + j) (r .before) whole (omega arith) in
         let year = year-in bytes (6 + j) (r .before) (omega arith) in
         let level = level-in bytes (6 + j) (r .before) (omega arith) in
-        refused-as _ 11 (season-tested bytes j m) (r .refused) (λ t. read-once (read-full b form year level (full-season (windowsIn b) j m t)))
+        refused-as _ 11 (season-tested bytes j m) (r .refused) (λ t. read-once (read-full today b form year level (full-season today (windowsIn b) j m t)))
 
     sheet-once : (k : ℕ) → 2 ≤ k → k < 10 → Once k
     sheet-once zero f g r = absurd (omega arith)
     sheet-once (suc zero) f g r = absurd (omega arith)
-    sheet-once (suc (suc zero)) f g r = refused-as _ 11 (mark-tested bytes) (r .refused) (λ t. read-once (read-form b (λ a. clash t (marked b .1 (a .marked)))))
+    sheet-once (suc (suc zero)) f g r =
+        refused-as _ 11 (mark-tested bytes) (r .refused) (λ t. read-once (read-form today b (λ a. clash t (marked b .1 (a .marked)))))
     sheet-once (suc (suc (suc zero))) f g r =
-        refused-as _ 11 (version-tested bytes) (r .refused) (λ t. read-once (read-form b (λ a. clash t (ap not (eq-eqb _ _ (a .version))))))
+        refused-as _ 11 (version-tested bytes) (r .refused) (λ t. read-once (read-form today b (λ a. clash t (ap not (eq-eqb _ _ (a .version))))))
     sheet-once (suc (suc (suc (suc zero)))) f g r =
-        refused-as _ 0 (year-tested bytes) (r .refused) (λ t. read-once (read-year b (formed bytes 4 (r .before) whole (omega arith)) t))
+        refused-as _ 0 (year-tested bytes) (r .refused) (λ t. read-once (read-year today b (formed bytes 4 (r .before) whole (omega arith)) t))
     sheet-once (suc (suc (suc (suc (suc zero))))) f g r =
         let form = formed bytes 5 (r .before) whole (omega arith) in
         let year = year-in bytes 5 (r .before) (omega arith) in
-        refused-as _ 1 (level-tested bytes) (r .refused) (λ t. read-once (read-level b form year t))
+        refused-as _ 1 (level-tested bytes) (r .refused) (λ t. read-once (read-level today b form year t))
     sheet-once (suc (suc (suc (suc (suc (suc j)))))) f g r = placed (omega arith) (season-once j (omega arith)) r
 
     -- the holidays

@@ -11,7 +11,8 @@ use borrow.Author.Tests.{lt-ltb, le-ltb, eq-eqb, ne-eqb}
 use lib.Dec.{eqb}
 use lib.ListN.{length, drop, getD}
 use Rattle.ranges.proofs.Bools.{decided, clash}
-use Rattle.answers.specs.Ruling.{yearOut, levelOut}
+use Rattle.answers.specs.declared.Edition.{Edition}
+use Rattle.answers.specs.Ruling.{lacksYear, levelOut}
 use Rattle.answers.specs.Said.{only, after}
 use Rattle.answers.proofs.Laws.{after-again, refusal-keeps}
 use Rattle.sheet.specs.declared.Sheet.{Sheet}
@@ -20,18 +21,9 @@ use Rattle.encoding.specs.Bytes.{formatVersion, twoAt}
 use Rattle.encoding.proofs.Bytes.{alike}
 use Rattle.sheet.specs.Bytes.{mark, versionAt, yearAt, levelAt, sheetSize, windowsIn, sheetIn, sheetBytes, unmarked}
 use Rattle.sheet.specs.Rows.{Marked, Formed}
-use Rattle.sheet.specs.Answers.{readAnswer, readSheet, readOf, blank, writeAnswer, written}
+use Rattle.sheet.specs.Answers.{readAnswerBy, readSheetBy, readOfBy, blank, writeAnswerBy, writtenBy}
 
 module _ (b : List ℕ) where
-  -- the sheet beside an answer: the fixed one beside a refusal, what the bytes say beside 0
-  pub read-refused : {n : ℕ} → only n ≡ readAnswer b → eqb n 0 ≡ false → record { answer = only n; sheet = blank } ≡ readOf b
-  unfolding readSheet
-  read-refused e z = rw (← e, z)
-
-  pub read-taken : only 0 ≡ readAnswer b → record { answer = only 0; sheet = sheetIn b } ≡ readOf b
-  unfolding readSheet
-  read-taken e = rw (← e)
-
   -- the mark by its test
   pub marked : (unmarked b ≡ false) ↔ Marked b
   marked = (
@@ -49,16 +41,26 @@ module _ (b : List ℕ) where
       go (yes s) (inr m) (no v) = no (λ f. v (f .version))
       go (yes s) (inr m) (yes v) = yes (record { size = s; marked = marked .0 m; version = v })
 
+module _ (ed : Edition) (b : List ℕ) where
+  -- the sheet beside an answer: the fixed one beside a refusal, what the bytes say beside 0
+  pub read-refused : {n : ℕ} → only n ≡ readAnswerBy ed b → eqb n 0 ≡ false → record { answer = only n; sheet = blank } ≡ readOfBy ed b
+  unfolding readSheetBy
+  read-refused e z = rw (← e, z)
+
+  pub read-taken : only 0 ≡ readAnswerBy ed b → record { answer = only 0; sheet = sheetIn b } ≡ readOfBy ed b
+  unfolding readSheetBy
+  read-taken e = rw (← e)
+
   -- the answers, in their order
-  pub read-form : (Formed b → ⊥) → only 12 ≡ readAnswer b
-  unfolding readAnswer
+  pub read-form : (Formed b → ⊥) → only 12 ≡ readAnswerBy ed b
+  unfolding readAnswerBy
   read-form h = go (ℕ-discrete (length b) sheetSize) (decided (unmarked b)) (ℕ-discrete (twoAt b versionAt) formatVersion)
     where
-      go : Dec (length b ≡ sheetSize) → (unmarked b ≡ true) ⊎ (unmarked b ≡ false) → Dec (twoAt b versionAt ≡ formatVersion) → only 12 ≡ readAnswer b
+      go : Dec (length b ≡ sheetSize) → (unmarked b ≡ true) ⊎ (unmarked b ≡ false) → Dec (twoAt b versionAt ≡ formatVersion) → only 12 ≡ readAnswerBy ed b
       go (no s) m v = simp (ne-eqb (length b) sheetSize s)
       go (yes s) (inl m) v = simp (eq-eqb (length b) sheetSize s, m)
       go (yes s) (inr m) (no v) = simp (eq-eqb (length b) sheetSize s, m, ne-eqb (twoAt b versionAt) formatVersion v)
-      go (yes s) (inr m) (yes v) = absurd (h (record { size = s; marked = marked .0 m; version = v }))
+      go (yes s) (inr m) (yes v) = absurd (h (record { size = s; marked = marked b .0 m; version = v }))
 
   module _ (f : Formed b) where
     size : eqb (length b) sheetSize ≡ true
@@ -67,66 +69,66 @@ module _ (b : List ℕ) where
     version : eqb (twoAt b versionAt) formatVersion ≡ true
     version = eq-eqb (twoAt b versionAt) formatVersion (f .version)
 
-    pub read-year : yearOut (twoAt b yearAt) ≡ true → only 1 ≡ readAnswer b
-    unfolding readAnswer
-    read-year y = simp (size, marked .1 (f .marked), version, y)
+    pub read-year : lacksYear ed (twoAt b yearAt) ≡ true → only 1 ≡ readAnswerBy ed b
+    unfolding readAnswerBy
+    read-year y = simp (size, marked b .1 (f .marked), version, y)
 
-    module _ (y : yearOut (twoAt b yearAt) ≡ false) where
-      pub read-level : levelOut (getD b levelAt 0) ≡ true → only 2 ≡ readAnswer b
-      unfolding readAnswer
-      read-level l = simp (size, marked .1 (f .marked), version, y, l)
+    module _ (y : lacksYear ed (twoAt b yearAt) ≡ false) where
+      pub read-level : levelOut (getD b levelAt 0) ≡ true → only 2 ≡ readAnswerBy ed b
+      unfolding readAnswerBy
+      read-level l = simp (size, marked b .1 (f .marked), version, y, l)
 
       module _ (l : levelOut (getD b levelAt 0) ≡ false) where
-        pub read-full : tooFull (windowsIn b) ≡ true → only 12 ≡ readAnswer b
-        unfolding readAnswer
-        read-full w = simp (size, marked .1 (f .marked), version, y, l, w)
+        pub read-full : tooFull ed (windowsIn b) ≡ true → only 12 ≡ readAnswerBy ed b
+        unfolding readAnswerBy
+        read-full w = simp (size, marked b .1 (f .marked), version, y, l, w)
 
-        pub read-accepted : tooFull (windowsIn b) ≡ false → only 0 ≡ readAnswer b
-        unfolding readAnswer
-        read-accepted w = simp (size, marked .1 (f .marked), version, y, l, w)
+        pub read-accepted : tooFull ed (windowsIn b) ≡ false → only 0 ≡ readAnswerBy ed b
+        unfolding readAnswerBy
+        read-accepted w = simp (size, marked b .1 (f .marked), version, y, l, w)
 
-module _ (s : Sheet) where
+module _ (ed : Edition) (s : Sheet) where
   -- an answer, and what the lent buffer then holds
   pub write-refused :
       (out : List ℕ) {n : ℕ}
-      → only n ≡ writeAnswer s (length out)
+      → only n ≡ writeAnswerBy ed s (length out)
       → eqb n 0 ≡ false
-      → (only n ≡ writeAnswer s (length out)) × (out ≡ written s out)
-  unfolding written
+      → (only n ≡ writeAnswerBy ed s (length out)) × (out ≡ writtenBy ed s out)
+  unfolding writtenBy
   write-refused out e z = refusal-keeps _ _ out e z
 
   pub write-taken :
       (out next : List ℕ)
-      → only 0 ≡ writeAnswer s (length out)
+      → only 0 ≡ writeAnswerBy ed s (length out)
       → next ≡ sheetBytes s ++ drop sheetSize out
-      → (only 0 ≡ writeAnswer s (length out)) × (next ≡ written s out)
-  unfolding written
+      → (only 0 ≡ writeAnswerBy ed s (length out)) × (next ≡ writtenBy ed s out)
+  unfolding writtenBy
   write-taken out next e f = (e, rw (← e) f)
 
-  pub written-again : (out : List ℕ) → after (writeAnswer s (length out)) (written s out) out ≡ written s out
-  unfolding written
-  written-again out = after-again (writeAnswer s (length out)) (sheetBytes s ++ drop sheetSize out) out
+  pub written-again : (out : List ℕ) → after (writeAnswerBy ed s (length out)) (writtenBy ed s out) out ≡ writtenBy ed s out
+  unfolding writtenBy
+  written-again out = after-again (writeAnswerBy ed s (length out)) (sheetBytes s ++ drop sheetSize out) out
 
   module _ (room : ℕ) where
-    pub write-short : room < sheetSize → only 14 ≡ writeAnswer s room
-    unfolding writeAnswer
+    pub write-short : room < sheetSize → only 14 ≡ writeAnswerBy ed s room
+    unfolding writeAnswerBy
     write-short h = simp (lt-ltb room sheetSize h)
 
     module _ (h : sheetSize ≤ room) where
-      pub write-year : yearOut (s .year) ≡ true → only 1 ≡ writeAnswer s room
-      unfolding writeAnswer
+      pub write-year : lacksYear ed (s .year) ≡ true → only 1 ≡ writeAnswerBy ed s room
+      unfolding writeAnswerBy
       write-year y = simp (le-ltb room sheetSize h, y)
 
-      module _ (y : yearOut (s .year) ≡ false) where
-        pub write-level : levelOut (s .level) ≡ true → only 2 ≡ writeAnswer s room
-        unfolding writeAnswer
+      module _ (y : lacksYear ed (s .year) ≡ false) where
+        pub write-level : levelOut (s .level) ≡ true → only 2 ≡ writeAnswerBy ed s room
+        unfolding writeAnswerBy
         write-level l = simp (le-ltb room sheetSize h, y, l)
 
         module _ (l : levelOut (s .level) ≡ false) where
-          pub write-full : tooFull (s .windows) ≡ true → only 12 ≡ writeAnswer s room
-          unfolding writeAnswer
+          pub write-full : tooFull ed (s .windows) ≡ true → only 12 ≡ writeAnswerBy ed s room
+          unfolding writeAnswerBy
           write-full f = simp (le-ltb room sheetSize h, y, l, f)
 
-          pub write-accepted : tooFull (s .windows) ≡ false → only 0 ≡ writeAnswer s room
-          unfolding writeAnswer
+          pub write-accepted : tooFull ed (s .windows) ≡ false → only 0 ≡ writeAnswerBy ed s room
+          unfolding writeAnswerBy
           write-accepted f = simp (le-ltb room sheetSize h, y, l, f)

@@ -15,9 +15,10 @@ use Rattle.ranges.specs.Ranges.{bit, table}
 use Rattle.ranges.proofs.Tests.{count-fails}
 use Rattle.ranges.proofs.Tables.{length-table, getD-table, is-table}
 use Rattle.ranges.proofs.Digits.{base-cong}
-use Rattle.answers.specs.Ruling.{dayQuarters, ChargeYear, Level}
+use Rattle.answers.specs.declared.Edition.{Edition}
+use Rattle.answers.specs.Ruling.{dayQuarters, HasYear, Level}
 use Rattle.answers.specs.Said.{only}
-use Rattle.answers.proofs.Laws.{charge-year, level-of}
+use Rattle.answers.proofs.Laws.{has-year, level-of}
 use Rattle.sheet.specs.declared.Sheet.{Sheet}
 use Rattle.sheet.specs.Windows.{seasons, windowPlaces, quarterPlace, setIn, LegalSheet}
 use Rattle.encoding.specs.Bytes.{formatVersion, twoAt}
@@ -26,7 +27,7 @@ use Rattle.sheet.specs.Bytes.{mark, versionAt, yearAt, levelAt, windowsA
 use Rattle.sheet.specs.Rows.ReadRow.{zero}
 use Rattle.sheet.specs.Rows.WriteRow.{zero}
 use Rattle.sheet.specs.Rows.{Formed, ReadRow, WriteRow}
-use Rattle.sheet.specs.Answers.{readAnswer, readSheet, readOf, ReadSaid, writeAnswer, written}
+use Rattle.sheet.specs.Answers.{readAnswerBy, readSheetBy, readOfBy, ReadSaid, writeAnswerBy, writtenBy}
 use Rattle.sheet.proofs.Windows.{roomy}
 use Rattle.sheet.proofs.Bytes.{byte-bit, bits-byte, length-bytes, headOf, byte-at}
 use Rattle.sheet.proofs.Exactly.{read-exactly, write-exactly}
@@ -72,19 +73,19 @@ module _ (y l : ℕ) (w : List Bool) where
   meaning h = λ i. record { year = year-written i; level = level-written i; windows = windows-written h i }
 
 -- reading what was written gives the same meaning
-pub read-written : (s : Sheet) → LegalSheet s → readOf (sheetBytes s) ≡ record { answer = only 0; sheet = s }
-read-written s h =
+pub read-written : (ed : Edition) (s : Sheet) → LegalSheet ed s → readOfBy ed (sheetBytes s) ≡ record { answer = only 0; sheet = s }
+read-written ed s h =
     let m = meaning (s .year) (s .level) (s .windows) (h .long) in
-    sym (read-taken (sheetBytes s) (read-accepted (sheetBytes s) (formed (s .year) (s .level) (s .windows))
-    (rw (ap (λ (x : Sheet). x .year) m) (charge-year _ .1 (h .year)))
+    sym (read-taken ed (sheetBytes s) (read-accepted ed (sheetBytes s) (formed (s .year) (s .level) (s .windows))
+    (rw (ap (λ (x : Sheet). x .year) m) (has-year ed _ .1 (h .year)))
     (rw (ap (λ (x : Sheet). x .level) m) (level-of _ .1 (h .level)))
-    (rw (ap (λ (x : Sheet). x .windows) m) (roomy _ .1 (h .room)))))
+    (rw (ap (λ (x : Sheet). x .windows) m) (roomy ed _ .1 (h .room)))))
     ∙ ap (λ (x : Sheet). record { answer = only 0; sheet = x }) m
 
 -- so two meanings never share bytes
-pub one-meaning : (s t : Sheet) → LegalSheet s → LegalSheet t → sheetBytes s ≡ sheetBytes t → s ≡ t
-one-meaning s t h g e =
-    ap (λ (r : ReadSaid). r .sheet) (sym (read-written s h) ∙ ap readOf e ∙ read-written t g)
+pub one-meaning : (ed : Edition) (s t : Sheet) → LegalSheet ed s → LegalSheet ed t → sheetBytes s ≡ sheetBytes t → s ≡ t
+one-meaning ed s t h g e =
+    ap (λ (r : ReadSaid). r .sheet) (sym (read-written ed s h) ∙ ap (readOfBy ed) e ∙ read-written ed t g)
 
 module _ (b : List ℕ) (small : AreBytes b) (f : Formed b) where
   -- the windows' bytes, back from their bits
@@ -128,51 +129,51 @@ module _ (b : List ℕ) (small : AreBytes b) (f : Formed b) where
       let size = length-bytes (twoAt b yearAt) (getD b levelAt 0) (windowsIn b) in
       ext-getD 0 (sheetBytes (sheetIn b)) b (size ∙ sym (f .size)) (λ i l. each i (omega arith))
 
-module _ (b : List ℕ) (e : readAnswer b .number ≡ 0) where
+module _ (ed : Edition) (b : List ℕ) (e : readAnswerBy ed b .number ≡ 0) where
   -- accepted bytes have the form, and the sheet beside 0 is their meaning
-  accepted : Formed b × (readSheet b ≡ sheetIn b) × LegalSheet (sheetIn b)
+  accepted : Formed b × (readSheetBy ed b ≡ sheetIn b) × LegalSheet ed (sheetIn b)
   unfolding windowsIn
-  accepted = go (read-exactly b 0 .0 e)
+  accepted = go (read-exactly ed b 0 .0 e)
     where
-      go : ReadRow b 0 → Formed b × (readSheet b ≡ sheetIn b) × LegalSheet (sheetIn b)
+      go : ReadRow ed b 0 → Formed b × (readSheetBy ed b ≡ sheetIn b) × LegalSheet ed (sheetIn b)
       go (zero f y l w) = (
         f,
-        sym (ap (λ (r : ReadSaid). r .sheet) (read-taken b (read-accepted b f (charge-year _ .1 y) (level-of _ .1 l) (roomy _ .1 w)))),
+        sym (ap (λ (r : ReadSaid). r .sheet) (read-taken ed b (read-accepted ed b f (has-year ed _ .1 y) (level-of _ .1 l) (roomy ed _ .1 w)))),
         record { long = length-table (windowAt b) windowPlaces; year = y; level = l; room = w },
       )
 
   -- what is read is a legal sheet, and writing it gives the same bytes
-  pub read-legal : LegalSheet (readSheet b)
+  pub read-legal : LegalSheet ed (readSheetBy ed b)
   read-legal = rw (accepted .1) (accepted .2)
 
-  pub bytes-back : AreBytes b → sheetBytes (readSheet b) ≡ b
+  pub bytes-back : AreBytes b → sheetBytes (readSheetBy ed b) ≡ b
   bytes-back small = rw (accepted .1) (written-read b small (accepted .0))
 
 -- so two accepted sheets with one meaning have the same bytes
 pub same-bytes :
-    (b c : List ℕ)
+    (ed : Edition) (b c : List ℕ)
     → AreBytes b
     → AreBytes c
-    → readAnswer b .number ≡ 0
-    → readAnswer c .number ≡ 0
-    → readSheet b ≡ readSheet c
+    → readAnswerBy ed b .number ≡ 0
+    → readAnswerBy ed c .number ≡ 0
+    → readSheetBy ed b ≡ readSheetBy ed c
     → b ≡ c
-same-bytes b c small tiny p q e = sym (bytes-back b p small) ∙ ap sheetBytes e ∙ bytes-back c q tiny
+same-bytes ed b c small tiny p q e = sym (bytes-back ed b p small) ∙ ap sheetBytes e ∙ bytes-back ed c q tiny
 
 -- an accepted writing leaves a sheet in the buffer that reads back
 pub buffer-read :
-    (s : Sheet) (buffer : List ℕ)
+    (ed : Edition) (s : Sheet) (buffer : List ℕ)
     → length (s .windows) ≡ windowPlaces
-    → writeAnswer s (length buffer) .number ≡ 0
-    → readOf (take sheetSize (written s buffer)) ≡ record { answer = only 0; sheet = s }
-buffer-read s buffer long e = go (write-exactly s (length buffer) 0 .0 e)
+    → writeAnswerBy ed s (length buffer) .number ≡ 0
+    → readOfBy ed (take sheetSize (writtenBy ed s buffer)) ≡ record { answer = only 0; sheet = s }
+buffer-read ed s buffer long e = go (write-exactly ed s (length buffer) 0 .0 e)
   where
-    go : WriteRow s (length buffer) 0 → readOf (take sheetSize (written s buffer)) ≡ record { answer = only 0; sheet = s }
+    go : WriteRow ed s (length buffer) 0 → readOfBy ed (take sheetSize (writtenBy ed s buffer)) ≡ record { answer = only 0; sheet = s }
     go (zero h y l w) =
-        let taken = write-accepted s (length buffer) h (charge-year _ .1 y) (level-of _ .1 l) (roomy _ .1 w) in
+        let taken = write-accepted ed s (length buffer) h (has-year ed _ .1 y) (level-of _ .1 l) (roomy ed _ .1 w) in
         let bytes = length-bytes (s .year) (s .level) (s .windows) in
-        ap readOf (ap (take sheetSize) (sym (write-taken s buffer _ taken refl .1)) ∙ take-at (sheetBytes s) (drop sheetSize buffer) sheetSize bytes)
-        ∙ read-written s (record { long = long; year = y; level = l; room = w })
+        ap (readOfBy ed) (ap (take sheetSize) (sym (write-taken ed s buffer _ taken refl .1)) ∙ take-at (sheetBytes s) (drop sheetSize buffer) sheetSize bytes)
+        ∙ read-written ed s (record { long = long; year = y; level = l; room = w })
 
 -- a sheet without a set bit is legal (Rule 5.3)
 empty-season : (s : ℕ) → Within 1 seasons s → setIn (replicate windowPlaces false) s ≡ 0
@@ -181,6 +182,6 @@ empty-season s r =
     count-fails (λ q. getD (replicate windowPlaces false) (quarterPlace s q) false) dayQuarters
     (λ q l. getD-replicate {A = Bool} windowPlaces (quarterPlace s q) false false (omega arith))
 
-pub empty-legal : (y l : ℕ) → ChargeYear y → Level l → LegalSheet (record { year = y; level = l; windows = replicate windowPlaces false })
-empty-legal y l h g =
+pub empty-legal : (ed : Edition) (y l : ℕ) → HasYear ed y → Level l → LegalSheet ed (record { year = y; level = l; windows = replicate windowPlaces false })
+empty-legal ed y l h g =
     record { long = length-replicate {A = Bool} windowPlaces false; year = h; level = g; room = λ s r. omega (arith, empty-season s r) }

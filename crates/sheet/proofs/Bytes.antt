@@ -16,10 +16,11 @@ use Rattle.ranges.proofs.Bools.{bit-le}
 use Rattle.ranges.proofs.Tests.{count-cong}
 use Rattle.ranges.proofs.Tables.{length-table, getD-table}
 use Rattle.ranges.proofs.Digits.{base-cong, base-lt, base-digit, base-back}
+use Rattle.answers.specs.declared.Edition.{Edition}
 use Rattle.answers.specs.Ruling.{dayQuarters}
 use Rattle.encoding.specs.Bytes.{formatVersion}
 use Rattle.sheet.specs.Windows.{seasons, windowPlaces, quarterPlace, setIn, tooFull}
-use Rattle.sheet.specs.Bytes.{mark, windowsAt, windowBytes, sheetSize, twoBytes, windowByte, bytesOf, byteAt, bitOf, bitAt, windowAt, windowsIn, seasonBytes, setFrom, seasonFull}
+use Rattle.sheet.specs.Bytes.{mark, windowsAt, windowBytes, sheetSize, twoBytes, windowByte, bytesOf, byteAt, bitOf, bitAt, windowAt, windowsIn, seasonBytes, setFrom, seasonFullBy}
 use Rattle.sheet.proofs.Windows.{too-full}
 
 -- the quarters of a season, set in a sheet's windows or in their bytes: as many
@@ -39,12 +40,12 @@ pub set-same : (a b : List ℕ) (i j : ℕ) → ((k : ℕ) → k < seasonBytes �
 unfolding setFrom
 set-same a b i j h = count-cong _ _ dayQuarters (λ q l. ap (λ (x : ℕ). bitOf x (q % 8)) (h (q / 8) (omega arith)))
 
--- four seasons in bytes, more than 40 set in one
+-- four seasons in bytes, more than the limit set in one
 pub full-bytes :
-    (b : List ℕ)
-    → (seasonFull b 8 || seasonFull b 20 || seasonFull b 32 || seasonFull b 44) ≡ tooFull (windowsIn b)
-full-bytes b =
-    too-full (windowsIn b) _ _ _ _
+    (ed : Edition) (b : List ℕ)
+    → (seasonFullBy ed b 8 || seasonFullBy ed b 20 || seasonFullBy ed b 32 || seasonFullBy ed b 44) ≡ tooFull ed (windowsIn b)
+full-bytes ed b =
+    too-full ed (windowsIn b) _ _ _ _
     (sym (season-set b 0 (omega arith)))
     (sym (season-set b 1 (omega arith)))
     (sym (season-set b 2 (omega arith)))

@@ -13,7 +13,8 @@ use Rattle.ranges.specs.Limits.{Within}
 use Rattle.ranges.specs.Ranges.{joined, anyOver}
 use Rattle.ranges.proofs.Tests.{any-at, any-fails, all-passed}
 use Rattle.ranges.proofs.Tables.{length-table, getD-table}
-use Rattle.answers.specs.Ruling.{dayQuarters, windowsMost}
+use Rattle.answers.specs.declared.Edition.{Edition}
+use Rattle.answers.specs.Ruling.{dayQuarters}
 use Rattle.sheet.specs.Windows.{seasons, windowPlaces, quarterPlace, isSet, setIn, tooMany, tooFull, Roomy, flatWindows}
 
 -- is a quarter inside the seasons and the day set
@@ -22,32 +23,32 @@ unfolding isSet
 set-at w s q h l = simp (le-leb 1 s (h .from), le-leb s seasons (h .to), lt-ltb q dayQuarters l)
 
 -- a season is too full exactly when not every one has room
-full-at : (w : List Bool) → tooFull w ≡ false → (k : ℕ) → k < seasons → setIn w (k + 1) ≤ windowsMost
+full-at : (ed : Edition) (w : List Bool) → tooFull ed w ≡ false → (k : ℕ) → k < seasons → setIn w (k + 1) ≤ ed .limit
 unfolding tooFull
-full-at w e k l = ltb-false windowsMost (setIn w (k + 1)) (all-passed (λ j. ltb windowsMost (setIn w (j + 1))) seasons e .fails k l)
+full-at ed w e k l = ltb-false (ed .limit) (setIn w (k + 1)) (all-passed (λ j. ltb (ed .limit) (setIn w (j + 1))) seasons e .fails k l)
 
-pub roomy : (w : List Bool) → (tooFull w ≡ false) ↔ Roomy w
+pub roomy : (ed : Edition) (w : List Bool) → (tooFull ed w ≡ false) ↔ Roomy ed w
 unfolding tooFull
-roomy w = (
-  λ e s h. let p : s - 1 + 1 ≡ s = omega arith in rw p at (full-at w e (s - 1) (omega arith)),
+roomy ed w = (
+  λ e s h. let p : s - 1 + 1 ≡ s = omega arith in rw p at (full-at ed w e (s - 1) (omega arith)),
   λ h.
-      any-fails (λ j. ltb windowsMost (setIn w (j + 1))) seasons
-      (λ k l. le-ltb windowsMost (setIn w (k + 1)) (h (k + 1) (record { from = omega arith; to = omega arith }))),
+      any-fails (λ j. ltb (ed .limit) (setIn w (j + 1))) seasons
+      (λ k l. le-ltb (ed .limit) (setIn w (k + 1)) (h (k + 1) (record { from = omega arith; to = omega arith }))),
 )
 
 pub too-full :
-    (w : List Bool) (a b c d : ℕ)
+    (ed : Edition) (w : List Bool) (a b c d : ℕ)
     → a ≡ setIn w 1
     → b ≡ setIn w 2
     → c ≡ setIn w 3
     → d ≡ setIn w 4
-    → (ltb windowsMost a || ltb windowsMost b || ltb windowsMost c || ltb windowsMost d) ≡ tooFull w
+    → (ltb (ed .limit) a || ltb (ed .limit) b || ltb (ed .limit) c || ltb (ed .limit) d) ≡ tooFull ed w
 unfolding tooFull anyOver joined
-too-full w a b c d p q r s = rw (p, q, r, s)
+too-full ed w a b c d p q r s = rw (p, q, r, s)
 
-pub full-season : (w : List Bool) (k : ℕ) → k < seasons → tooMany (setIn w (k + 1)) ≡ true → tooFull w ≡ true
+pub full-season : (ed : Edition) (w : List Bool) (k : ℕ) → k < seasons → tooMany ed (setIn w (k + 1)) ≡ true → tooFull ed w ≡ true
 unfolding tooFull
-full-season w k l t = any-at (λ j. tooMany (setIn w (j + 1))) seasons k l t
+full-season ed w k l t = any-at (λ j. tooMany ed (setIn w (j + 1))) seasons k l t
 
 -- the chosen quarters, laid flat
 pub length-flat : (chosen : List (List Bool)) → length (flatWindows chosen) ≡ windowPlaces

@@ -4,8 +4,9 @@ ghost use mathlib.Core.Path.{_≡_};
 ghost use Prim.Native.Nat.{_<_};
 ghost use lib.ListN.{length};
 ghost use Rattle.sheet.specs.Windows.{tooFull};
-ghost use Rattle.sheet.specs.Bytes.{sheetSize, bitOf, windowsIn, seasonFull};
+ghost use Rattle.sheet.specs.Bytes.{sheetSize, bitOf, windowsIn, seasonFullBy, seasonFull};
 ghost use Rattle.sheet.specs.Answers.{shownOf, readOf, refusedSheet};
+use answers::Edition;
 use sheet::Sheet;
 use sheet::SheetAnswer;
 use sheet::SheetRead;
@@ -39,26 +40,34 @@ fn unpack(b: &[u8]) -> [bool; sheet::WINDOW_PLACES]
     windows
 }
 
-// Are more than 40 quarters set in the twelve bytes of a season, which begin at place i, from 0? Any bytes and any
-// place have an answer.
-pub fn season_full(b: &[u8], i: usize) -> bool
-    ensures { λ r. ⌜ r ≡ seasonFull (now (b .entry)) i ⌝ }
+// Are more quarters set in the twelve bytes of a season, which begin at place i, from 0, than an edition's limit?
+fn season_full_by(edition: Edition, b: &[u8], i: usize) -> bool
+    ensures { λ r. ⌜ r ≡ seasonFullBy edition (now (b .entry)) i ⌝ }
 {
     let mut n: usize = 0;
     for q in 0..answers::DAY_QUARTERS {
         n += answers::one_if(bit_at(encoding::byte_at(b, i, q / 8), q % 8));
     }
-    answers::WINDOWS_MOST < n
+    let most = edition.limit as usize;
+    most < n
 }
 
-// Does some season in a sheet's bytes have more than 40 set quarters?
-fn bytes_full(b: &[u8]) -> bool
-    ensures { λ r. ⌜ r ≡ tooFull (windowsIn (now (b .entry))) ⌝ }
+// Are more than 40 quarters set in the twelve bytes of a season, which begin at place i, from 0? Any bytes and any
+// place have an answer.
+pub fn season_full(b: &[u8], i: usize) -> bool
+    ensures { λ r. ⌜ r ≡ seasonFull (now (b .entry)) i ⌝ }
 {
-    season_full(b, SEASONS_AT[0])
-        | season_full(b, SEASONS_AT[1])
-        | season_full(b, SEASONS_AT[2])
-        | season_full(b, SEASONS_AT[3])
+    season_full_by(answers::today(), b, i)
+}
+
+// Does some season in a sheet's bytes have more set quarters than an edition's limit?
+fn bytes_full(edition: Edition, b: &[u8]) -> bool
+    ensures { λ r. ⌜ r ≡ tooFull edition (windowsIn (now (b .entry))) ⌝ }
+{
+    season_full_by(edition, b, SEASONS_AT[0])
+        | season_full_by(edition, b, SEASONS_AT[1])
+        | season_full_by(edition, b, SEASONS_AT[2])
+        | season_full_by(edition, b, SEASONS_AT[3])
 }
 
 // A refusal, with the one fixed sheet beside it.
@@ -97,7 +106,7 @@ pub fn read(b: &[u8]) -> SheetRead
     if answers::level_out(level) {
         return refused(SheetAnswer::LevelOut);
     }
-    if bytes_full(b) {
+    if bytes_full(answers::today(), b) {
         return refused(SheetAnswer::Malformed);
     }
     let windows = unpack(b);

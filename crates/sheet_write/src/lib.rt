@@ -9,6 +9,7 @@ ghost use Rattle.ranges.specs.Limits.{Within};
 ghost use Rattle.sheet.specs.Windows.{seasons, setIn, tooFull};
 ghost use Rattle.sheet.specs.Bytes.{windowBytes, sheetSize, windowByte, byteAt, bytesOf};
 ghost use Rattle.sheet.specs.Answers.{saidOfSheet, writeAnswer, written};
+use answers::Edition;
 use sheet::Sheet;
 use sheet::SheetAnswer;
 
@@ -24,14 +25,15 @@ fn set_in(windows: &[bool; sheet::WINDOW_PLACES], season: usize) -> usize
     n
 }
 
-// Does some season have more than 40 set quarters?
-fn too_full(windows: &[bool; sheet::WINDOW_PLACES]) -> bool
-    ensures { λ r. ⌜ r ≡ tooFull (now (windows .entry)) ⌝ }
+// Does some season have more set quarters than an edition's limit?
+fn too_full(edition: Edition, windows: &[bool; sheet::WINDOW_PLACES]) -> bool
+    ensures { λ r. ⌜ r ≡ tooFull edition (now (windows .entry)) ⌝ }
 {
-    (answers::WINDOWS_MOST < set_in(windows, 1))
-        | (answers::WINDOWS_MOST < set_in(windows, 2))
-        | (answers::WINDOWS_MOST < set_in(windows, 3))
-        | (answers::WINDOWS_MOST < set_in(windows, 4))
+    let most = edition.limit as usize;
+    (most < set_in(windows, 1))
+        | (most < set_in(windows, 2))
+        | (most < set_in(windows, 3))
+        | (most < set_in(windows, 4))
 }
 
 // Byte k, from 0, of the windows: eight quarters, the earliest is the highest bit.
@@ -91,7 +93,7 @@ pub fn write(sheet: Sheet, out: &mut [u8]) -> SheetAnswer
     if answers::level_out(sheet.level) {
         return SheetAnswer::LevelOut;
     }
-    if too_full(&windows) {
+    if too_full(answers::today(), &windows) {
         return SheetAnswer::Malformed;
     }
     fill(sheet.year, sheet.level, &windows, out);

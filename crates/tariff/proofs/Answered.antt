@@ -9,15 +9,17 @@ use native.Mathlib.Omega.{arith}
 use lib.ListN.{getD}
 use borrow.Author.Tests.{lt-ltb, le-ltb, eq-eqb, ne-eqb}
 use Rattle.ranges.proofs.Bools.{decided}
-use Rattle.answers.specs.Ruling.{shareOf, leastMove, leastReduction, levelOut}
+use Rattle.answers.specs.declared.Edition.{Edition}
+use Rattle.answers.specs.Edition.{wholeShare}
+use Rattle.answers.specs.Ruling.{leastMove, leastReduction, shareOf, levelOut}
 use Rattle.answers.specs.Said.{Said, only, yesNo, orElse}
 use Rattle.tariff.specs.declared.Rates.{Rates}
 use Rattle.tariff.specs.declared.Figures.{Figures}
 use Rattle.tariff.specs.declared.TwoCharges.{TwoCharges}
 use Rattle.tariff.specs.Prices.{pricesOut, LegalPrices}
-use Rattle.tariff.specs.Charges.{general, chargesOf}
+use Rattle.tariff.specs.Charges.{generalBy, chargesOf}
 use Rattle.tariff.specs.Answers.{withGeneral, withCharges, withPlain, withPeaks, withCharge, plainOf, peaksOf, chargedOf, payable}
-use Rattle.tariff.specs.Decision.{moved, wholeShare, generalAnswer, chargesAnswer, eligibleRules, chargeRules, judgeRules, eligibleAnswer, chargeAnswer, judgeAnswer}
+use Rattle.tariff.specs.Decision.{moved, generalAnswerBy, chargesAnswerBy, eligibleRules, chargeRules, judgeRules, eligibleAnswerBy, chargeAnswerBy, judgeAnswerBy}
 use Rattle.tariff.specs.Rows.{LegalRates}
 use Rattle.tariff.proofs.Limits.{prices-legal, legal-in}
 
@@ -38,111 +40,111 @@ abbrev chargesFrom : Said → TwoCharges
 chargesFrom a = record { charge = getD (a .figures) 0 0; general = getD (a .figures) 1 0 }
 
 -- the charges alone
-module _ (f : Figures) (r : Rates) where
-  pub general-out : pricesOut (r .prices) ≡ true → only 6 ≡ generalAnswer f r
-  unfolding generalAnswer
+module _ (ed : Edition) (f : Figures) (r : Rates) where
+  pub general-out : pricesOut (r .prices) ≡ true → only 6 ≡ generalAnswerBy ed f r
+  unfolding generalAnswerBy
   general-out q = simp q
 
-  pub general-in : {g : ℕ} → pricesOut (r .prices) ≡ false → g ≡ general f r → withGeneral g ≡ generalAnswer f r
-  unfolding generalAnswer
+  pub general-in : {g : ℕ} → pricesOut (r .prices) ≡ false → g ≡ generalBy ed f r → withGeneral g ≡ generalAnswerBy ed f r
+  unfolding generalAnswerBy
   general-in q e = simp (q, e)
 
-  pub charges-out : pricesOut (r .prices) ≡ true → only 6 ≡ chargesAnswer f r
-  unfolding chargesAnswer
+  pub charges-out : pricesOut (r .prices) ≡ true → only 6 ≡ chargesAnswerBy ed f r
+  unfolding chargesAnswerBy
   charges-out q = simp q
 
-  pub charges-in : {a : TwoCharges} → pricesOut (r .prices) ≡ false → a ≡ chargesOf f r → withCharges a ≡ chargesAnswer f r
-  unfolding chargesAnswer
+  pub charges-in : {a : TwoCharges} → pricesOut (r .prices) ≡ false → a ≡ chargesOf ed f r → withCharges a ≡ chargesAnswerBy ed f r
+  unfolding chargesAnswerBy
   charges-in q e = simp (q, e)
 
   -- and read off what they say: 6 is given for a price alone, and cents are the charges of legal prices
-  pub general-six : only 6 ≡ generalAnswer f r → pricesOut (r .prices) ≡ true
-  unfolding generalAnswer
-  general-six e = six-said (pricesOut (r .prices)) (withGeneral (general f r)) refl e
+  pub general-six : only 6 ≡ generalAnswerBy ed f r → pricesOut (r .prices) ≡ true
+  unfolding generalAnswerBy
+  general-six e = six-said (pricesOut (r .prices)) (withGeneral (generalBy ed f r)) refl e
 
-  pub general-cents : {g : ℕ} → withGeneral g ≡ generalAnswer f r → (pricesOut (r .prices) ≡ false) × (g ≡ general f r)
-  unfolding generalAnswer
+  pub general-cents : {g : ℕ} → withGeneral g ≡ generalAnswerBy ed f r → (pricesOut (r .prices) ≡ false) × (g ≡ generalBy ed f r)
+  unfolding generalAnswerBy
   general-cents e = let k = else-said (pricesOut (r .prices)) refl e in (k .0, ap payable (k .1))
 
-  pub charges-six : only 6 ≡ chargesAnswer f r → pricesOut (r .prices) ≡ true
-  unfolding chargesAnswer
-  charges-six e = six-said (pricesOut (r .prices)) (withCharges (chargesOf f r)) refl e
+  pub charges-six : only 6 ≡ chargesAnswerBy ed f r → pricesOut (r .prices) ≡ true
+  unfolding chargesAnswerBy
+  charges-six e = six-said (pricesOut (r .prices)) (withCharges (chargesOf ed f r)) refl e
 
-  pub charges-cents : {a : TwoCharges} → withCharges a ≡ chargesAnswer f r → (pricesOut (r .prices) ≡ false) × (a ≡ chargesOf f r)
-  unfolding chargesAnswer
+  pub charges-cents : {a : TwoCharges} → withCharges a ≡ chargesAnswerBy ed f r → (pricesOut (r .prices) ≡ false) × (a ≡ chargesOf ed f r)
+  unfolding chargesAnswerBy
   charges-cents e = let k = else-said (pricesOut (r .prices)) refl e in (k .0, ap chargesFrom (k .1))
 
 -- the rules of the first half
-module _ (f : Figures) (r : Rates) {g : ℕ} (e : g ≡ general f r) where
-  pub eligible-none : f .any ≡ false → withPlain (plainOf f g) ≡ eligibleRules f r
+module _ (ed : Edition) (f : Figures) (r : Rates) {g : ℕ} (e : g ≡ generalBy ed f r) where
+  pub eligible-none : f .any ≡ false → withPlain (plainOf f g) ≡ eligibleRules ed f r
   unfolding eligibleRules
   eligible-none n = simp (e, n)
 
   module _ (n : f .any ≡ true) where
-    pub eligible-share : wholeShare * moved f < shareOf (r .level) * f .peak → withPeaks 9 (peaksOf f g) ≡ eligibleRules f r
+    pub eligible-share : wholeShare * moved f < shareOf ed (r .level) * f .peak → withPeaks 9 (peaksOf f g) ≡ eligibleRules ed f r
     unfolding eligibleRules
     eligible-share s = simp (e, n, lt-ltb _ _ s)
 
-    module _ (s : shareOf (r .level) * f .peak ≤ wholeShare * moved f) where
-      pub eligible-move : moved f < leastMove → withPeaks 10 (peaksOf f g) ≡ eligibleRules f r
+    module _ (s : shareOf ed (r .level) * f .peak ≤ wholeShare * moved f) where
+      pub eligible-move : moved f < leastMove ed → withPeaks 10 (peaksOf f g) ≡ eligibleRules ed f r
       unfolding eligibleRules
       eligible-move m = simp (e, n, le-ltb _ _ s, lt-ltb _ _ m)
 
-      pub eligible-yes : leastMove ≤ moved f → yesNo true ≡ eligibleRules f r
+      pub eligible-yes : leastMove ed ≤ moved f → yesNo true ≡ eligibleRules ed f r
       unfolding eligibleRules
       eligible-yes m = simp (n, le-ltb _ _ s, le-ltb _ _ m)
 
 -- the rules of the second half, by the charges
-module _ (f : Figures) (r : Rates) {a : TwoCharges} (e : a ≡ chargesOf f r) where
-  pub charge-none : f .any ≡ false → withPlain (plainOf f (a .general)) ≡ chargeRules f r
+module _ (ed : Edition) (f : Figures) (r : Rates) {a : TwoCharges} (e : a ≡ chargesOf ed f r) where
+  pub charge-none : f .any ≡ false → withPlain (plainOf f (a .general)) ≡ chargeRules ed f r
   unfolding chargeRules
   charge-none n = simp (e, n)
 
   module _ (n : f .any ≡ true) where
-    pub charge-reduction : a .general < a .charge + leastReduction → withPeaks 11 (peaksOf f (a .general)) ≡ chargeRules f r
+    pub charge-reduction : a .general < a .charge + leastReduction ed → withPeaks 11 (peaksOf f (a .general)) ≡ chargeRules ed f r
     unfolding chargeRules
     charge-reduction l = let k = rw e at l in simp (e, n, lt-ltb _ _ k)
 
-    pub charge-accepted : a .charge + leastReduction ≤ a .general → withCharge (chargedOf f (a .general) (a .charge)) ≡ chargeRules f r
+    pub charge-accepted : a .charge + leastReduction ed ≤ a .general → withCharge (chargedOf f (a .general) (a .charge)) ≡ chargeRules ed f r
     unfolding chargeRules
     charge-accepted l =
         let k = rw e at l in
         ap (λ (b : TwoCharges). withCharge (chargedOf f (b .general) (b .charge))) e ∙ simp (n, le-ltb _ _ k)
 
 -- 2 and 6 in front, and the rules for legal rates
-module _ (f : Figures) (r : Rates) where
-  pub eligible-level : levelOut (r .level) ≡ true → only 2 ≡ eligibleAnswer f r
-  unfolding eligibleAnswer
+module _ (ed : Edition) (f : Figures) (r : Rates) where
+  pub eligible-level : levelOut (r .level) ≡ true → only 2 ≡ eligibleAnswerBy ed f r
+  unfolding eligibleAnswerBy
   eligible-level l = simp l
 
-  pub eligible-prices : levelOut (r .level) ≡ false → pricesOut (r .prices) ≡ true → only 6 ≡ eligibleAnswer f r
-  unfolding eligibleAnswer
+  pub eligible-prices : levelOut (r .level) ≡ false → pricesOut (r .prices) ≡ true → only 6 ≡ eligibleAnswerBy ed f r
+  unfolding eligibleAnswerBy
   eligible-prices l q = simp (l, q)
 
-  pub eligible-legal : LegalRates r → eligibleRules f r ≡ eligibleAnswer f r
-  unfolding eligibleAnswer
+  pub eligible-legal : LegalRates r → eligibleRules ed f r ≡ eligibleAnswerBy ed f r
+  unfolding eligibleAnswerBy
   eligible-legal h = simp (legal-in h .0, legal-in h .1)
 
-  pub charge-prices : pricesOut (r .prices) ≡ true → only 6 ≡ chargeAnswer f r
-  unfolding chargeAnswer
+  pub charge-prices : pricesOut (r .prices) ≡ true → only 6 ≡ chargeAnswerBy ed f r
+  unfolding chargeAnswerBy
   charge-prices q = simp q
 
-  pub charge-legal : LegalPrices (r .prices) → chargeRules f r ≡ chargeAnswer f r
-  unfolding chargeAnswer
+  pub charge-legal : LegalPrices (r .prices) → chargeRules ed f r ≡ chargeAnswerBy ed f r
+  unfolding chargeAnswerBy
   charge-legal h = simp (prices-legal (r .prices) .1 h)
 
 -- the whole decision is the two halves in a row, for any level and prices
-pub in-a-row : (f : Figures) (r : Rates) → judgeAnswer f r ≡ orElse (eligibleAnswer f r) (chargeAnswer f r)
-unfolding judgeAnswer eligibleAnswer chargeAnswer judgeRules
-in-a-row f r =
+pub in-a-row : (ed : Edition) (f : Figures) (r : Rates) → judgeAnswerBy ed f r ≡ orElse (eligibleAnswerBy ed f r) (chargeAnswerBy ed f r)
+unfolding judgeAnswerBy eligibleAnswerBy chargeAnswerBy judgeRules
+in-a-row ed f r =
     ⊎-elim (λ (l : levelOut (r .level) ≡ true). simp l) (λ (l : levelOut (r .level) ≡ false).
     ⊎-elim (λ (q : pricesOut (r .prices) ≡ true). simp (l, q)) (λ (q : pricesOut (r .prices) ≡ false). simp (l, q))
     (decided (pricesOut (r .prices)))) (decided (levelOut (r .level)))
 
 -- so a refusal of the first half is its answer, and else what the second half answers
-module _ (f : Figures) (r : Rates) where
-  pub judge-first : {a : Said} → a ≡ eligibleAnswer f r → (a .number ≡ 0 → ⊥) → a ≡ judgeAnswer f r
-  judge-first e z = e ∙ sym (in-a-row f r ∙ rw (ne-eqb _ _ (λ k. z (number-is e ∙ k))))
+module _ (ed : Edition) (f : Figures) (r : Rates) where
+  pub judge-first : {a : Said} → a ≡ eligibleAnswerBy ed f r → (a .number ≡ 0 → ⊥) → a ≡ judgeAnswerBy ed f r
+  judge-first e z = e ∙ sym (in-a-row ed f r ∙ rw (ne-eqb _ _ (λ k. z (number-is e ∙ k))))
 
-  pub judge-second : {a : Said} → eligibleAnswer f r .number ≡ 0 → a ≡ chargeAnswer f r → a ≡ judgeAnswer f r
-  judge-second z e = e ∙ sym (in-a-row f r ∙ rw (eq-eqb _ _ z))
+  pub judge-second : {a : Said} → eligibleAnswerBy ed f r .number ≡ 0 → a ≡ chargeAnswerBy ed f r → a ≡ judgeAnswerBy ed f r
+  judge-second z e = e ∙ sym (in-a-row ed f r ∙ rw (eq-eqb _ _ z))

@@ -1,19 +1,22 @@
--- Laws of the charges: the sum split at the parts of a cent gives the same charge, its products are small, it is the
--- exact value rounded with half a cent up, the floor is the smallest, and a smaller capacity figure never costs more.
+-- Laws of the charges: the sum split at the parts of a cent gives the same charge, and g split at hundreds the same
+-- floor; products are small; a charge is the exact value rounded with half a cent up, the floor is the smallest, and a
+-- smaller capacity figure never costs more.
 -- Assumes nothing.
 use mathlib.Core.Path.{_≡_, ap, ap₂}
 use mathlib.Core.Bool.{Bool, true, false}
-use Prim.Native.Nat.{ℕ, _+_, _*_, _/_, _%_, _≤_, _<_, max}
-use native.Mathlib.Nat.{mul-le-mul-right}
+use Prim.Native.Nat.{ℕ, _+_, _-_, _*_, _/_, _%_, _≤_, _<_, max}
+use native.Mathlib.Nat.{mul-le-mul-right, mul-comm}
 use native.Mathlib.Omega.{arith}
 use Rattle.ranges.proofs.Products.{product, split-at}
-use Rattle.answers.specs.Ruling.{capacityMost, energyMost, floorParts}
+use Rattle.answers.specs.Ruling.{capacityMost, energyMost, LegalEdition}
+use Rattle.answers.specs.declared.Edition.{Edition}
+use Rattle.answers.specs.Edition.{wholeShare}
 use Rattle.tariff.specs.declared.Row.{Row}
 use Rattle.tariff.specs.declared.Prices.{Prices}
 use Rattle.tariff.specs.declared.Rates.{Rates}
 use Rattle.tariff.specs.declared.Figures.{Figures}
 use Rattle.tariff.specs.Prices.{LegalRow, LegalPrices}
-use Rattle.tariff.specs.Charges.{fewHours, rowOf, centParts, capacityParts, partsFor, chargeFor, chargeMost, general, reduced, floorOf, charge}
+use Rattle.tariff.specs.Charges.{fewHoursBy, rowOf, centParts, capacityParts, partsFor, chargeFor, chargeMost, generalBy, reducedBy, floorOf, chargeBy}
 
 module _ (power : ℕ) (row : Row) (sum : ℕ) where
   pub charge-split :
@@ -61,18 +64,33 @@ row-in p true h = h .few
 row-in p false h = h .many
 
 pub general-most :
-    (f : Figures) (r : Rates)
+    (ed : Edition) (f : Figures) (r : Rates)
     → LegalPrices (r .prices)
     → f .peak ≤ 4294967295
     → f .sum < 18446744073709551616
-    → general f r ≤ chargeMost
-unfolding general
-general-most f r h hp hs = charge-most (f .peak) _ (f .sum) hp (row-in (r .prices) (fewHours f) h) hs
+    → generalBy ed f r ≤ chargeMost
+unfolding generalBy
+general-most ed f r h hp hs = charge-most (f .peak) _ (f .sum) hp (row-in (r .prices) (fewHoursBy ed f) h) hs
 
--- the floor is a fifth of g or more, and no smaller whole number of cents is (Rule 7.4)
-pub floor-least : (g : ℕ) → (g ≤ floorParts * floorOf g) × ((k : ℕ) → k < floorOf g → floorParts * k < g)
+-- the floor is the edition's percentage of g or more, and no smaller whole number of cents is (Rule 7.4)
+pub floor-least :
+    (ed : Edition) (g : ℕ)
+    → (ed .floor * g ≤ wholeShare * floorOf ed g) × ((k : ℕ) → k < floorOf ed g → wholeShare * k < ed .floor * g)
 unfolding floorOf
-floor-least g = (omega arith, λ k l. omega arith)
+floor-least ed g = (omega arith, λ k l. omega arith)
+
+-- under a legal edition the floor is no more than g itself
+pub floor-under : (ed : Edition) (g : ℕ) → LegalEdition ed → floorOf ed g ≤ g
+unfolding floorOf
+floor-under ed g legal = omega (arith, mul-le-mul-right g (legal .floor))
+
+-- g split at hundreds gives the same floor
+pub floor-split :
+    (ed : Edition) (g : ℕ)
+    → g / wholeShare * ed .floor + (g % wholeShare * ed .floor + (wholeShare - 1)) / wholeShare ≡ floorOf ed g
+unfolding floorOf
+floor-split ed g =
+    omega (arith, split-at g (ed .floor) (wholeShare - 1) wholeShare (omega arith), mul-comm (ed .floor) g)
 
 pub charge-mono : (a b : ℕ) (row : Row) (sum : ℕ) → a ≤ b → chargeFor a row sum ≤ chargeFor b row sum
 unfolding chargeFor
@@ -80,13 +98,13 @@ charge-mono a b row sum h =
     let m : capacityParts * a * row .capacity ≤ capacityParts * b * row .capacity = mul-le-mul-right (row .capacity) (omega arith) in
     omega arith
 
--- with 2,500 hours of use and more the option has no effect: two rates with the same prices give the same charge (Rule
--- 7.3)
-pub option-idle : (f : Figures) (r s : Rates) → r .prices ≡ s .prices → fewHours f ≡ false → charge f r ≡ charge f s
-unfolding charge reduced general
-option-idle f r s p h = simp (p, h)
+-- with the edition's hours of use and more the option has no effect: two rates with the same prices give the same
+-- charge (Rule 7.3)
+pub option-idle : (ed : Edition) (f : Figures) (r s : Rates) → r .prices ≡ s .prices → fewHoursBy ed f ≡ false → chargeBy ed f r ≡ chargeBy ed f s
+unfolding chargeBy reducedBy generalBy
+option-idle ed f r s p h = simp (p, h)
 
 -- the larger of reduced charge and floor is the charge
-pub charge-of : (f : Figures) (r : Rates) {own g : ℕ} → own ≡ reduced f r → g ≡ general f r → max own (floorOf g) ≡ charge f r
-unfolding charge
-charge-of f r a e = ap₂ max a (ap floorOf e)
+pub charge-of : (ed : Edition) (f : Figures) (r : Rates) {own g : ℕ} → own ≡ reducedBy ed f r → g ≡ generalBy ed f r → max own (floorOf ed g) ≡ chargeBy ed f r
+unfolding chargeBy
+charge-of ed f r a e = ap₂ max a (ap (floorOf ed) e)

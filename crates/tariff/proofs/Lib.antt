@@ -1,5 +1,4 @@
 pub mod Limits
-pub mod Shares
 pub mod Charges
 pub mod Answered
 pub mod Only

@@ -2,7 +2,9 @@
 -- definitions that the decision itself goes by, not with others of its own. Rule 12.3.
 use mathlib.Core.Path.{_≡_}
 use Prim.Native.Nat.{_+_, _*_, _≤_}
-use Rattle.answers.specs.Ruling.{floorParts, leastReduction}
+use Rattle.answers.specs.declared.Edition.{Edition}
+use Rattle.answers.specs.Edition.{wholeShare}
+use Rattle.answers.specs.Ruling.{leastReduction}
 use Rattle.tariff.specs.declared.Figures.{Figures}
 use Rattle.tariff.specs.declared.Charged.{Charged}
 
@@ -14,7 +16,7 @@ pub record Under (f e : Figures) : Type 0 where
   pub any : e .any ≡ f .any
   pub high : e .high ≤ f .high
 
--- an accepted charge: a fifth of g or more, and 50,000 cent (500 euro) or more below g
-pub record Fair (a : Charged) : Type 0 where
-  pub floor : a .peaks .plain .general ≤ floorParts * a .charge
-  pub reduction : a .charge + leastReduction ≤ a .peaks .plain .general
+-- a charge that is accepted by an edition: its floor's percentage of g or more, and its least reduction or more below g
+pub record Fair (ed : Edition) (a : Charged) : Type 0 where
+  pub floor : ed .floor * a .peaks .plain .general ≤ wholeShare * a .charge
+  pub reduction : a .charge + leastReduction ed ≤ a .peaks .plain .general

@@ -12,7 +12,8 @@ pub struct Row {
     pub energy: u32,
 }
 
-// The low row, for customers with fewer than 2,500 hours of use, and the high row, for all others (Rule 2.5).
+// The low row, for customers with fewer hours of use than the edition's, 2,500 today, and the high row, for all others
+// (Rule 2.5).
 pub struct Prices {
     pub few: Row,
     pub many: Row,

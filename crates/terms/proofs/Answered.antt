@@ -6,6 +6,7 @@ use native.Mathlib.Decide.{ℕ-discrete}
 use native.Mathlib.Omega.{arith}
 use borrow.Author.Tests.{ne-eqb}
 use lib.Dec.{eqb}
+use Rattle.answers.specs.Edition.{today}
 use Rattle.answers.specs.Said.{Said, only, orElse}
 use Rattle.answers.proofs.Laws.{refusal-keeps, done-hands, refusal-stands}
 use Rattle.holidays.specs.Holidays.{badHolidays}
@@ -48,7 +49,7 @@ module _ (k : Basis) where
       go : Dec (readAnswer (k .sheet) .number ≡ 0) → saidWith (readOf (k .sheet)) ≡ customerOpenAnswer k
       go (yes z) =
           ap (λ (x : ReadSaid). orElse (readAnswer (k .sheet)) (listsAnswer (x .sheet .year) (k .holidays) (k .prices)))
-          (sym (read-taken (k .sheet) (read-zero (k .sheet) z)))
+          (sym (read-taken today (k .sheet) (read-zero today (k .sheet) z)))
       go (no z) =
           sym (refusal-stands (readAnswer (k .sheet)) _ refl (ne-eqb _ _ z)) ∙ open-read (readAnswer (k .sheet)) (ne-eqb _ _ z) refl
 

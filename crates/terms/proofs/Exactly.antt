@@ -8,6 +8,7 @@ use native.Mathlib.Decide.{ℕ-discrete}
 use native.Mathlib.Omega.{arith}
 use borrow.Author.Tests.{ne-eqb}
 use Rattle.ranges.proofs.Bools.{decided, refutes}
+use Rattle.answers.specs.Edition.{today}
 use Rattle.answers.specs.Ruling.{yearOut}
 use Rattle.answers.proofs.Laws.{charge-year}
 use Rattle.answers.specs.Said.{Said, only}
@@ -31,8 +32,8 @@ number e = sym (ap (λ (s : Said). s .number) e)
 
 module _ (k : Basis) where
   module _ (r : only 0 ≡ readAnswer (k .sheet)) where
-    read-row : ReadRow (k .sheet) 0
-    read-row = read-exactly (k .sheet) 0 .0 (number r)
+    read-row : ReadRow today (k .sheet) 0
+    read-row = read-exactly today (k .sheet) 0 .0 (number r)
 
     read-holds : CustomerOpenRow k (customerOpenAnswer k .number)
     read-holds =
@@ -46,14 +47,14 @@ module _ (k : Basis) where
   open-holds = go (ℕ-discrete (readAnswer (k .sheet) .number) 0)
     where
       go : Dec (readAnswer (k .sheet) .number ≡ 0) → CustomerOpenRow k (customerOpenAnswer k .number)
-      go (yes z) = read-holds (read-zero (k .sheet) z)
+      go (yes z) = read-holds (read-zero today (k .sheet) z)
       go (no z) =
           let e = open-read k (readAnswer (k .sheet)) (ne-eqb _ _ z) refl in
-          rw (number e) (sheet (read-exactly (k .sheet) _ .0 refl) z)
+          rw (number e) (sheet (read-exactly today (k .sheet) _ .0 refl) z)
 
   -- a sheet that is read
-  accepted : ReadRow (k .sheet) 0 → only 0 ≡ readAnswer (k .sheet)
-  accepted r = read-zero (k .sheet) (read-exactly (k .sheet) 0 .1 r)
+  accepted : ReadRow today (k .sheet) 0 → only 0 ≡ readAnswer (k .sheet)
+  accepted r = read-zero today (k .sheet) (read-exactly today (k .sheet) 0 .1 r)
 
   legal-done : LegalBasis k → only 0 ≡ customerOpenAnswer k
   legal-done l =
@@ -61,7 +62,7 @@ module _ (k : Basis) where
 
   open-given : {n : ℕ} → CustomerOpenRow k n → customerOpenAnswer k .number ≡ n
   open-given (sheet r z) =
-      let e = read-exactly (k .sheet) _ .1 r in
+      let e = read-exactly today (k .sheet) _ .1 r in
       number (open-read k (readAnswer (k .sheet)) (ne-eqb _ _ (λ q. z (sym e ∙ q))) refl) ∙ e
   open-given (three r h) = number (open-holidays k (accepted r) (refutes _ (legal-holidays _ (k .holidays)) .1 h))
   open-given (six r h q) =
@@ -88,13 +89,13 @@ module _ (k : Basis) where
   -- and beside it reading hands over what the sheet says
   pub open-meaning : {s : ReadSaid} → s ≡ readOf (k .sheet) → only 0 ≡ customerOpenAnswer k → s .sheet ≡ basisSheet k
   open-meaning shown e =
-      ap (λ (x : ReadSaid). x .sheet) (shown ∙ sym (read-taken (k .sheet) (accepted (open-legal (number e) .read))))
+      ap (λ (x : ReadSaid). x .sheet) (shown ∙ sym (read-taken today (k .sheet) (accepted (open-legal (number e) .read))))
 
   -- so its year is allowed
   pub open-allowed : customerOpenAnswer k ≡ only 0 → yearOut (basisYear k) ≡ false
   open-allowed e = go (open-legal (ap (λ (a : Said). a .number) e) .read) refl
     where
-      go : {n : ℕ} → ReadRow (k .sheet) n → n ≡ 0 → yearOut (basisYear k) ≡ false
+      go : {n : ℕ} → ReadRow today (k .sheet) n → n ≡ 0 → yearOut (basisYear k) ≡ false
       go (malformed f) q = absurd (omega arith)
       go (one f y) q = absurd (omega arith)
       go (two f y l) q = absurd (omega arith)

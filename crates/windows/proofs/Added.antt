@@ -1,5 +1,5 @@
 -- The quarters that are equal to a limit are added one after the other: what the loop
--- keeps, and that it comes to `keptBy`.
+-- keeps, and that it comes to `keptAt`.
 -- Assumes nothing.
 use mathlib.Core.Path.{_≡_, sym, ap, _∙_}
 use mathlib.Core.Bool.{Bool, false, _&&_, _||_}
@@ -14,7 +14,7 @@ use Rattle.ranges.specs.Ranges.{bit, table}
 use Rattle.ranges.proofs.Tests.{count-none, counted}
 use Rattle.ranges.proofs.Tables.{length-table, getD-table, is-table}
 use Rattle.answers.specs.Ruling.{dayQuarters}
-use Rattle.windows.specs.Cuts.{equalsBefore, keptBy}
+use Rattle.windows.specs.Cuts.{equalsBefore, keptAt}
 
 module _ (curve : List ℕ) (limit equals : ℕ) where
   abbrev higher : ℕ → Bool
@@ -27,7 +27,7 @@ module _ (curve : List ℕ) (limit equals : ℕ) where
     pub few : n ≤ q
     pub count : n ≡ equalsBefore curve limit q
     pub long : length out ≡ dayQuarters
-    pub each : (k : ℕ) → k < q → getD out k false ≡ keptBy curve limit equals k
+    pub each : (k : ℕ) → k < q → getD out k false ≡ keptAt curve limit equals k
     pub rest : (k : ℕ) → q ≤ k → k < dayQuarters → getD out k false ≡ higher k
 
   pub added-none : {out : List Bool} → out ≡ table higher dayQuarters → Added 0 0 out
@@ -50,7 +50,7 @@ module _ (curve : List ℕ) (limit equals : ℕ) where
         → b ≡ bit (eqb (getD curve q 0) limit)
         → b ≤ 1
         → Added (q + 1) (n + b) (set out q v)
-    unfolding equalsBefore keptBy
+    unfolding equalsBefore keptAt
     added-more {v} {b} l e f m =
         record {
           some = omega arith;
@@ -58,11 +58,11 @@ module _ (curve : List ℕ) (limit equals : ℕ) where
           count = counted _ q (h .count) f;
           long = simp length-set (h .long);
           each =
-              below-more (λ k. getD (set out q v) k false ≡ keptBy curve limit equals k) q
+              below-more (λ k. getD (set out q v) k false ≡ keptAt curve limit equals k) q
               (λ k b. getD-set-other out q k v false (omega arith) ∙ h .each k b)
               (getD-set-same out q v false (omega (arith, h .long)) ∙ e ∙ rw (h .rest q (omega arith) l, h .count));
           rest = λ k a b. getD-set-other out q k v false (omega arith) ∙ h .rest k (omega arith) b;
         }
 
-    pub added-all : dayQuarters ≤ q → out ≡ table (keptBy curve limit equals) dayQuarters
+    pub added-all : dayQuarters ≤ q → out ≡ table (keptAt curve limit equals) dayQuarters
     added-all m = is-table _ dayQuarters false out (h .long) (λ k l. h .each k (omega arith))

@@ -16,17 +16,19 @@ use Rattle.ranges.proofs.Bools.{decided, both, pair, same-order}
 use Rattle.ranges.proofs.Tests.{count-add, count-fails, count-cong, count-mono, count-parts, count-less}
 use Rattle.ranges.proofs.Largest.{largest-above}
 use Rattle.ranges.proofs.Tables.{table-cong}
-use Rattle.answers.specs.Ruling.{lineParts, peakParts, windowsMost, dayQuarters}
+use Rattle.answers.specs.declared.Edition.{Edition}
+use Rattle.answers.specs.Edition.{wholeShare}
+use Rattle.answers.specs.Ruling.{dayQuarters}
 use Rattle.readings.specs.Legal.{highestOf}
-use Rattle.windows.specs.Chosen.{aboveLine, aboveIn, comesBefore, rank, kept, keptOf}
-use Rattle.windows.specs.Cuts.{lineOf, higherThan, FortyBetween, equalsBefore, keptBy}
+use Rattle.windows.specs.Chosen.{aboveLineBy, aboveIn, comesBefore, rank, kept, keptOfBy}
+use Rattle.windows.specs.Cuts.{lineOf, higherThan, MostBetween, equalsBefore, keptAt}
 use Rattle.windows.proofs.Ahead.{also-above, ahead-early, ahead-late}
-use Rattle.windows.proofs.Forty.{higher, why, ahead, not-ahead, few-kept}
+use Rattle.windows.proofs.Kept.{higher, why, ahead, not-ahead, few-kept}
 
 -- a value is above the line exactly when it is higher than the line as a value
-line-is : (peak v : ℕ) → ltb (lineOf peak) v ≡ aboveLine peak v
-unfolding aboveLine
-line-is peak v = same-order (lineOf peak) v (lineParts * peak) (peakParts * v) (λ l. omega arith) (λ l. omega arith)
+line-is : (ed : Edition) (peak v : ℕ) → ltb (lineOf ed peak) v ≡ aboveLineBy ed peak v
+unfolding aboveLineBy
+line-is ed peak v = same-order (lineOf ed peak) v (ed .line * peak) (wholeShare * v) (λ l. omega arith) (λ l. omega arith)
 
 module _ (curve : List ℕ) where
   abbrev value : ℕ → ℕ
@@ -39,14 +41,18 @@ module _ (curve : List ℕ) where
       count-mono (λ k. ltb high (value k)) (λ k. ltb low (value k)) dayQuarters
       (λ k l t. lt-ltb low (value k) (omega (arith, ltb-true high (value k) t)))
 
-  -- over the highest value there are none
-  pub none-over : higherThan curve (highestOf curve) ≡ 0
-  unfolding higherThan highestOf
-  none-over = count-fails _ dayQuarters (λ k l. le-ltb (highestOf curve) (value k) (go k (decLt k (length curve))))
+  -- no value is above the highest, so over the highest there are none
+  under-top : (k : ℕ) → value k ≤ highestOf curve
+  unfolding highestOf
+  under-top k = go (decLt k (length curve))
     where
-      go : (k : ℕ) → Dec (k < length curve) → value k ≤ highestOf curve
-      go k (yes l) = largest-above value (length curve) k l
-      go k (no l) = omega (arith, List·getD-eq-default curve 0 {n = k} (omega arith))
+      go : Dec (k < length curve) → value k ≤ highestOf curve
+      go (yes l) = largest-above value (length curve) k l
+      go (no l) = omega (arith, List·getD-eq-default curve 0 {n = k} (omega arith))
+
+  pub none-over : higherThan curve (highestOf curve) ≡ 0
+  unfolding higherThan
+  none-over = count-fails _ dayQuarters (λ k l. le-ltb (highestOf curve) (value k) (under-top k))
 
   pub under-highest : {limit : ℕ} → 0 < higherThan curve limit → limit < highestOf curve
   under-highest {limit} some = go (decLt limit (highestOf curve))
@@ -56,63 +62,67 @@ module _ (curve : List ℕ) where
       go (no l) = absurd (omega (arith, fewer {low = highestOf curve} {high = limit} (omega arith), none-over))
 
   -- a cut that takes none of the equals
-  just-higher : (limit q : ℕ) → keptBy curve limit 0 q ≡ ltb limit (value q)
-  unfolding keptBy
+  just-higher : (limit q : ℕ) → keptAt curve limit 0 q ≡ ltb limit (value q)
+  unfolding keptAt
   just-higher limit q =
       simp (le-ltb (equalsBefore curve limit q) 0 (omega arith), and-false, or-false)
 
-  pub no-equals : (limit : ℕ) {equals : ℕ} → equals ≡ 0 → table (λ q. ltb limit (value q)) dayQuarters ≡ table (keptBy curve limit equals) dayQuarters
+  pub no-equals : (limit : ℕ) {equals : ℕ} → equals ≡ 0 → table (λ q. ltb limit (value q)) dayQuarters ≡ table (keptAt curve limit equals) dayQuarters
   no-equals limit e = rw e (table-cong _ _ dayQuarters (λ q l. sym (just-higher limit q)))
 
-  module _ (peak : ℕ) where
-    above-is : higherThan curve (lineOf peak) ≡ aboveIn peak curve
+  module _ (ed : Edition) (peak : ℕ) where
+    above-is : higherThan curve (lineOf ed peak) ≡ aboveIn ed peak curve
     unfolding higherThan aboveIn
-    above-is = count-cong _ _ dayQuarters (λ q l. line-is peak (value q))
+    above-is = count-cong _ _ dayQuarters (λ q l. line-is ed peak (value q))
 
-    over-line : (q : ℕ) → lineOf peak < value q → aboveLine peak (value q) ≡ true
-    over-line q l = sym (line-is peak (value q)) ∙ lt-ltb (lineOf peak) (value q) l
+    over-line : (q : ℕ) → lineOf ed peak < value q → aboveLineBy ed peak (value q) ≡ true
+    over-line q l = sym (line-is ed peak (value q)) ∙ lt-ltb (lineOf ed peak) (value q) l
 
     -- what is not above the line is left out
-    not-above : (q : ℕ) → aboveLine peak (value q) ≡ false → kept peak curve q ≡ false
+    not-above : (q : ℕ) → aboveLineBy ed peak (value q) ≡ false → kept ed peak curve q ≡ false
     unfolding kept
     not-above q e = rw e
 
-    -- no higher than a limit that forty are higher than
-    left-out : (low q : ℕ) → windowsMost ≤ higherThan curve low → value q ≤ low → kept peak curve q ≡ false
+    -- no higher than a value that as many as the limit are higher than
+    left-out : (low q : ℕ) → ed .limit ≤ higherThan curve low → value q ≤ low → kept ed peak curve q ≡ false
     unfolding kept rank higherThan
-    left-out low q many h = ⊎-elim yes-above (λ n. not-above q n) (decided (aboveLine peak (value q)))
+    left-out low q many h = ⊎-elim yes-above (λ n. not-above q n) (decided (aboveLineBy ed peak (value q)))
       where
-        yes-above : aboveLine peak (value q) ≡ true → (aboveLine peak (value q) && ltb (rank peak curve q) windowsMost) ≡ false
+        yes-above : aboveLineBy ed peak (value q) ≡ true → (aboveLineBy ed peak (value q) && ltb (rank ed peak curve q) (ed .limit)) ≡ false
         yes-above a =
-            let before = count-mono (λ k. ltb low (value k)) (ahead curve peak q) dayQuarters
+            let before = count-mono (λ k. ltb low (value k)) (ahead curve ed peak q) dayQuarters
             (λ k l t.
             let up : low < value k = ltb-true low (value k) t in
-            pair (also-above peak curve q a k (omega arith)) (higher curve k q (omega arith))) in
-            rw (le-ltb (rank peak curve q) windowsMost (omega (arith, before, many))) (and-false (aboveLine peak (value q)))
+            pair (also-above ed peak curve q a k (omega arith)) (higher curve k q (omega arith))) in
+            rw (le-ltb (rank ed peak curve q) (ed .limit) (omega (arith, before, many))) (and-false (aboveLineBy ed peak (value q)))
 
-    -- higher than a limit that no more than forty are higher than
-    kept-high : (high q : ℕ) → lineOf peak ≤ high → higherThan curve high ≤ windowsMost → q < dayQuarters → high < value q → kept peak curve q ≡ true
+    -- higher than a value that no more than the limit are higher than
+    kept-high : (high q : ℕ) → lineOf ed peak ≤ high → higherThan curve high ≤ ed .limit → q < dayQuarters → high < value q → kept ed peak curve q ≡ true
     unfolding kept rank higherThan
     kept-high high q over few l h =
-        let less = count-less (ahead curve peak q) (λ k. ltb high (value k)) dayQuarters q
-        (λ k m t. lt-ltb high (value k) (up k (both (aboveLine peak (value k)) _ t .1))) l (lt-ltb high (value q) h) (not-ahead curve peak q) in
-        pair (over-line q (omega arith)) (lt-ltb (countOver (ahead curve peak q) dayQuarters) windowsMost (omega (arith, less, few)))
+        let less = count-less (ahead curve ed peak q) (λ k. ltb high (value k)) dayQuarters q
+        (λ k m t. lt-ltb high (value k) (up k (both (aboveLineBy ed peak (value k)) _ t .1))) l (lt-ltb high (value q) h) (not-ahead curve ed peak q) in
+        pair (over-line q (omega arith)) (lt-ltb (countOver (ahead curve ed peak q) dayQuarters) (ed .limit) (omega (arith, less, few)))
       where
         up : (k : ℕ) → comesBefore curve k q ≡ true → high < value k
         up k b = ⊎-elim (λ x. omega arith) (λ x. omega arith) (why curve k q b)
 
     -- a quarter above the line comes after the higher ones and after those before it that are equal
-    rank-is : (q : ℕ) → q < dayQuarters → aboveLine peak (value q) ≡ true → rank peak curve q ≡ higherThan curve (value q) + equalsBefore curve (value q) q
+    rank-is :
+        (q : ℕ)
+        → q < dayQuarters
+        → aboveLineBy ed peak (value q) ≡ true
+        → rank ed peak curve q ≡ higherThan curve (value q) + equalsBefore curve (value q) q
     unfolding rank higherThan equalsBefore
     rank-is q l a =
         let cut : dayQuarters ≡ q + (dayQuarters - q) = omega arith in
         let over : ℕ → Bool = λ k. ltb (value q) (value k) in
         omega (
           arith,
-          ap (countOver (ahead curve peak q)) cut,
-          count-add (ahead curve peak q) q (dayQuarters - q),
-          count-parts (ahead curve peak q) over (λ k. eqb (value k) (value q)) q early,
-          count-cong (λ k. ahead curve peak q (q + k)) (λ k. over (q + k)) (dayQuarters - q) (λ k m. ahead-late peak curve q a (q + k) (omega arith)),
+          ap (countOver (ahead curve ed peak q)) cut,
+          count-add (ahead curve ed peak q) q (dayQuarters - q),
+          count-parts (ahead curve ed peak q) over (λ k. eqb (value k) (value q)) q early,
+          count-cong (λ k. ahead curve ed peak q (q + k)) (λ k. over (q + k)) (dayQuarters - q) (λ k m. ahead-late ed peak curve q a (q + k) (omega arith)),
           ap (countOver over) cut,
           count-add over q (dayQuarters - q),
         )
@@ -125,47 +135,58 @@ module _ (curve : List ℕ) where
             go (no m) (yes e) = simp (le-leb v w (omega arith), le-ltb v w (omega arith), eq-eqb w v e)
             go (no m) (no e) = simp (le-leb v w (omega arith), lt-ltb v w (omega arith), ne-eqb w v e)
 
-        early : (k : ℕ) → k < q → bit (ahead curve peak q k) ≡ bit (ltb (value q) (value k)) + bit (eqb (value k) (value q))
-        early k m = ap bit (ahead-early peak curve q a k m) ∙ no-lower (value q) (value k)
+        early : (k : ℕ) → k < q → bit (ahead curve ed peak q k) ≡ bit (ltb (value q) (value k)) + bit (eqb (value k) (value q))
+        early k m = ap bit (ahead-early ed peak curve q a k m) ∙ no-lower (value q) (value k)
 
-    -- a cut at the line, where no more than forty are above it
-    pub at-line : {line : ℕ} → line ≡ lineOf peak → higherThan curve line ≤ windowsMost → table (keptBy curve line 0) dayQuarters ≡ keptOf peak curve
-    unfolding keptOf
-    at-line {line} e few = rw e (table-cong _ _ dayQuarters (λ q l. just-higher (lineOf peak) q ∙ line-is peak (value q) ∙ pick q l))
+    -- a cut at the line, where no more than the limit are above it
+    pub at-line : {line : ℕ} → line ≡ lineOf ed peak → higherThan curve line ≤ ed .limit → table (keptAt curve line 0) dayQuarters ≡ keptOfBy ed peak curve
+    unfolding keptOfBy
+    at-line {line} e few = rw e (table-cong _ _ dayQuarters (λ q l. just-higher (lineOf ed peak) q ∙ line-is ed peak (value q) ∙ pick q l))
       where
-        pick : (q : ℕ) → q < dayQuarters → aboveLine peak (value q) ≡ kept peak curve q
+        pick : (q : ℕ) → q < dayQuarters → aboveLineBy ed peak (value q) ≡ kept ed peak curve q
         pick q l =
-            ⊎-elim (λ a. a ∙ sym (few-kept curve peak q l (omega (arith, few, above-is, ap (higherThan curve) e)) a))
-            (λ n. n ∙ sym (not-above q n)) (decided (aboveLine peak (value q)))
+            ⊎-elim (λ a. a ∙ sym (few-kept curve ed peak q l (omega (arith, few, above-is, ap (higherThan curve) e)) a))
+            (λ n. n ∙ sym (not-above q n)) (decided (aboveLineBy ed peak (value q)))
+
+    -- a cut at the highest value, where the line is no lower than that
+    pub at-top : highestOf curve ≤ lineOf ed peak → table (keptAt curve (highestOf curve) 0) dayQuarters ≡ keptOfBy ed peak curve
+    unfolding keptOfBy
+    at-top high = table-cong _ _ dayQuarters (λ q l. none-higher q ∙ sym (not-above q (under q)))
+      where
+        none-higher : (q : ℕ) → keptAt curve (highestOf curve) 0 q ≡ false
+        none-higher q = just-higher (highestOf curve) q ∙ le-ltb (highestOf curve) (value q) (under-top q)
+
+        under : (q : ℕ) → aboveLineBy ed peak (value q) ≡ false
+        under q = sym (line-is ed peak (value q)) ∙ le-ltb (lineOf ed peak) (value q) (omega (arith, high, under-top q))
 
     -- a quarter that is equal to the limit
     equal-kept :
         (limit q : ℕ) {equals : ℕ}
         → q < dayQuarters
         → value q ≡ limit
-        → lineOf peak < limit
-        → higherThan curve limit ≤ windowsMost
-        → equals ≡ windowsMost - higherThan curve limit
-        → keptBy curve limit equals q ≡ kept peak curve q
-    unfolding keptBy kept
+        → lineOf ed peak < limit
+        → higherThan curve limit ≤ ed .limit
+        → equals ≡ ed .limit - higherThan curve limit
+        → keptAt curve limit equals q ≡ kept ed peak curve q
+    unfolding keptAt kept
     equal-kept limit q {equals} l f over few e =
         let a = over-line q (omega arith) in
         let is = rw f at (rank-is q l a) in
         simp (le-ltb limit (value q) (omega arith), eq-eqb (value q) limit f, a)
-        (same-order (equalsBefore curve limit q) equals (rank peak curve q) windowsMost (λ m. omega arith) (λ m. omega arith))
+        (same-order (equalsBefore curve limit q) equals (rank ed peak curve q) (ed .limit) (λ m. omega arith) (λ m. omega arith))
 
-    -- a cut at a limit over the line that no more than forty are higher than, and
-    -- forty or more than the value before it
+    -- a cut at a value over the line that no more than the limit are higher than, and as many or more than the value
+    -- before it
     pub at-limit :
         (limit : ℕ) {equals : ℕ}
-        → lineOf peak < limit
-        → FortyBetween curve (limit - 1) limit
-        → equals ≡ windowsMost - higherThan curve limit
-        → table (keptBy curve limit equals) dayQuarters ≡ keptOf peak curve
-    unfolding keptOf keptBy
+        → lineOf ed peak < limit
+        → MostBetween curve (ed .limit) (limit - 1) limit
+        → equals ≡ ed .limit - higherThan curve limit
+        → table (keptAt curve limit equals) dayQuarters ≡ keptOfBy ed peak curve
+    unfolding keptOfBy keptAt
     at-limit limit {equals} over (many, few) e = table-cong _ _ dayQuarters (λ q l. go q l (decLt limit (value q)) (ℕ-discrete (value q) limit))
       where
-        go : (q : ℕ) → q < dayQuarters → Dec (limit < value q) → Dec (value q ≡ limit) → keptBy curve limit equals q ≡ kept peak curve q
+        go : (q : ℕ) → q < dayQuarters → Dec (limit < value q) → Dec (value q ≡ limit) → keptAt curve limit equals q ≡ kept ed peak curve q
         go q l (yes h) f = simp (lt-ltb limit (value q) h, kept-high limit q (omega arith) few l h)
         go q l (no h) (yes f) = equal-kept limit q l f over few e
         go q l (no h) (no f) =

@@ -1,4 +1,4 @@
-pub mod Forty
+pub mod Kept
 pub mod Ahead
 pub mod Cutting
 pub mod Added

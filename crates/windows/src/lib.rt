@@ -1,20 +1,20 @@
-// The high-load windows of four curves: the quarters above the line, at most forty in a season (Rules 4.4 and 4.5). It
-// meets specs/Chosen; how it finds where to cut a season is in specs/Cuts. Quarters count from 0.
-// Main theorem: a season keeps exactly the smaller of forty and the number above the line, and no kept quarter is lower
-// than one left out (`forty`, `none-lower`, proofs/Forty).
+// The high-load windows of four curves: the quarters above an edition's line, in a season at most as many as its limit,
+// forty today (Rules 4.4 and 4.5). It meets specs/Chosen; how it finds where to cut a season is in specs/Cuts. Quarters
+// count from 0.
+// Main theorem: under every edition a season keeps exactly the smaller of the limit and the number above the line, and
+// no kept quarter is lower than one left out (`kept-count`, `none-lower`, proofs/Kept).
 ghost use mathlib.Core.Path.{_≡_};
 ghost use Prim.Native.Nat.{ℕ, _+_, _-_, _<_, _≤_};
 ghost use lib.Dec.{ltb};
 ghost use lib.ListN.{length, getD};
 ghost use Rattle.ranges.specs.Ranges.{bit, table};
 ghost use Rattle.answers.specs.Ruling.{dayQuarters};
-ghost use Rattle.windows.specs.Chosen.{keptOf, chosenOf};
-ghost use Rattle.windows.specs.Cuts.{lineOf, higherThan, FortyBetween, keptBy};
+ghost use Rattle.windows.specs.Chosen.{keptOfBy, chosenOf};
+ghost use Rattle.windows.specs.Cuts.{lineOf, higherThan, MostBetween, keptAt};
+use answers::Edition;
 
-// The line stands at 19 twentieths of the peak.
-const LINE_PARTS: u64 = 19;
-
-const PEAK_PARTS: u64 = 20;
+// The highest value of a curve that 32 bits hold.
+const VALUE_MOST: u64 = 4_294_967_295;
 
 // Two limits between which a season is cut.
 struct Limits {
@@ -28,11 +28,12 @@ struct Cut {
     equals: usize,
 }
 
-// The line as a value: what is higher is above the line.
-fn line_of(peak: u32) -> u32
-    ensures { λ r. ⌜ r ≡ lineOf peak ⌝ }
+// The line as a value: what is higher is above the line. It may be too high for a curve's value, since an edition that
+// somebody put together may have a line of 255 percent.
+fn line_of(edition: Edition, peak: u32) -> u64
+    ensures { λ r. ⌜ r ≡ lineOf edition peak ⌝ }
 {
-    (LINE_PARTS * (peak as u64) / PEAK_PARTS) as u32
+    edition.line as u64 * (peak as u64) / answers::WHOLE_SHARE
 }
 
 // 1 where a is higher than b, else 0.
@@ -53,18 +54,18 @@ fn count_above(curve: &[u32; answers::DAY_QUARTERS], limit: u32) -> usize
     n as usize
 }
 
-// Two limits that are nearer, forty quarters or more above the low one and no more than forty above the high one: the
-// value in the middle is one of them. Where just forty are above it, the search is over.
-fn nearer(curve: &[u32; answers::DAY_QUARTERS], low: u32, high: u32) -> Limits
-    requires { ⌜ (low + 1 < high) × FortyBetween (now curve) low high ⌝ }
-    ensures { λ r. ⌜ (low ≤ r .low) × (r .low < r .high) × (r .high - r .low < high - low) × FortyBetween (now (curve .entry)) (r .low) (r .high) ⌝ }
+// Two limits that are nearer, `most` quarters or more above the low one and no more than `most` above the high one: the
+// value in the middle is one of them. Where just so many are above it, the search is over.
+fn nearer(curve: &[u32; answers::DAY_QUARTERS], most: usize, low: u32, high: u32) -> Limits
+    requires { ⌜ (low + 1 < high) × MostBetween (now curve) most low high ⌝ }
+    ensures { λ r. ⌜ (low ≤ r .low) × (r .low < r .high) × (r .high - r .low < high - low) × MostBetween (now (curve .entry)) most (r .low) (r .high) ⌝ }
 {
     let middle = low + (high - low) / 2;
     let n = count_above(curve, middle);
-    if n < answers::WINDOWS_MOST {
+    if n < most {
         return Limits { low, high: middle };
     }
-    if answers::WINDOWS_MOST < n {
+    if most < n {
         return Limits { low: middle, high };
     }
     Limits {
@@ -73,37 +74,47 @@ fn nearer(curve: &[u32; answers::DAY_QUARTERS], low: u32, high: u32) -> Limits
     }
 }
 
-// A limit that no more than forty quarters are above, while forty or more are above the value before it: the way
+// A limit that no more than `most` quarters are above, while as many or more are above the value before it: the way
 // between two limits is halved.
-fn limit_between(curve: &[u32; answers::DAY_QUARTERS], from: u32, to: u32) -> u32
-    requires { ⌜ (from < to) × FortyBetween (now curve) from to ⌝ }
-    ensures { λ r. ⌜ (from < r) × FortyBetween (now (curve .entry)) (r - 1) r ⌝ }
+fn limit_between(curve: &[u32; answers::DAY_QUARTERS], most: usize, from: u32, to: u32) -> u32
+    requires { ⌜ (from < to) × MostBetween (now curve) most from to ⌝ }
+    ensures { λ r. ⌜ (from < r) × MostBetween (now (curve .entry)) most (r - 1) r ⌝ }
 {
     let mut low = from;
     let mut high = to;
     while 1 < high - low {
-        let next = nearer(curve, low, high);
+        let next = nearer(curve, most, low, high);
         low = next.low;
         high = next.high;
     }
     high
 }
 
-// Where a season is cut: at the line, or higher where more than forty quarters are above it.
-fn cut_of(peak: u32, curve: &[u32; answers::DAY_QUARTERS]) -> Cut
-    ensures { λ r. ⌜ table (keptBy (now (curve .entry)) (r .limit) (r .equals)) dayQuarters ≡ keptOf peak (now (curve .entry)) ⌝ }
+// The cut that keeps what is above a limit.
+fn above(limit: u32) -> Cut
+    ensures { λ r. ⌜ (r .limit ≡ limit) × (r .equals ≡ 0) ⌝ }
 {
-    let line = line_of(peak);
-    if count_above(curve, line) <= answers::WINDOWS_MOST {
-        return Cut {
-            limit: line,
-            equals: 0,
-        };
+    Cut { limit, equals: 0 }
+}
+
+// Where a season is cut: at the line, or higher where more quarters are above it than the edition's limit. No value is
+// above a line that is higher than all that 32 bits hold.
+fn cut_of(edition: Edition, peak: u32, curve: &[u32; answers::DAY_QUARTERS]) -> Cut
+    ensures { λ r. ⌜ table (keptAt (now (curve .entry)) (r .limit) (r .equals)) dayQuarters ≡ keptOfBy edition peak (now (curve .entry)) ⌝ }
+{
+    let most = edition.limit as usize;
+    let line = line_of(edition, peak);
+    if VALUE_MOST < line {
+        return above(peaks::highest(curve));
     }
-    let limit = limit_between(curve, line, peaks::highest(curve));
+    let from = line as u32;
+    if count_above(curve, from) <= most {
+        return above(from);
+    }
+    let limit = limit_between(curve, most, from, peaks::highest(curve));
     Cut {
         limit,
-        equals: answers::WINDOWS_MOST - count_above(curve, limit),
+        equals: most - count_above(curve, limit),
     }
 }
 
@@ -129,7 +140,7 @@ fn add_equals(
     equals: usize,
 )
     requires { ⌜ now out ≡ table (λ (q : ℕ). ltb limit (getD (now curve) q 0)) dayQuarters ⌝ }
-    ensures { λ r. ⌜ now (out .exit) ≡ table (keptBy (now (curve .entry)) limit equals) dayQuarters ⌝ }
+    ensures { λ r. ⌜ now (out .exit) ≡ table (keptAt (now (curve .entry)) limit equals) dayQuarters ⌝ }
 {
     let mut n: usize = 0;
     for q in 0..answers::DAY_QUARTERS {
@@ -141,18 +152,24 @@ fn add_equals(
 
 // Marks the kept quarters of a season, and no others. The curve is read where it stands: nothing of it is copied or put
 // in order, and no memory depends on how many quarters are kept at the most.
-fn keep(out: &mut [bool; answers::DAY_QUARTERS], peak: u32, curve: &[u32; answers::DAY_QUARTERS])
+fn keep(
+    out: &mut [bool; answers::DAY_QUARTERS],
+    edition: Edition,
+    peak: u32,
+    curve: &[u32; answers::DAY_QUARTERS],
+)
     requires { ⌜ length (now out) ≡ dayQuarters ⌝ }
-    ensures { λ r. ⌜ now (out .exit) ≡ keptOf peak (now (curve .entry)) ⌝ }
+    ensures { λ r. ⌜ now (out .exit) ≡ keptOfBy edition peak (now (curve .entry)) ⌝ }
 {
-    let cut = cut_of(peak, curve);
+    let cut = cut_of(edition, peak, curve);
     mark_above(&mut *out, curve, cut.limit);
     if 0 < cut.equals {
         add_equals(&mut *out, curve, cut.limit, cut.equals);
     }
 }
 
-// The windows of four curves, for any peak: by season and by quarter, both from 0. Each season's curve is lent on.
+// The windows of four curves by today's edition, for any peak: by season and by quarter, both from 0. Each season's
+// curve is lent on.
 // (Four calls, since a loop is unrolled with all that it calls, and takes 400 bytes of stack more.)
 pub fn chosen(
     peak: u32,
@@ -160,10 +177,11 @@ pub fn chosen(
 ) -> [[bool; answers::DAY_QUARTERS]; sheet::SEASONS]
     ensures { λ r. ⌜ r ≡ chosenOf peak (now (curves .entry)) ⌝ }
 {
+    let edition = answers::today();
     let mut out = [[false; answers::DAY_QUARTERS]; sheet::SEASONS];
-    keep(&mut out[0], peak, &curves[0]);
-    keep(&mut out[1], peak, &curves[1]);
-    keep(&mut out[2], peak, &curves[2]);
-    keep(&mut out[3], peak, &curves[3]);
+    keep(&mut out[0], edition, peak, &curves[0]);
+    keep(&mut out[1], edition, peak, &curves[1]);
+    keep(&mut out[2], edition, peak, &curves[2]);
+    keep(&mut out[3], edition, peak, &curves[3]);
     out
 }

@@ -7,9 +7,11 @@ use Prim.Native.Nat.{ℕ}
 use native.Mathlib.Omega.{arith}
 use borrow.Author.Needs.{needs}
 use lib.ListN.{getD}
+use Rattle.answers.specs.Edition.{today}
 use Rattle.answers.specs.Ruling.{yearOut, levelOut}
 use Rattle.encoding.specs.Bytes.{twoAt}
-use Rattle.sheet.specs.Bytes.{yearAt, levelAt}
+use Rattle.sheet.specs.Windows.{tooFull}
+use Rattle.sheet.specs.Bytes.{yearAt, levelAt, windowsIn}
 use Rattle.sheet.specs.Rows.{Formed}
 use Rattle.sheet.specs.Answers.{shownOf}
 use Rattle.ranges.proofs.Bools.{clash}
@@ -38,45 +40,50 @@ year-at e = rw (e .before .before .two-at2 .ensures) at (sym (e .before .year-ou
 level-at : (e : tie.Else5) → levelOut (getD (dated (e .before .before .before)) levelAt 0) ≡ false
 level-at e = sym (e .before .level-out .ensures) ∙ e .if5 .left
 
+full-at :
+    (e : tie.After-bytes-full)
+    → e .bytes-full .result ≡ tooFull today (windowsIn (dated (e .before .before .before .before .before)))
+full-at e = rw (e .before .today .ensures) at (e .bytes-full .ensures)
+
 returns : tie.Need-returns
-returns c = ap shownOf (c .refused .ensures) ∙ read-refused _ (read-form _ (λ f. c .before .if1 .taken (f .size))) refl
+returns c = ap shownOf (c .refused .ensures) ∙ read-refused today _ (read-form today _ (λ f. c .before .if1 .taken (f .size))) refl
 
 returns-2 : tie.Need-returns-2
 returns-2 c =
-    ap shownOf (c .refused2 .ensures)
-    ∙ read-refused _ (read-form _ (λ f. clash (sym (c .before .before .other-mark .ensures) ∙ c .before .if2 .taken) (marked _ .1 (f .marked)))) refl
+    let other = sym (c .before .before .other-mark .ensures) ∙ c .before .if2 .taken in
+    ap shownOf (c .refused2 .ensures) ∙ read-refused today _ (read-form today _ (λ f. clash other (marked _ .1 (f .marked)))) refl
 
 returns-3 : tie.Need-returns-3
 returns-3 c =
     ap shownOf (c .refused3 .ensures)
-    ∙ read-refused _ (read-form _ (λ f. c .before .if3 .taken (c .before .before .two-at .ensures ∙ f .version))) refl
+    ∙ read-refused today _ (read-form today _ (λ f. c .before .if3 .taken (c .before .before .two-at .ensures ∙ f .version))) refl
 
 returns-4 : tie.Need-returns-4
 returns-4 c =
     let read = c .before .before .before in
     let out = rw (read .two-at2 .ensures) at (sym (c .before .before .year-out .ensures) ∙ c .before .if4 .taken) in
-    ap shownOf (c .refused4 .ensures) ∙ read-refused _ (read-year _ (formed-at (read .before)) out) refl
+    ap shownOf (c .refused4 .ensures) ∙ read-refused today _ (read-year today _ (formed-at (read .before)) out) refl
 
 returns-5 : tie.Need-returns-5
 returns-5 c =
     let e = c .before .before .before .before in
     let out = sym (c .before .before .level-out .ensures) ∙ c .before .if5 .taken in
-    ap shownOf (c .refused5 .ensures) ∙ read-refused _ (read-level _ (formed-at (e .before .before .before)) (year-at e) out) refl
+    ap shownOf (c .refused5 .ensures) ∙ read-refused today _ (read-level today _ (formed-at (e .before .before .before)) (year-at e) out) refl
 
 returns-6 : tie.Need-returns-6
 returns-6 c =
-    let e = c .before .before .before in
+    let e = c .before .before .before .before in
     let y = e .before .before .before in
-    let full = sym (c .before .before .bytes-full .ensures) ∙ c .before .if6 .taken in
-    ap shownOf (c .refused6 .ensures) ∙ read-refused _ (read-full _ (formed-at (y .before .before .before)) (year-at y) (level-at e) full) refl
+    let full = sym (full-at (c .before .before)) ∙ c .before .if6 .taken in
+    ap shownOf (c .refused6 .ensures) ∙ read-refused today _ (read-full today _ (formed-at (y .before .before .before)) (year-at y) (level-at e) full) refl
 
 returns-7 : tie.Need-returns-7
 returns-7 c =
-    let e = c .before .before .before in
+    let e = c .before .before .before .before in
     let y = e .before .before .before in
-    let roomy = sym (c .before .before .bytes-full .ensures) ∙ c .before .if6 .left in
+    let roomy = sym (full-at (c .before .before)) ∙ c .before .if6 .left in
     rw (y .before .before .two-at2 .ensures, c .unpack .ensures)
-    (read-taken _ (read-accepted _ (formed-at (y .before .before .before)) (year-at y) (level-at e) roomy))
+    (read-taken today _ (read-accepted today _ (formed-at (y .before .before .before)) (year-at y) (level-at e) roomy))
 
 pub read-spec : {M : Type 1} → statement M
 read-spec =
@@ -98,6 +105,7 @@ read-spec =
     (λ c κs. search needs)  -- level-out-requires
     (λ c κs. search needs)  -- refused-requires-5
     returns-5
+    (λ c κs. search needs)  -- today-requires
     (λ c κs. search needs)  -- bytes-full-requires
     (λ c κs. search needs)  -- refused-requires-6
     returns-6

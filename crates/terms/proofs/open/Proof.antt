@@ -3,6 +3,7 @@
 use mathlib.Core.Path.{_≡_, sym, ap, _∙_}
 use borrow.Author.Needs.{needs}
 use types.Run.{miss}
+use Rattle.answers.specs.Edition.{today}
 use Rattle.day_kinds.specs.Kinds.{windowDays}
 use Rattle.sheet.specs.declared.Sheet.{Sheet}
 use Rattle.sheet.specs.Answers.{ReadSaid}
@@ -19,7 +20,7 @@ use Rattle.terms.proofs.open.Tie as tie
 open-answer-requires : tie.Need-open-answer-requires
 open-answer-requires c κs =
     let read = c .before in
-    λ e. read-never (read .before .before .before .args .sheet .now) (sym (ap (λ (r : ReadSaid). r .answer .number) (read .read .ensures)) ∙ e)
+    λ e. read-never today (read .before .before .before .args .sheet .now) (sym (ap (λ (r : ReadSaid). r .answer .number) (read .read .ensures)) ∙ e)
 
 -- the basis that is opened, and what is answered
 abbrev given : tie.After-open-answer → Basis

@@ -1,19 +1,19 @@
--- `windows::limit_between` meets its contract. The loop's invariant: forty or more are higher than
--- `low`, no more than forty than `high`.
+-- `windows::limit_between` meets its contract. The loop's invariant: `most` or more are higher than
+-- `low`, no more than `most` than `high`.
 -- Assumes nothing.
 use mathlib.Core.Path.{_≡_}
 use Prim.Native.Nat.{_≤_, _<_, _-_}
 use native.Mathlib.Omega.{arith}
 use borrow.Author.Needs.{needs}
-use Rattle.windows.specs.Cuts.{FortyBetween}
+use Rattle.windows.specs.Cuts.{MostBetween}
 use Rattle.windows.proofs.limit_between.Statement.{statement}
 use Rattle.windows.proofs.limit_between.Tie as tie
 
 abbrev Inv-loop : tie.InvT-loop
-Inv-loop curve from to low₀ high₀ low high = (from ≤ low) × (low < high) × FortyBetween curve low high
+Inv-loop curve most from to low₀ high₀ low high = (from ≤ low) × (low < high) × MostBetween curve most low high
 
 abbrev μ-loop : tie.MeasureT-loop
-μ-loop curve from to low₀ high₀ low high = high - low
+μ-loop curve most from to low₀ high₀ low high = high - low
 
 returns : tie.Need-returns Inv-loop μ-loop
 returns c =

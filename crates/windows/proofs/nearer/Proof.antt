@@ -1,4 +1,4 @@
--- `windows::nearer` meets its contract: where just forty are higher than the middle, no fewer
+-- `windows::nearer` meets its contract: where just `most` are higher than the middle, no fewer
 -- are higher than the value before it.
 -- Assumes nothing.
 use Prim.Native.Nat.{_+_, _-_, _/_}

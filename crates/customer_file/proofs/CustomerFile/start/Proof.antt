@@ -5,7 +5,7 @@ use borrow.Author.Needs.{needs}
 use lib.ListN.{replicate}
 use Rattle.ranges.specs.Ranges.{joined, anyOver}
 use Rattle.encoding.specs.Bytes.{otherMark}
-use Rattle.sheet.specs.Answers.{readAnswer}
+use Rattle.sheet.specs.Answers.{readAnswerBy}
 use Rattle.terms.specs.Opening.{customerOpenAnswer}
 use Rattle.customer_days.specs.Days.{shutCustomer, openCustomer}
 use Rattle.customer_head.specs.Header.{customerHeadMost}
@@ -15,7 +15,7 @@ use Rattle.customer_file.proofs.CustomerFile.start.Statement.{statement
 use Rattle.customer_file.proofs.CustomerFile.start.Tie as tie
 
 blank : openedIn (replicate customerHeadMost 0) ≡ shutCustomer
-unfolding openedIn openCustomer customerOpenAnswer readAnswer otherMark anyOver joined
+unfolding openedIn openCustomer customerOpenAnswer readAnswerBy otherMark anyOver joined
 blank = refl
 
 returns : tie.Need-returns
