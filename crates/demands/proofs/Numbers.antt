@@ -43,6 +43,7 @@ numbers =
       share-6 = refl;
       share-7 = refl;
       move = refl;
+      reduction = refl;
       legal = today-legal;
     }
 

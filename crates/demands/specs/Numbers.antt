@@ -1,13 +1,12 @@
 -- The numbers and dates of the rules, written out: the limits and shares that the rows of specs/Answers name, and what
--- a weekday, a season and the reference period are. The line, the forty quarters, the hours of use, the floor and the
--- least reduction stand in specs/Forms, Windows, Charges and Fair. Rules 1.5, 2.1 to 2.3, 2.6, 3.1, 3.2, 4.1, 4.5 and
--- 7.6.
+-- a weekday, a season and the reference period are. The line, the hours of use and the floor stand in specs/Forms,
+-- Windows and Charges. Rules 1.5, 2.1 to 2.3, 2.6, 3.1, 3.2, 4.1, 4.5 and 7.6.
 use mathlib.Core.Path.{_≡_}
 use mathlib.Core.Logic.{_↔_, _⊎_}
 use Prim.Native.Nat.{ℕ, suc, _+_, _-_, _*_, _%_, _≤_, _<_}
 use Rattle.ranges.specs.Limits.{Within}
 use Rattle.answers.specs.Edition.{today}
-use Rattle.answers.specs.Ruling.{ChargeYear, Level, gridMost, customerMost, missing, capacityMost, energyMost, holidaysMost, dayQuarters, shareOf, leastMove, LegalEdition}
+use Rattle.answers.specs.Ruling.{ChargeYear, Level, gridMost, customerMost, missing, capacityMost, energyMost, holidaysMost, dayQuarters, shareOf, leastMove, leastReduction, LegalEdition}
 use Rattle.dates.specs.Dates.{yearDays, monthDays, dayOf, weekdayOf, seasonOf}
 use Rattle.periods.specs.Period.{periodDays, periodDate, periodSeason}
 
@@ -33,8 +32,9 @@ pub record Numbers : Type 0 where
   pub share-5 : shareOf today 5 ≡ 20
   pub share-6 : shareOf today 6 ≡ 30
   pub share-7 : shareOf today 7 ≡ 30
-  -- the least move in W: 100 kW
+  -- the least move in W: 100 kW; the least reduction in cent: 500 euro
   pub move : leastMove today ≡ 100 * 1000
+  pub reduction : leastReduction today ≡ 500 * 100
   -- today's edition is a legal one
   pub legal : LegalEdition today
 
