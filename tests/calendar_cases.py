@@ -11,6 +11,8 @@ import random
 import struct
 
 from dates import date, day_of, days_of, free_by_others, legal_list, nationwide, yday
+from editions import TO_2060, TODAYS, loads, picked, under
+from year import YEARS
 
 DAYS = range(368)  # day 0 and the days past the year's end too
 SEASON = {12: 1, 1: 1, 2: 1, 3: 2, 4: 2, 5: 2, 6: 3, 7: 3, 8: 3, 9: 4, 10: 4, 11: 4}
@@ -52,9 +54,9 @@ def kind(year, listed, when):
     return min((code for code, applies in grounds.items() if applies), default=1)
 
 
-def answer(year, holidays, day):
+def answer(year, holidays, day, editions=TODAYS):
     """The number and, for 0, the kind: order 1, 3, 13 (Rule 8.2)."""
-    if not 2014 <= year <= 2028:
+    if picked(editions, year) is None:
         return (1,)
     if not legal_list(year, holidays):
         return (3,)
@@ -71,7 +73,7 @@ def record(kind, year, day, holidays):
     return kind.encode() + struct.pack(">HHB", year, day, len(holidays)) + b"".join(struct.pack(">H", h) for h in holidays)
 
 
-def whole_year(year, holidays):
+def whole_year(year, holidays, editions):
     dates = period(year)
     # day 0 of the period is 31 August, and behind its last 31 August the days go on
     around = [dates[0] + datetime.timedelta(days=d - 1) for d in DAYS]
@@ -80,11 +82,11 @@ def whole_year(year, holidays):
         "".join(str(date(year, d).weekday()) for d in DAYS),
         "".join(str(season(year, d)) for d in DAYS),
         "".join(str(SEASON[d.month]) for d in around),
-        "".join(LETTER[answer(year, holidays, d)] for d in DAYS),
+        "".join(LETTER[answer(year, holidays, d, editions)] for d in DAYS),
     ]
 
 
-def whole_list(year, holidays):
+def whole_list(year, holidays, editions):
     """Whether the list is taken, the answers of all days under it, and the days of window_days.
 
     window_days answers for any list, so for one that is refused its rule is applied to the days that are listed all
@@ -94,41 +96,45 @@ def whole_list(year, holidays):
     days = [d <= days_of(year) and kind(year, listed, date(year, d)) == 1 for d in range(1, 367)]
     return [
         f"L {year}" + SIGN[legal_list(year, holidays)],
-        "".join(LETTER[answer(year, holidays, d)] for d in DAYS),
+        "".join(LETTER[answer(year, holidays, d, editions)] for d in DAYS),
         "".join(SIGN[carries] for carries in days),
     ]
 
 
-def one_day(year, holidays, day):
-    return [LETTER[answer(year, holidays, day)]]
+def one_day(year, holidays, day, editions):
+    return [LETTER[answer(year, holidays, day, editions)]]
 
 
-def cases():
-    """(kind, year, day, holidays), in the order of the lines."""
+# Kinds. Each gives the kind of a record, year, day and holidays
+
+def years():
+    for year in (*YEARS, 2010, 2011, 2012, 2013, 2029, 2030, 1900, 2000, 2100, 2400, 9998):
+        yield "Y", year, 0, []
+
+
+def taken_lists():
+    """The nationwide lists, then random ones of every length."""
     rng = random.Random(20140101)
-    years = range(2014, 2029)
-    for year in years:
-        yield "Y", year, 0, []
-    for year in (2010, 2011, 2012, 2013, 2029, 2030, 1900, 2000, 2100, 2400, 9998):
-        yield "Y", year, 0, []
-    # lists that are taken: the nationwide ones, then random ones of every length
-    for year in years:
+    for year in YEARS:
         yield "L", year, 0, nationwide(year)
     for n in range(240):
-        year = rng.choice(years)
+        year = rng.choice(YEARS)
         yield "L", year, 0, sorted(rng.sample(range(1, days_of(year) + 1), n % 41))
     # many Tuesdays and Thursdays, so that bridge days are frequent
-    for year in years:
+    for year in YEARS:
         pool = [d for d in range(1, days_of(year) + 1) if date(year, d).weekday() in (0, 1, 3, 4)]
         yield "L", year, 0, sorted(rng.sample(pool, 40))
     # the turns of the years: the first and the last days listed in every way
-    for year in years:
+    for year in YEARS:
         for listed in ([1], [1, 2], [1, 3], [2, 4], [1, 2, 3, 4, 5, 6]):
             yield "L", year, 0, listed
         eve = yday(year, 12, 24)
         for listed in ([eve], [eve - 1, eve], [eve - 3, eve - 1], list(range(eve - 4, eve + 8))):
             yield "L", year, 0, listed
-    # lists that break Rule 2.6
+
+
+def refused_lists():
+    """Lists that break Rule 2.6, and beside them the longest and the last day alone."""
     for year in (2014, 2016, 2023, 2024, 2028):
         last = days_of(year)
         full = list(range(1, 41))
@@ -139,7 +145,10 @@ def cases():
             yield "L", year, 0, bad
         yield "L", year, 0, full
         yield "L", year, 0, [last]
-    # single days: case 11, case 14 and its variants, Christmas, and bad input
+
+
+def single_days():
+    """Case 11, case 14 and its variants, Christmas, and bad input."""
     may = [yday(2025, 5, 13), yday(2025, 5, 15)]
     singles = [
         (2024, yday(2024, 3, 2), []), (2024, yday(2024, 3, 1), []), (2025, yday(2025, 5, 2), [yday(2025, 5, 1)]), (2025, yday(2025, 5, 2), []),
@@ -165,9 +174,44 @@ def cases():
                 yield "D", year, day, listed
 
 
-def lines(kind, year, day, holidays):
-    return whole_year(year, holidays) if kind == "Y" else whole_list(year, holidays) if kind == "L" else one_day(year, holidays, day)
+def outside():
+    """One day of each year that today's list has no edition for: all are 1."""
+    for year in (*range(1990, 2014), *range(2029, 2070)):
+        assert answer(year, [], 1) == answer(year, [5, 5], 0) == (1,)
+        yield "D", year, 1, []
+        yield "D", year, 0, [5, 5]
+
+
+def to_2060():
+    """Under a list that reaches 2060: all its years, the years behind them; and of those behind 2028 lists and days."""
+    rng = random.Random(20600101)
+    years = range(2029, 2061)
+    for year in (*range(2014, 2061), 2012, 2013, 2061, 2062):
+        yield "Y", year, 0, []
+    for year in years:
+        beside = [d for d in range(1, days_of(year) + 1) if date(year, d).weekday() in (0, 1, 3, 4)]
+        eve, last = yday(year, 12, 24), days_of(year)
+        turns = [1], [1, 2], [1, 3], [2, 4], [eve - 1, eve], [eve - 3, eve - 1], [last], [last + 1], [0], [5, 5], list(range(1, 42))
+        for listed in (nationwide(year), sorted(rng.sample(beside, 40)), *turns):
+            yield "L", year, 0, listed
+        for day in (0, 1, last, last + 1, yday(year, 2, 28) + 1, 65535):
+            yield "D", year, day, []
+    for year in (0, 2013, 2061, 65535):
+        for day in (0, 1, 366):
+            yield "D", year, day, [5, 5]
+
+
+def lines(kind, year, day, holidays, editions=TODAYS):
+    if kind == "Y":
+        return whole_year(year, holidays, editions)
+    return whole_list(year, holidays, editions) if kind == "L" else one_day(year, holidays, day, editions)
+
+
+def made(cases, editions=TODAYS):
+    return [(record(*case), lines(*case, editions)) for case in cases]
 
 
 def records():
-    return {"lists": [(record(*case), lines(*case)) for case in cases()]}
+    later = under(loads(*TO_2060), lambda editions: made(to_2060(), editions))
+    kinds = (years, taken_lists, refused_lists, single_days, outside)
+    return {kind.__name__: made(kind()) for kind in kinds} | {"to_2060": later}

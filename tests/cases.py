@@ -6,21 +6,28 @@ Run at the project's root:  tests/cases.py          writes crates/cases/stdin an
                                                     records and answers
                             tests/cases.py --check  says whether the two files are what it would write
 
-A part maps the names of its kinds to records, each with its lines. No part knows the code under test, nor another part.
+A part maps the names of its kinds to records, each with its lines. No part knows the code under test. A kind begins and
+ends under today's list of editions.
 """
 import collections
 
 import calendar_cases
 import customer_cases
 import customer_refusals
+import edition_cases
+import edition_figures
+import edition_series
 import grid_cases
 import sheet_cases
 import sunday_cases
 import tariff_cases
 from kept import keep
 
-PARTS = (calendar_cases, sheet_cases, grid_cases, tariff_cases, customer_cases, customer_refusals, sunday_cases)
-ANSWERS = "WRPOCEJ"  # lines that have an answer's number behind their letter
+PARTS = (
+    calendar_cases, sheet_cases, grid_cases, tariff_cases, customer_cases, customer_refusals, sunday_cases, edition_cases, edition_figures,
+    edition_series,
+)
+ANSWERS = "WRPOCEJI"  # lines that have an answer's number behind their letter
 
 
 def answered(records):

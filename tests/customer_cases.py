@@ -4,8 +4,8 @@ tests/customer_records.py makes its records.
 import itertools
 import random
 
-from customer_records import ALL, EVENING, all_terms, asked, both, figures_of, on_day, one, record
-from dates import date, days_of, nationwide, yday
+from customer_records import EVENING, all_terms, asked, both, figures_of, on_day, one, record
+from dates import SEASONS, date, days_of, nationwide, yday
 from layout import year_run
 from recipes import Patch, any_places, daily, series_of
 from year import LIMITS, MISSING, READING_MOST, SEASON, SHARE, USUAL, YEARS, Terms, carrying_by_weeks, whole
@@ -37,7 +37,7 @@ def printed():
 def zeros():
     """Zeros with windows (case 13): 10, with M 0, and H 0 at the year's first in-window quarter. Without windows: 8."""
     for year in YEARS:
-        terms = [asked(year, year % 7 + 1, {season: [year % 90, 95]}, nationwide(year)) for season in ALL]
+        terms = [asked(year, year % 7 + 1, {season: [year % 90, 95]}, nationwide(year)) for season in SEASONS]
         case = all_terms(year, 0, [], terms)
         assert figures_of(case)[:5] == (10, 0, 0, 0, 0)
         yield case
@@ -161,7 +161,7 @@ def seasons():
             patches += daily(year_run(year), of, quarter, 900_000)
             patches += daily(year_run(year), [d for d in of if of[d] == season], quarter, 300_000, 2_000, year)
         terms = asked(year, 5, MORNINGS, [])
-        alone = [asked(year, 5, {s: MORNINGS[s]}) for s in ALL] if year in (2020, 2025) else []
+        alone = [asked(year, 5, {s: MORNINGS[s]}) for s in SEASONS] if year in (2020, 2025) else []
         case = all_terms(year, 50_000, patches, [terms] + alone, 5)
         assert figures_of(case)[-3] <= 300_000
         yield case
@@ -173,7 +173,7 @@ def seasons():
 
 def one_season():
     """Windows in one season only: the readings of the others say nothing of H."""
-    for year, season in itertools.product((2017, 2020, 2025), ALL):
+    for year, season in itertools.product((2017, 2020, 2025), SEASONS):
         windows = {season: [0, 20, 40, 95]}
         run, every = year_run(year), range(1, days_of(year) + 1)
         patches = [patch for q in (0, 20, 40, 95) for patch in daily(run, every, q, 800_000, 50_000, 31 * q + year)]
@@ -192,7 +192,7 @@ def edges_of_day():
         monday = next(d for d in range(100, 107) if date(year, d).weekday() == 0)
         around = [on_day(year, monday - 7, 0, 900_000, 96 * 21)]
         around += [patch for q in quarters for patch in daily(year_run(year), range(monday - 7, monday + 14), q, 200_000)]
-        terms = asked(year, 5, {s: quarters for s in ALL})
+        terms = asked(year, 5, {s: quarters for s in SEASONS})
         yield both(terms, 200_000, around, year)
         for k, q in itertools.product((0, 4), quarters):
             case = both(terms, 200_000, around + [on_day(year, monday + k, q, 300_000)], year)
@@ -270,14 +270,14 @@ def every_year():
         n = days_of(year)
         patches = [patch for q in range(60, 84) for patch in daily(year_run(year), range(1, n + 1), q, 600_000, 60_000, 97 * q + year)]
         patches += [Patch(20, 3 * n, 32, 1_000_000, 65_000, year)]
-        windows = {s: list(range(64 + s, 76 + 2 * s)) for s in ALL}
+        windows = {s: list(range(64 + s, 76 + 2 * s)) for s in SEASONS}
         terms = asked(year, year % 7 + 1, windows, nationwide(year), USUAL, year % 2 == 0)
         cut = 37 * (year - 2013) % n + 1
         yield 96 * n, 90_000, patches, [("A", terms), ("D", 1, cut), ("P", 0, 95), ("C",), ("P", 5, 97), ("D", cut + 1, n), ("C",)]
 
 
 def any_windows(rng):
-    return {s: rng.sample(range(96), rng.choice([0, 1, 3, 12, 40])) for s in ALL}
+    return {s: rng.sample(range(96), rng.choice([0, 1, 3, 12, 40])) for s in SEASONS}
 
 
 def any_patch(rng, run, peak):

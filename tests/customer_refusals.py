@@ -3,8 +3,8 @@ them: a part of tests/cases.py. tests/customer_records.py makes its records.
 """
 import itertools
 
-from customer_records import ALL, EVENING, asked, both, figures_of, on_day, record
-from dates import days_of, nationwide
+from customer_records import EVENING, asked, both, figures_of, on_day, record
+from dates import SEASONS, days_of, nationwide
 from layout import year_run
 from recipes import MOST, Patch, daily, series_of
 from year import LIMITS, MISSING, READING_MOST, SHARE, USUAL, Terms, opening, sheet_bytes, whole
@@ -64,9 +64,9 @@ def broken_terms(year):
     terms += [asked(y, 5, EVENING) for y in (2013, 2029, 0, 1, 65535, 0xE907, 2014 + 256, 2025 - 256)]
     terms += [asked(year, level) for level in (0, 8, 9, 128, 255, *SHARE)]
     full, over = list(range(20, 60)), list(range(20, 61))
-    for season in ALL:
-        terms += [asked(year, 5, {season: over}), asked(year, 5, {s: full for s in ALL} | {season: over}), asked(year, 5, {season: range(96)})]
-    terms += [asked(year, 5, {s: full for s in ALL}), asked(year, 5, {s: range(96) for s in ALL})]
+    for season in SEASONS:
+        terms += [asked(year, 5, {season: over}), asked(year, 5, {s: full for s in SEASONS} | {season: over}), asked(year, 5, {season: range(96)})]
+    terms += [asked(year, 5, {s: full for s in SEASONS}), asked(year, 5, {s: range(96) for s in SEASONS})]
     lists = [range(1, 41), range(1, 42), range(1, 46), range(last - 39, last + 1), range(last - 39, last + 2), range(last - 40, last + 1)]
     lists += [[0], [0, 1], [0] * 40, [last], [last + 1], [1, last + 1], [365], [366], [367], [65535], [1, 65535]]
     lists += [[1, 1], [5, 4], [2, 1], [1, 2, 3, 3], [9, 8, 7], [last - 1, last, last], [10, 20, 30, 29], [10, 20, 30, 30], [40, 39, 41]]

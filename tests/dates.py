@@ -1,7 +1,9 @@
-"""Dates, holiday lists and what frees a day, by Rules 2.6 and 3.1 to 3.3 (docs/RULES.md): shared by the scripts that
-make expectations. Days of a year count from 1.
+"""Dates, seasons, holiday lists and what frees a day, by Rules 2.6 and 3.1 to 3.3 (docs/RULES.md): shared by the
+scripts that make expectations. Days of a year count from 1.
 """
 import datetime
+
+SEASONS = (1, 2, 3, 4)  # winter, spring, summer, autumn
 
 
 def date(year, day):

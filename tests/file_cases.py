@@ -8,14 +8,16 @@ Run at the project's root:  tests/file_cases.py          writes stdin, args, dat
 
 It knows nothing of the code under test. tests/files.py works out what is printed, in two ways that are held against
 each other. A whole year has 140 KB, so few files are whole. A header that is taken is seen by its 4: no day follows it.
+The files under other lists of editions than today's are those of tests/edition_files.py.
 """
 import collections
 import itertools
-import struct
 
-from dates import days_of, nationwide, yday
+import edition_files
+from dates import SEASONS, days_of, nationwide, yday
 from files import PRINTED_STATEMENT, PRINTED_WINDOWS, customer_file, grid_file, printed, readings_bytes, statement_of, windows_of
 from grid import GRID_MOST, place
+from heads import customer_head, four, grid_head, joined, season, two, up_to
 from kept import keep
 from layout import period_run, year_run
 from recipes import Patch, series_of
@@ -25,44 +27,7 @@ DAY = [1_000] * 96  # a usual one, as the first days of each series are
 FULL = (1 << 40) - 1  # forty bits
 
 
-# Headers as their fields, in order: name to bytes
-
-def two(number):
-    return struct.pack(">H", number)
-
-
-def four(number):
-    return struct.pack(">I", number)
-
-
-def season(bits):
-    """The 12 bytes of a season; quarter 0 is their highest bit."""
-    return bits.to_bytes(12, "big")
-
-
-def grid_head(**changes):
-    return {"mark": b"GRD", "version": two(1), "year": two(2025), "level": b"\5"} | changes
-
-
-def customer_head(holidays=(), **changes):
-    head = {"mark": b"CUS", "version": two(1), "sheet_mark": b"HLZ", "sheet_version": two(1), "year": two(2025), "level": b"\5"}
-    head |= {f"season{s}": season(0xFF << 8 * s) for s in (1, 2, 3, 4)}
-    head |= {"option": b"\0", "count": bytes([len(holidays)])}
-    head |= {f"holiday{k}": two(day) for k, day in enumerate(holidays, 1)}
-    head |= {name: four(price) for name, price in zip(("low_capacity", "low_energy", "high_capacity", "high_energy"), USUAL)}
-    assert set(changes) <= set(head)
-    return head | changes
-
-
-def joined(head):
-    return b"".join(head.values())
-
-
-def up_to(head, name):
-    """The header up to a field, with it."""
-    names = list(head)
-    return b"".join(head[key] for key in names[:names.index(name) + 1])
-
+# Headers with something wrong
 
 def around(head, name):
     """A header that a field refuses: whole with a day; cut right after the field; cut in the next; cut in the field."""
@@ -135,14 +100,14 @@ def levels():
 def set_bits():
     """Forty and forty-one bits of each season: at its start, at its end, spread; all; and forty in every season."""
     spread = sum(1 << 2 * k for k in range(40))
-    for s in (1, 2, 3, 4):
+    for s in SEASONS:
         for name, bits in (("first", FULL << 56), ("last", FULL), ("spread", spread)):
             more = bits << 1 | 1 if name == "last" else bits | 1 << 55
             yield f"c_season{s}_40_{name}", joined(customer_head(**{f"season{s}": season(bits)}))
             yield f"c_season{s}_41_{name}", joined(customer_head(**{f"season{s}": season(more)}))
         yield f"c_season{s}_96", joined(customer_head(**{f"season{s}": season((1 << 96) - 1)}))
-    yield "c_seasons_40", joined(customer_head(**{f"season{s}": season(FULL << 7 * s) for s in (1, 2, 3, 4)}))
-    yield "c_seasons_none", joined(customer_head(**{f"season{s}": season(0) for s in (1, 2, 3, 4)}))
+    yield "c_seasons_40", joined(customer_head(**{f"season{s}": season(FULL << 7 * s) for s in SEASONS}))
+    yield "c_seasons_none", joined(customer_head(**{f"season{s}": season(0) for s in SEASONS}))
     for name, data in around(customer_head(season2=season(FULL | 1 << 95)), "season2"):
         yield f"c_bad_{name}", data
 
@@ -273,7 +238,7 @@ def decided(name, number, terms, base, patches):
 def whole_customers():
     """A leap year that is accepted with the option below 2,500 hours; 8, 9, 10, 11; bytes left over."""
     edges = {1: [*range(0, 12), *range(68, 96)], 2: [95], 3: range(28, 68), 4: [0, 1, 3, 4, 90, 95]}
-    evening = {s: range(68, 76) for s in (1, 2, 3, 4)}
+    evening = {s: range(68, 76) for s in SEASONS}
     leap = Terms(sheet_bytes(2024, 5, edges), tuple(nationwide(2024)), USUAL, True)
     # high in quarters of windows, but on a Saturday, the listed days, the bridge day after Ascension and 31 December;
     # then a Tuesday in April
@@ -311,7 +276,7 @@ def whole_sundays():
         yield name, data
     # M is the second reading, and S has both: 35,038 times 100,000 and the two
     doubled = [Patch(298 * 96 - 4 + 9, 1, 1, 800_000), Patch(298 * 96 - 4 + 13, 1, 1, 900_000)]
-    terms = Terms(sheet_bytes(2025, 5, {s: [9] for s in (1, 2, 3, 4)}), (), USUAL, False)
+    terms = Terms(sheet_bytes(2025, 5, {s: [9] for s in SEASONS}), (), USUAL, False)
     name, data = decided("c_sunday_100", 0, terms, 100_000, doubled)
     assert statement_of(data) == "0 3705500 5305500 900000 3505500000 100000 2 9\n"
     yield name, data
@@ -340,13 +305,20 @@ KINDS = (
     cuts, marks, versions, years, levels, set_bits, options, counts, holidays, prices, first_of_two, short_days, whole_grids, whole_customers,
     whole_sundays, short_sundays,
 )
-made = {kind.__name__: list(kind()) for kind in KINDS}
+
+
+def with_text(name, data):
+    return name, data, (windows_of if name[0] == "g" else statement_of)(data)
+
+
+made = {kind.__name__: [with_text(*case) for case in kind()] for kind in KINDS}
+made |= {kind.__name__: list(kind()) for kind in edition_files.KINDS}
 cases = [case for part in made.values() for case in part]
-assert len(dict(cases)) == len(cases), "a name is given twice"
-texts = {name: (windows_of if name[0] == "g" else statement_of)(data) for name, data in cases}
+texts = {name: text for name, _, text in cases}
+assert len(texts) == len(cases), "a name is given twice"
 windows, statement = printed()
 kept = {"hlz/stdin": windows, "hlz/stdout": PRINTED_WINDOWS.encode(), "statement/stdin": statement, "statement/stdout": PRINTED_STATEMENT.encode()}
-kept |= {f"file_cases/data/{name}": data for name, data in cases}
+kept |= {f"file_cases/data/{name}": data for name, data, _ in cases}
 kept["file_cases/args"] = "".join(name + "\n" for name in texts).encode()
 kept["file_cases/stdout"] = "".join(name + "\n" + text for name, text in texts.items()).encode()
 keep("crates", kept, ["file_cases/data"])

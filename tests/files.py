@@ -1,5 +1,5 @@
 """What the window program and the statement program print for the bytes of any file, by Rules 10.1 to 10.7
-(docs/RULES.md).
+(docs/RULES.md), and what they would print under another list of editions than today's.
 
 It knows nothing of the code under test. Each text is worked out in two ways that are held against each other: from the
 whole file, by the places at which its fields stand, with the answer over a whole series (`from_places`); and along the
@@ -12,10 +12,11 @@ import struct
 
 import grid
 import year as customer
-from dates import days_of, legal_list
+from dates import SEASONS, days_of, legal_list
+from editions import TODAYS, picked
 from layout import length, period_run, year_run
 from recipes import Patch, series_of
-from year import LIMITS, READING_MOST, SHARE, USUAL, YEARS, Terms, sheet_bytes
+from year import LIMITS, READING_MOST, SHARE, USUAL, Terms, sheet_bytes
 
 PRINTED_WINDOWS = "HLZ 2025 5\n1 18:00-18:15\n2 none\n3 none\n4 none\n"
 PRINTED_STATEMENT = "0 1001500 2001500 1000000 1500000 500000 2 72\n"
@@ -61,7 +62,7 @@ def refusal_text(said):
 
 def windows_text(year, level, windows, runs_of):
     lines = [f"HLZ {year} {level}"]
-    for season in (1, 2, 3, 4):
+    for season in SEASONS:
         lines += [f"{season} {time(a)}-{time(b)}" for a, b in runs_of(windows[season])] or [f"{season} none"]
     return "".join(line + "\n" for line in lines)
 
@@ -88,22 +89,23 @@ def when(number, test):
     return number if test else 0
 
 
-def grid_fields(data):
+def grid_fields(data, editions):
     yield 3, when(12, data[:3] != b"GRD")
     yield 5, when(12, at(data, 3, 5) != 1)
-    yield 7, when(1, at(data, 5, 7) not in YEARS)
+    yield 7, when(1, picked(editions, at(data, 5, 7)) is None)
     yield 8, when(2, at(data, 7, 8) not in SHARE)
 
 
-def customer_fields(data):
+def customer_fields(data, editions):
     yield 3, when(12, data[:3] != b"CUS")
     yield 5, when(12, at(data, 3, 5) != 1)
     yield 8, when(12, data[5:8] != b"HLZ")
     yield 10, when(12, at(data, 8, 10) != 1)
-    yield 12, when(1, at(data, 10, 12) not in YEARS)
+    edition = picked(editions, at(data, 10, 12))
+    yield 12, when(1, edition is None)
     yield 13, when(2, at(data, 12, 13) not in SHARE)
     for start in (13, 25, 37, 49):
-        yield start + 12, when(12, bin(at(data, start, start + 12)).count("1") > 40)
+        yield start + 12, when(12, bin(at(data, start, start + 12)).count("1") > edition.limit)
     yield 62, when(12, at(data, 61, 62) > 1)
     count = at(data, 62, 63)
     yield 63, when(3, count > 40)
@@ -125,13 +127,13 @@ def days_stop(body, run, most):
     return ((4,), None) if len(body) != 4 * run.starts[-1] else (None, list(series))
 
 
-def windows_from_places(data):
-    number = first_stop(data, grid_fields(data))
+def windows_from_places(data, editions):
+    number = first_stop(data, grid_fields(data, editions))
     if number:
         return refusal_text((number,))
     year, level = at(data, 5, 7), at(data, 7, 8)
     stop, series = days_stop(data[8:], period_run(year), grid.GRID_MOST)
-    said, windows = (stop, None) if stop else grid.whole(year, level, series)
+    said, windows = (stop, None) if stop else grid.whole(year, level, series, editions)
     return windows_text(year, level, windows, runs_by_edges) if said == (0,) else refusal_text(said)
 
 
@@ -140,21 +142,21 @@ def terms_at(data, head):
     return Terms(data[5:61], holidays, struct.unpack(">4I", data[head - 16:head]), data[61] == 1)
 
 
-def held_to_opening(data, number):
+def held_to_opening(data, number, editions):
     """A whole header that is right in what the file adds to the terms is refused as the opening of a year is."""
     head = 79 + 2 * at(data, 62, 63)
     if data[:5] == b"CUS\0\1" and at(data, 61, 62) < 2 and len(data) >= head:
-        assert number == customer.opening(terms_at(data, head))
+        assert number == customer.opening(terms_at(data, head), editions)
 
 
-def statement_from_places(data):
-    number = first_stop(data, customer_fields(data))
-    held_to_opening(data, number)
+def statement_from_places(data, editions):
+    number = first_stop(data, customer_fields(data, editions))
+    held_to_opening(data, number, editions)
     if number:
         return statement_text((number,))
     head = 79 + 2 * data[62]
     stop, series = days_stop(data[head:], year_run(at(data, 10, 12)), READING_MOST)
-    return statement_text(stop or customer.whole(terms_at(data, head), series))
+    return statement_text(stop or customer.whole(terms_at(data, head), series, editions))
 
 
 # From parts: the bytes as they come
@@ -201,19 +203,19 @@ def read_mark(source, mark):
     refuse(12, source.take(2) != b"\0\1")
 
 
-def read_year_level(source):
+def read_year_level(source, editions):
     year = source.number(2)
-    refuse(1, not 2014 <= year <= 2028)
+    refuse(1, picked(editions, year) is None)
     level = source.number(1)
     refuse(2, not 1 <= level <= 7)
     return year, level
 
 
-def read_windows(source):
+def read_windows(source, limit):
     bits = b""
-    for _ in range(4):
+    for _ in SEASONS:
         season = source.take(12)
-        refuse(12, sum(byte >> k & 1 for byte in season for k in range(8)) > 40)
+        refuse(12, sum(byte >> k & 1 for byte in season for k in range(8)) > limit)
         bits += season
     return bits
 
@@ -236,12 +238,12 @@ def read_prices(source):
     return tuple(prices)
 
 
-def windows_from_parts(source):
+def windows_from_parts(source, editions=TODAYS):
     try:
         read_mark(source, b"GRD")
-        year, level = read_year_level(source)
+        year, level = read_year_level(source, editions)
         machine = grid.Days()
-        assert machine.open(year, level) == (0,)
+        assert machine.open(year, level, editions) == (0,)
         source.days(machine)
         said, windows = machine.close()
     except Said as refused:
@@ -249,18 +251,18 @@ def windows_from_parts(source):
     return windows_text(year, level, windows, runs_by_marks) if said == (0,) else refusal_text(said)
 
 
-def statement_from_parts(source):
+def statement_from_parts(source, editions=TODAYS):
     try:
         read_mark(source, b"CUS")
         read_mark(source, b"HLZ")
-        year, level = read_year_level(source)
-        sheet = b"HLZ" + struct.pack(">HHB", 1, year, level) + read_windows(source)
+        year, level = read_year_level(source, editions)
+        sheet = b"HLZ" + struct.pack(">HHB", 1, year, level) + read_windows(source, picked(editions, year).limit)
         option = source.number(1)
         refuse(12, option not in (0, 1))
         terms = Terms(sheet, read_holidays(source, year), read_prices(source), option == 1)
         machine = customer.Days()
         # what no field was refused for, the opening takes
-        assert machine.open(terms) == (0,)
+        assert machine.open(terms, editions) == (0,)
         source.days(machine)
         return statement_text(machine.close())
     except Said as refused:
@@ -269,17 +271,17 @@ def statement_from_parts(source):
 
 # Both
 
-def windows_of(data):
+def windows_of(data, editions=TODAYS):
     """What the window program prints."""
-    text = windows_from_parts(Input(data))
-    assert text == windows_from_places(data)
+    text = windows_from_parts(Input(data), editions)
+    assert text == windows_from_places(data, editions)
     return text
 
 
-def statement_of(data):
+def statement_of(data, editions=TODAYS):
     """What the statement program prints."""
-    text = statement_from_parts(Input(data))
-    assert text == statement_from_places(data)
+    text = statement_from_parts(Input(data), editions)
+    assert text == statement_from_places(data, editions)
     return text
 
 

@@ -3,15 +3,17 @@ scripts that make records and files.
 
 It knows nothing of the code under test. The windows are worked out in two ways that share the calendar alone: `whole`
 gathers the readings of each season's quarters from a whole series and sorts, `Days` goes day by day with running maxima
-and throws quarters away. Where all days were taken, the two are held against each other. Seasons count from 1,
-quarters, and positions in a day, from 0.
+and throws quarters away. Where all days were taken, the two are held against each other. The ruling's numbers are an
+edition's; where none is named, today's. Seasons count from 1, quarters, and positions in a day, from 0.
 """
 import datetime
 import fractions
 import functools
 
+from dates import SEASONS
+from editions import TODAY, TODAYS, picked
 from layout import Run, around, length, period_run, quarters
-from year import SEASON, SHARE, YEARS
+from year import SEASON, SHARE
 
 GRID_MOST = 200_000_000
 
@@ -36,19 +38,19 @@ def places_of(year, season):
     return found
 
 
-def kept_of(curve, peak):
-    above = [q for q in range(96) if 20 * curve[q] > 19 * peak]
-    return sorted(above, key=lambda q: (-curve[q], q))[:40]
+def kept_of(curve, peak, edition=TODAY):
+    above = [q for q in range(96) if 100 * curve[q] > edition.line * peak]
+    return sorted(above, key=lambda q: (-curve[q], q))[:edition.limit]
 
 
-def opening(year, level):
+def opening(year, level, editions=TODAYS):
     """1, 2 in this order, else 0."""
-    return 1 if year not in YEARS else 2 if level not in SHARE else 0
+    return 1 if picked(editions, year) is None else 2 if level not in SHARE else 0
 
 
-def whole(year, level, series):
+def whole(year, level, series, editions=TODAYS):
     """The number with its figures, 1, 2, 4, 5, 7 in this order; and for 0 the quarters that each season keeps."""
-    refused = opening(year, level)
+    refused = opening(year, level, editions)
     if refused:
         return (refused,), None
     run = period_run(year)
@@ -61,25 +63,28 @@ def whole(year, level, series):
     if peak == 0:
         return (7,), None
     windows = {}
-    for season in (1, 2, 3, 4):
+    for season in SEASONS:
         curve = [max(series[p] for p in places) for places in places_of(year, season)]
-        windows[season] = sorted(kept_of(curve, peak))
+        windows[season] = sorted(kept_of(curve, peak, picked(editions, year)))
     return (0,), windows
 
 
 class Days:
-    """A series that is given day by day. Before an accepted opening it is the state of a refused one."""
+    """A series that is given day by day, by the edition of its opening.
+
+    Before an accepted one it is the state of a refused one.
+    """
 
     def __init__(self):
         self.run, self.left = Run([]), None
 
-    def open(self, year, level):
+    def open(self, year, level, editions=TODAYS):
         self.run, self.left = Run([]), None
-        number = opening(year, level)
+        number = opening(year, level, editions)
         if not number:
             self.year, self.level, self.run, self.given = year, level, period_run(year), []
-            self.left = list(self.run.dates)
-            self.high = {season: [0] * 96 for season in (1, 2, 3, 4)}
+            self.left, self.editions = list(self.run.dates), editions
+            self.high = {season: [0] * 96 for season in SEASONS}
         return (number,)
 
     def day(self, day):
@@ -100,10 +105,10 @@ class Days:
         return (0,)
 
     def keep(self, season, peak):
-        """Quarters above the line; while there are more than forty, the lowest goes, and of the lowest the latest."""
-        curve = self.high[season]
-        quarters = [q for q in range(96) if fractions.Fraction(curve[q], peak) > fractions.Fraction(19, 20)]
-        while len(quarters) > 40:
+        """Quarters above the line; while there are too many, the lowest goes, and of the lowest the latest."""
+        curve, edition = self.high[season], picked(self.editions, self.year)
+        quarters = [q for q in range(96) if fractions.Fraction(curve[q], peak) > fractions.Fraction(edition.line, 100)]
+        while len(quarters) > edition.limit:
             lowest = min(curve[q] for q in quarters)
             quarters.remove(max(q for q in quarters if curve[q] == lowest))
         return quarters
@@ -112,7 +117,7 @@ class Days:
         if self.left is None or self.left:
             return (13,), None
         peak = max(max(curve) for curve in self.high.values())
-        answer = ((7,), None) if peak == 0 else ((0,), {s: self.keep(s, peak) for s in (1, 2, 3, 4)})
+        answer = ((7,), None) if peak == 0 else ((0,), {s: self.keep(s, peak) for s in SEASONS})
         # the days close as the whole series does (Rule 9.4)
-        assert answer == whole(self.year, self.level, self.given)
+        assert answer == whole(self.year, self.level, self.given, self.editions)
         return answer

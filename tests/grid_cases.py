@@ -3,6 +3,7 @@ makes its records.
 """
 import random
 
+from dates import SEASONS
 from grid import GRID_MOST as LIMIT, day_number, kept_of, place
 from grid_records import ROOM, both, count_of, lent, one, record, whole
 from layout import period_run
@@ -57,7 +58,7 @@ def at_line():
         last = 19 * peak // 20
         about = [max(last + k, 0) for k in (-2, -1, 0, 1, 2) if last + k <= peak]
         patches = [one(year, *MIDDLES[n % 4 + 1], 5, peak)]
-        for season in (1, 2, 3, 4):
+        for season in SEASONS:
             # a day later than the peak's, so that the peak stays; a few of them, so that the seasons differ
             month, day = MIDDLES[season]
             patches += [one(year, month, day + 1, q, rng.choice(about)) for q in rng.sample(range(96), 24)]
@@ -96,7 +97,7 @@ def cut():
     for year in (2016, 2017):
         for n in range(len(made)):
             patches = [Patch(0, 1, 1, 1000)]  # the peak, in autumn's quarter 0
-            for season in (1, 2, 3, 4):
+            for season in SEASONS:
                 patches += curve_on(year, *MIDDLES[season], made[(n + 3 * season) % len(made)])
             yield both(year, n % 7 + 1, 1, patches)
 
@@ -288,7 +289,7 @@ def chance():
         if n % 3 == 0:
             # one day in each season has a value for each quarter, drawn from few: many are above, and many are equal
             spread = min(peak // rng.choice([20, 25, 40]), 65535)
-            patches += [Patch(place(year, *MIDDLES[s], 0), 96, 1, peak, spread, rng.randrange(65536)) for s in (1, 2, 3, 4)]
+            patches += [Patch(place(year, *MIDDLES[s], 0), 96, 1, peak, spread, rng.randrange(65536)) for s in SEASONS]
         if n % 10 == 9:
             patches.append(Patch(rng.randrange(96 * days), 1, 1, rng.choice([LIMIT + 1, MISSING])))
         yield both(year, rng.randint(1, 7), rng.choice([0, 1, peak // 2]), patches, room=rng.randint(56, 64))

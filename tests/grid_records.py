@@ -8,10 +8,11 @@ day from 0.
 import struct
 
 import grid
+from editions import TODAYS, picked, step
 from grid import Days, place
 from layout import period_run
 from recipes import MOST, Patch, handed_out, offered, patch_bytes, series_of
-from year import YEARS, sheet_bytes
+from year import sheet_bytes
 
 FILL = 170  # what the lent bytes hold before a call
 ROOM = 64
@@ -30,9 +31,9 @@ def filled(year, level, answer):
     return said, lent(sheet_bytes(year, level, windows) if windows is not None else b"")
 
 
-def whole(year, level, series, room):
+def whole(year, level, series, room, editions=TODAYS):
     """14 comes before all else."""
-    return ((14,), lent()) if room < 56 else filled(year, level, grid.whole(year, level, series))
+    return ((14,), lent()) if room < 56 else filled(year, level, grid.whole(year, level, series, editions))
 
 
 def closed(days, room):
@@ -48,8 +49,8 @@ def closed(days, room):
 WIDTHS = {"W": ">HBB", "O": ">HB", "D": ">HH", "P": ">HH", "L": ">HH", "C": ">B"}
 
 
-def record(length, base, patches, calls):
-    """The record's bytes and its lines."""
+def record(length, base, patches, calls, editions=TODAYS):
+    """The record's bytes and its lines. An E among the calls changes the list for those after it."""
     assert length <= MOST and len(patches) < 256 and len(calls) < 256
     data = b"G" + struct.pack(">HIBB", length, base, len(patches), len(calls))
     data += patch_bytes(patches)
@@ -57,18 +58,23 @@ def record(length, base, patches, calls):
     days = Days()
     lines = [f"S {length}"]
     for kind, *words in calls:
+        if kind == "E":
+            own, line, editions = step(editions, *words)
+            data += own
+            lines.append(line)
+            continue
         data += kind.encode() + struct.pack(WIDTHS[kind], *words)
         if kind == "W":
-            answer, after = whole(words[0], words[1], series, words[2])
+            answer, after = whole(words[0], words[1], series, words[2], editions)
             said = answer + (after,)
         elif kind == "O":
-            said = days.open(*words)
+            said = days.open(*words, editions)
         elif kind == "D":
-            said = offered(days, series, *words)
+            said = offered(days, series, *words, editions)
         elif kind == "P":
             said = days.day(series[words[0]:words[0] + words[1]])
         elif kind == "L":
-            said = handed_out(period_run, series, *words)
+            said = handed_out(period_run, series, *words, editions)
         else:
             answer, after = closed(days, *words)
             said = answer + (after,)
@@ -76,14 +82,14 @@ def record(length, base, patches, calls):
     return data, lines
 
 
-def count_of(year):
+def count_of(year, editions=TODAYS):
     """Days of the period; any number will do for a year that has none."""
-    return len(period_run(year).dates) if year in YEARS else 366
+    return len(period_run(year).dates) if picked(editions, year) else 366
 
 
-def both(year, level, base, patches, length=None, room=60):
+def both(year, level, base, patches, length=None, room=60, editions=TODAYS):
     """The whole series, and the same by days."""
-    days = count_of(year)
+    days = count_of(year, editions)
     calls = [("W", year, level, room), ("O", year, level), ("D", 1, days), ("C", room)]
     return (96 * days if length is None else length), base, patches, calls
 

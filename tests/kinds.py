@@ -1,6 +1,6 @@
 #!/usr/bin/env python3
-"""Every day of every charge year, 2014 to 2028, under many holiday lists each: the kinds that the program `cases` prints
-are held to those of tests/calendar_cases.py.
+"""Every day of every charge year, 2014 to 2060, under many holiday lists each: the kinds that the program `cases`
+prints are held to those of tests/calendar_cases.py.
 
 Run at the project's root:  tests/kinds.py [N]   N lists for each year, 400 if not given
 """
@@ -9,6 +9,7 @@ import sys
 
 from calendar_cases import lines, record
 from dates import date, days_of, nationwide, yday
+from editions import EVER, TO_2060, all_steps, loads
 from programs import program, tell
 
 
@@ -28,11 +29,13 @@ def main():
     count = int(sys.argv[1]) if len(sys.argv) > 1 else 400
     cases = program("cases")
     passed, wrong = 0, []
-    for year in range(2014, 2029):
+    loading, editions = all_steps(loads(*TO_2060))
+    for year in EVER:
         asked = [("L", year, 0, listed) for listed in lists(year, count)]
-        printed = iter(cases(b"".join(record(*one) for one in asked)).splitlines())
+        printed = iter(cases(b"".join([data for data, _ in loading] + [record(*one) for one in asked])).splitlines())
+        assert [next(printed, None) for _ in loading] == [line for _, told in loading for line in told]
         for one in asked:  # three lines each
-            if [next(printed, None) for _ in range(3)] == lines(*one):
+            if [next(printed, None) for _ in range(3)] == lines(*one, editions):
                 passed += 1
             else:
                 wrong.append(f"{year} {one[3]}: something else is printed")

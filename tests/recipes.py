@@ -4,8 +4,8 @@ it. Places in a series count from 0, days from 1.
 import collections
 import struct
 
+from editions import TODAYS, picked
 from layout import Run, quarters
-from year import YEARS
 
 MOST = 35_500  # readings that the programs have room for
 Patch = collections.namedtuple("Patch", "first count step value spread seed", defaults=(0, 0))
@@ -39,16 +39,23 @@ def daily(run, days, quarter, value, spread=0, seed=0):
     return patches
 
 
-def handed_out(run_of, series, year, day):
-    """How many readings a day's part has, and its first and last one where there are some. A refused year has no days."""
-    part = (run_of(year) if year in YEARS else Run([])).part(series, day)
+def handed_out(run_of, series, year, day, editions=TODAYS):
+    """How many readings a day's part has, and its first and last one where there are some.
+
+    A refused year has no days.
+    """
+    part = (run_of(year) if picked(editions, year) else Run([])).part(series, day)
     return (len(part), *part[:1], *part[-1:])
 
 
-def offered(days, series, first, count):
-    """Days of the series, as the opened run has them, until one is refused: how many were taken, and the answer."""
+def offered(days, series, first, count, editions=TODAYS):
+    """Days of the series, as the opened run has them, until one is refused: how many were taken, and the answer.
+
+    The list may have lost the run's year since the opening: then each part is empty.
+    """
+    run = days.run if days.run.dates and picked(editions, days.year) else Run([])
     for k in range(count):
-        answer = days.day(days.run.part(series, first + k))
+        answer = days.day(run.part(series, first + k))
         if answer != (0,):
             return (k,) + answer
     return (count, 0)

@@ -6,8 +6,9 @@ Days, places and answers that stand here as numbers were counted by hand, not by
 """
 import customer_records
 import grid_records
-from customer_records import ALL, asked, figures_of, on_day
-from dates import days_of
+from customer_records import asked, figures_of, on_day
+from dates import SEASONS, days_of
+from editions import EVER, TO_2060, TODAYS, loads, under
 from grid import GRID_MOST, whole
 from layout import period_run, year_run
 from recipes import Patch, daily, series_of
@@ -16,7 +17,7 @@ from year import MISSING, READING_MOST, YEARS
 # of a charge year: its period's days with 100 and with 92 readings, and its own days with 92 and with 100
 IN_PERIOD = {2014: (58, 212), 2025: (59, 213), 2026: (57, 211)}
 IN_YEAR = {2014: (89, 299), 2024: (91, 301), 2025: (89, 299), 2026: (88, 298), 2028: (86, 303)}
-NIGHT = {s: [0, 7, 8, 11, 12, 95] for s in ALL}
+NIGHT = {s: [0, 7, 8, 11, 12, 95] for s in SEASONS}
 
 
 # Grid series
@@ -40,7 +41,7 @@ def grid_positions():
         tried += [(2, short + by, p, q) for by, p, q in sorted(some_short | more_short if every else some_short)]
         for season, day, position, quarter in tried:
             case = grid_records.both(year, 5, 1000, [Patch(starts_in_period(year)[day] + position, 1, 1, 2000)])
-            assert whole(year, 5, series_of(*case[:3])) == ((0,), {s: [quarter] if s == season else [] for s in ALL})
+            assert whole(year, 5, series_of(*case[:3])) == ((0,), {s: [quarter] if s == season else [] for s in SEASONS})
             yield case
     # a file made as if each day had 96 readings: its reading of 18:00 is read an hour earlier
     case = grid_records.both(2025, 5, 1000, [Patch(136 * 96 + 72, 1, 1, 2000)])
@@ -160,22 +161,22 @@ def grid_parts():
     yield 96 * 366, 1000, [], [("O", 2029, 5), ("D", 1, 1), ("D", 0, 1), ("D", 367, 1), ("O", 2013, 5), ("D", 1, 1), ("C", 60)]
 
 
-def grid_years():
+def grid_years(years=YEARS, editions=TODAYS):
     """Every year: quarter 40 is high on each day. A day that is laid out an hour off would show as quarter 36 or 44.
 
     On the Sundays a reading of the doubled hour is high, and one of the hour after the one left out. Then one series
     under the years whose periods are as long.
     """
-    for year in YEARS:
+    for year in years:
         run = period_run(year)
         long, short = run.sundays()
         patches = daily(run, range(1, len(run.dates) + 1), 40, 2000)
         patches += [Patch(run.starts[long - 1] + 14, 1, 1, 2000), Patch(run.starts[short - 1] + 10, 1, 1, 2000)]
-        case = grid_records.both(year, year % 7 + 1, 1000, patches)
-        assert whole(year, 1, series_of(*case[:3]))[1] == {1: [40], 2: [14, 40], 3: [40], 4: [10, 40]}
+        case = grid_records.both(year, year % 7 + 1, 1000, patches, editions=editions)
+        assert whole(year, 1, series_of(*case[:3]), editions)[1] == {1: [40], 2: [14, 40], 3: [40], 4: [10, 40]}
         yield case
     patches = [Patch(96 * 57 + 12, 1, 1, 2000), Patch(96 * 80 + 50, 1, 1, 1990), Patch(96 * 211 + 8, 1, 1, 2000), Patch(96 * 230, 1, 1, 1990)]
-    same = [year for year in YEARS if grid_records.count_of(year) == 365]
+    same = [year for year in years if grid_records.count_of(year, editions) == 365]
     yield 96 * 365, 1000, patches, [call for year in same for call in (("W", year, 5, 60), ("O", year, 5), ("D", 1, 365), ("C", 60))]
 
 
@@ -263,17 +264,23 @@ def customer_parts():
                 yield length, 100_000, [], [("A", asked(year)), ("D", 1, day), ("D", day, 1), ("C",)]
 
 
-def customer_years():
+def customer_years(years=YEARS, editions=TODAYS):
     """Every year: an hour before the window and an hour behind it each day is high.
 
     H would show a day that is laid out an hour off.
     """
-    for year in YEARS:
+    for year in years:
         run, every = year_run(year), range(1, days_of(year) + 1)
         patches = daily(run, every, 68, 900_000) + daily(run, every, 76, 900_000)
-        case = customer_records.both(asked(year, year % 7 + 1, {s: [72] for s in ALL}), 100_000, patches, year)
-        assert figures_of(case)[-3] == 100_000
+        case = customer_records.both(asked(year, year % 7 + 1, {s: [72] for s in SEASONS}), 100_000, patches, year)
+        assert figures_of(case, editions)[-3] == 100_000
         yield case
+
+
+def to_2060(records, cases):
+    """Records of the years behind today's edition, under a list that has them."""
+    later = [year for year in EVER if year not in YEARS]
+    return under(loads(*TO_2060), lambda editions: [records.record(*case, editions) for case in cases(later, editions)])
 
 
 GRID = (grid_positions, grid_doubled, grid_bad, grid_by_days, grid_parts, grid_years)
@@ -283,4 +290,5 @@ CUSTOMER = (customer_figures, customer_places, customer_bad, customer_by_days, c
 def records():
     made = {kind.__name__: [grid_records.record(*case) for case in kind()] for kind in GRID}
     made |= {kind.__name__: [customer_records.record(*case) for case in kind()] for kind in CUSTOMER}
+    made |= {"grid_to_2060": to_2060(grid_records, grid_years), "customer_to_2060": to_2060(customer_records, customer_years)}
     return made | {"parts": list(parts())}

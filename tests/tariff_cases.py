@@ -2,12 +2,14 @@
 tests/cases.py.
 
 It knows nothing of the code under test. tests/year.py has the rules, each in two ways that are held against each other;
-the two halves of the decision stand here, and their row is held against the decision there.
+the two halves of the decision stand here, and their row is held against the decision there. Where no edition is named,
+it is today's, of the year 2025.
 """
 import itertools
 import random
 import struct
 
+from editions import TODAY
 from year import LIMITS, PART, SHARE, USUAL, Set, charge_by_units, charges, few_hours, floor_of, judge, prices_out
 from year import share_by_units, share_reached
 
@@ -16,38 +18,38 @@ U32, U64 = 2**32 - 1, 2**64 - 1
 
 # What each half of the decision answers: the number and its figures
 
-def eligible(s):
+def eligible(s, edition=TODAY):
     if s.level not in SHARE:
         return (2,)
     if prices_out(s.prices):
         return (6,)
-    g, _, _ = charges(s)
+    g, _, _ = charges(s, edition)
     if not s.any:
         return 8, g, s.M, s.S
     carried = g, s.M, s.S, s.H, s.day, s.quarter
-    if not share_reached(s.M, s.H, s.level):
+    if not share_reached(s.M, s.H, s.level, edition):
         return (9,) + carried
-    if max(s.M - s.H, 0) < 100_000:
+    if max(s.M - s.H, 0) < edition.move:
         return (10,) + carried
     return 0, 1
 
 
-def charge(s):
+def charge(s, edition=TODAY):
     if prices_out(s.prices):
         return (6,)
-    g, r, f = charges(s)
+    g, r, f = charges(s, edition)
     if not s.any:
         return 8, g, s.M, s.S
     c = max(r, f)
     carried = g, s.M, s.S, s.H, s.day, s.quarter
-    if g - c < 50_000:
+    if g - c < edition.reduction:
         return (11,) + carried
     return (0, c) + carried
 
 
-def record(s):
-    data = b"T" + struct.pack(">IQ?IHBB4I?", s.M, s.S, s.any, s.H, s.day, s.quarter, s.level, *s.prices, s.option)
-    e, c, j = eligible(s), charge(s), judge(s)
+def record(s, year=2025, edition=TODAY):
+    data = b"T" + struct.pack(">HIQ?IHBB4I?", year, s.M, s.S, s.any, s.H, s.day, s.quarter, s.level, *s.prices, s.option)
+    e, c, j = eligible(s, edition), charge(s, edition), judge(s, edition)
     assert j == (c if e == (0, 1) else e), s
     lines = [("P", int(prices_out(s.prices))), ("E", *e), ("C", *c), ("J", *j)]
     return data, [" ".join(map(str, line)) for line in lines]

@@ -201,7 +201,7 @@ fn show_stack(grid: &Grid, customer: &Customer) {
     show("choice alone", choice[0].max(choice[1]), CHOICE_STACK);
     show("windows", stack::deepest(|| calls::windows(grid.year, grid.level, &grid.series, &mut sheet)), 3_152);
     show("grid by days", stack::deepest(|| calls::grid_days(grid.year, grid.level, &grid.series, &mut sheet)), 5_872);
-    show("decision", stack::deepest(|| calls::decide(&customer.basis, &customer.series)), 3_032);
+    show("decision", stack::deepest(|| calls::decide(&customer.basis, &customer.series)), 3_292);
     show("customer by days", stack::deepest(|| calls::customer_days(&customer.basis, &customer.series)), 5_480);
 }
 

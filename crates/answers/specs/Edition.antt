@@ -1,9 +1,8 @@
 -- The numbers that an amendment of the ruling may change, as one record for each edition of it: the struct `Edition`
 -- of this crate's code. A definition that needs one of them takes the record, ed, and reads it there; `today` is the
--- ruling as it is. Promises and the cases of Rule 11.1 go by `today`. Where `sheet`, `windows` or `tariff` has a
--- definition in two forms, the one that takes an edition has `By` behind its name: `general f r` is `generalBy today f
--- r`. The ruling is BK4-13-739, by numbers and letters of its operative part, the ordinance is the StromNEV. Rules 2.1,
--- 2.3, 4.4, 4.5, 6.6, 7.4 and 7.6.
+-- ruling as it is. A call that has a year picks the record from the list that it is given (`editionOf`, room
+-- `editions`). The ruling is BK4-13-739, by numbers and letters of its operative part, the ordinance is the StromNEV.
+-- Rules 2.1, 2.3, 2.7, 4.4, 4.5, 6.6, 7.4 and 7.6.
 use mathlib.Core.List.{[], _∷_}
 use Prim.Native.Nat.{ℕ}
 use Rattle.answers.specs.declared.Edition.{Edition}
@@ -19,7 +18,7 @@ hourQuarters = 4
 abbrev pub today : Edition
 today =
     record {
-      -- charge years: the ruling holds from 1 January 2014 on (ruling 6), and the ordinance ends with 2028 (Rule 2.1)
+      -- charge years: the ruling holds from 1 January 2014 on (ruling 6), and the ordinance ends with 2028 (Rule 2.7)
       first = 2014;
       last = 2028;
       -- the line, in percent of the peak (Rule 4.4; ruling 2.d)
@@ -37,4 +36,19 @@ today =
       «least_reduction» = 50000;
       -- with fewer hours of use prices are those of the low row (Rule 6.6; ordinance § 2 no. 3, annex 4 no. 4)
       hours = 2500;
+    }
+
+-- the edition of no year, where none is picked: zeros
+abbrev pub noEdition : Edition
+noEdition =
+    record {
+      first = 0;
+      last = 0;
+      line = 0;
+      limit = 0;
+      shares = 0 ∷ 0 ∷ 0 ∷ 0 ∷ 0 ∷ 0 ∷ 0 ∷ [];
+      «least_move» = 0;
+      floor = 0;
+      «least_reduction» = 0;
+      hours = 0;
     }

@@ -1,5 +1,5 @@
--- A lent series that is given to a customer's year day by day, from its opening to its closing: each day as it is
--- handed out, and where one is refused the next ones all the same. Rules 9.2 to 9.5.
+-- A lent series that is given to a customer's year day by day, from its opening to its closing: each day as its
+-- run has it, and where one is refused the next ones all the same. Rules 9.2 to 9.5.
 use mathlib.Core.List.{List}
 use Prim.Native.Nat.{ℕ}
 use Rattle.answers.specs.Said.{Said}

@@ -1,7 +1,7 @@
 -- The answer for a calendar day: one law for each case, its rows exactly, and that nothing else meets the promise.
 -- Assumes nothing.
 use mathlib.Core.Path.{_≡_, refl, sym, ap, _∙_}
-use mathlib.Core.Bool.{Bool, true, false, cond}
+use mathlib.Core.Bool.{true, false, cond}
 use mathlib.Core.Logic.{_↔_, ⊎-elim}
 use mathlib.Core.List.{List}
 use Prim.Native.Nat.{ℕ, _≤_}
@@ -9,9 +9,10 @@ use native.Mathlib.Omega.{arith}
 use lib.Dec.{eqb}
 use lib.ListN.{getD}
 use Rattle.ranges.proofs.Bools.{decided, refutes, within}
-use Rattle.answers.specs.Ruling.{yearOut}
+use Rattle.answers.specs.declared.Edition.{Edition}
+use Rattle.answers.specs.Ruling.{lacksYear}
 use Rattle.answers.specs.Said.{Said, only}
-use Rattle.answers.proofs.Laws.{one-answer, charge-year}
+use Rattle.answers.proofs.Laws.{one-answer, has-year}
 use Rattle.dates.specs.Dates.{yearDays, mostDays}
 use Rattle.dates.proofs.Leaps.{leap-small}
 use Rattle.holidays.specs.Holidays.{badHolidays}
@@ -36,52 +37,52 @@ day-inside y d e =
     (h .from, omega (arith, leap-small y))
 
 -- the code's cases, in the order 1, 3, 13
-module _ (y : ℕ) (hs : List ℕ) (d : ℕ) where
-  pub said-year : yearOut y ≡ true → only 1 ≡ calendarAnswer y hs d
+module _ (ed : Edition) (y : ℕ) (hs : List ℕ) (d : ℕ) where
+  pub said-year : lacksYear ed y ≡ true → only 1 ≡ calendarAnswer ed y hs d
   unfolding calendarAnswer
   said-year e = rw e
 
-  module _ (a : yearOut y ≡ false) where
-    pub said-list : badHolidays y hs ≡ true → only 3 ≡ calendarAnswer y hs d
+  module _ (a : lacksYear ed y ≡ false) where
+    pub said-list : badHolidays y hs ≡ true → only 3 ≡ calendarAnswer ed y hs d
     unfolding calendarAnswer
     said-list e = rw (a, e)
 
     module _ (b : badHolidays y hs ≡ false) where
-      pub said-day : dayOut y d ≡ true → only 13 ≡ calendarAnswer y hs d
+      pub said-day : dayOut y d ≡ true → only 13 ≡ calendarAnswer ed y hs d
       unfolding calendarAnswer
       said-day e = rw (a, b, e)
 
-      pub said-kind : dayOut y d ≡ false → {r : DayKind} → r ≡ kindOf y hs d → ofKind r ≡ calendarAnswer y hs d
+      pub said-kind : dayOut y d ≡ false → {r : DayKind} → r ≡ kindOf y hs d → ofKind r ≡ calendarAnswer ed y hs d
       unfolding calendarAnswer
       said-kind e {r} f = rw (a, b, e, f)
 
 -- each number is answered exactly when its row holds and none before it does
-module _ (y : ℕ) (hs : List ℕ) (d : ℕ) where
-  holds : DayRow y hs d (calendarAnswer y hs d .number)
+module _ (ed : Edition) (y : ℕ) (hs : List ℕ) (d : ℕ) where
+  holds : DayRow ed y hs d (calendarAnswer ed y hs d .number)
   holds =
-      ⊎-elim (λ p. rw (← said-year y hs d p) (one (refutes _ (charge-year y) .0 p))) (λ a.
-      ⊎-elim (λ p. rw (← said-list y hs d a p) (three (charge-year y .0 a) (refutes _ (legal-holidays y hs) .0 p))) (λ b.
-      ⊎-elim (λ p. rw (← said-day y hs d a b p) (thirteen (charge-year y .0 a) (legal-holidays y hs .0 b) (refutes _ (day-of-year y d) .0 p))) (λ c.
-      rw (← said-kind y hs d a b c refl) (zero (charge-year y .0 a) (legal-holidays y hs .0 b) (day-of-year y d .0 c)))
-      (decided (dayOut y d))) (decided (badHolidays y hs))) (decided (yearOut y))
+      ⊎-elim (λ p. rw (← said-year ed y hs d p) (one (refutes _ (has-year ed y) .0 p))) (λ a.
+      ⊎-elim (λ p. rw (← said-list ed y hs d a p) (three (has-year ed y .0 a) (refutes _ (legal-holidays y hs) .0 p))) (λ b.
+      ⊎-elim (λ p. rw (← said-day ed y hs d a b p) (thirteen (has-year ed y .0 a) (legal-holidays y hs .0 b) (refutes _ (day-of-year y d) .0 p))) (λ c.
+      rw (← said-kind ed y hs d a b c refl) (zero (has-year ed y .0 a) (legal-holidays y hs .0 b) (day-of-year y d .0 c)))
+      (decided (dayOut y d))) (decided (badHolidays y hs))) (decided (lacksYear ed y))
 
-  given : {n : ℕ} → DayRow y hs d n → calendarAnswer y hs d .number ≡ n
-  given (one a) = rw (← said-year y hs d (refutes _ (charge-year y) .1 a))
-  given (three a b) = rw (← said-list y hs d (charge-year y .1 a) (refutes _ (legal-holidays y hs) .1 b))
+  given : {n : ℕ} → DayRow ed y hs d n → calendarAnswer ed y hs d .number ≡ n
+  given (one a) = rw (← said-year ed y hs d (refutes _ (has-year ed y) .1 a))
+  given (three a b) = rw (← said-list ed y hs d (has-year ed y .1 a) (refutes _ (legal-holidays y hs) .1 b))
   given (thirteen a b c) =
-      rw (← said-day y hs d (charge-year y .1 a) (legal-holidays y hs .1 b) (refutes _ (day-of-year y d) .1 c))
+      rw (← said-day ed y hs d (has-year ed y .1 a) (legal-holidays y hs .1 b) (refutes _ (day-of-year y d) .1 c))
   given (zero a b c) =
-      rw (← said-kind y hs d (charge-year y .1 a) (legal-holidays y hs .1 b) (day-of-year y d .1 c) refl)
+      rw (← said-kind ed y hs d (has-year ed y .1 a) (legal-holidays y hs .1 b) (day-of-year y d .1 c) refl)
 
-  pub exactly : (n : ℕ) → (calendarAnswer y hs d .number ≡ n) ↔ DayRow y hs d n
+  pub exactly : (n : ℕ) → (calendarAnswer ed y hs d .number ≡ n) ↔ DayRow ed y hs d n
   exactly n = (λ e. rw e at holds, given)
 
   -- and 0 tells the day's kind
-  pub zero-says : calendarAnswer y hs d .number ≡ 0 → calendarAnswer y hs d ≡ ofKind (kindOf y hs d)
+  pub zero-says : calendarAnswer ed y hs d .number ≡ 0 → calendarAnswer ed y hs d ≡ ofKind (kindOf y hs d)
   zero-says e = go (exactly 0 .0 e)
     where
-      go : DayRow y hs d 0 → calendarAnswer y hs d ≡ ofKind (kindOf y hs d)
-      go (zero a b c) = sym (said-kind y hs d (charge-year y .1 a) (legal-holidays y hs .1 b) (day-of-year y d .1 c) refl)
+      go : DayRow ed y hs d 0 → calendarAnswer ed y hs d ≡ ofKind (kindOf y hs d)
+      go (zero a b c) = sym (said-kind ed y hs d (has-year ed y .1 a) (legal-holidays y hs .1 b) (day-of-year y d .1 c) refl)
 
 -- an answer, back from what it says: so two answers that say the same are equal, without a case for each pair
 abbrev kindBack : ℕ → DayKind
@@ -113,5 +114,9 @@ back DayOut = refl
 pub day-said : {a b : DayAnswer} → saidOfDay a ≡ saidOfDay b → a ≡ b
 day-said {a} {b} e = sym (back a) ∙ ap dayBack e ∙ back b
 
-pub kind-only : (y : ℕ) (hs : List ℕ) (d : ℕ) {r s : DayAnswer} → saidOfDay r ≡ calendarAnswer y hs d → saidOfDay s ≡ calendarAnswer y hs d → r ≡ s
-kind-only y hs d p q = day-said (one-answer p q)
+pub kind-only :
+    (ed : Edition) (y : ℕ) (hs : List ℕ) (d : ℕ) {r s : DayAnswer}
+    → saidOfDay r ≡ calendarAnswer ed y hs d
+    → saidOfDay s ≡ calendarAnswer ed y hs d
+    → r ≡ s
+kind-only ed y hs d p q = day-said (one-answer p q)

@@ -5,10 +5,13 @@
 ghost use mathlib.Core.Path.{_≡_};
 ghost use Prim.Native.Nat.{_-_, _≤_, _<_};
 ghost use Rattle.dates.specs.Dates.{mostDays};
+ghost use Rattle.editions.specs.Editions.{editionOf};
 ghost use Rattle.day_kinds.specs.Kinds.{christmas, free, candidate, bridge, kindBy, isWindows, windowDays};
 ghost use Rattle.calendar.specs.Answer.{saidOfDay, dayOut, calendarAnswer};
 ghost use Rattle.calendar.specs.Marks.{markPlaces, lastMark, markPlace, marked, Marks};
+use answers::Edition;
 use day_kinds::DayKind;
+use editions::Editions;
 
 // The places, from 0, that mark listed days: place d for day d, from 0 to 367, and a last one for days that no year
 // has.
@@ -160,11 +163,11 @@ fn day_out(year: u16, day: u16) -> bool
     (day < 1) | (dates::year_days(year) < day)
 }
 
-// Of which kind is a day, from 1, of a charge year? Refuses 1, 3, 13 in this order.
-pub fn day_kind(year: u16, holidays: &[u16], day: u16) -> DayAnswer
-    ensures { λ r. ⌜ saidOfDay r ≡ calendarAnswer year (now (holidays .entry)) day ⌝ }
+// Of which kind is a day, from 1, of a year by an edition? Refuses 1, 3, 13 in this order.
+fn day_kind_by(edition: Edition, year: u16, holidays: &[u16], day: u16) -> DayAnswer
+    ensures { λ r. ⌜ saidOfDay r ≡ calendarAnswer edition year (now (holidays .entry)) day ⌝ }
 {
-    if answers::year_out(year) {
+    if answers::lacks_year(edition, year) {
         return DayAnswer::YearOut;
     }
     if holidays::bad_holidays(year, holidays) {
@@ -175,4 +178,11 @@ pub fn day_kind(year: u16, holidays: &[u16], day: u16) -> DayAnswer
     }
     let m = marks(holidays);
     DayAnswer::Day(kind(year, &m, day))
+}
+
+// Of which kind is a day, from 1, of a charge year? Refuses 1, 3, 13 in this order.
+pub fn day_kind(editions: Editions, year: u16, holidays: &[u16], day: u16) -> DayAnswer
+    ensures { λ r. ⌜ saidOfDay r ≡ calendarAnswer (editionOf editions year) year (now (holidays .entry)) day ⌝ }
+{
+    day_kind_by(editions::pick(editions, year), year, holidays, day)
 }

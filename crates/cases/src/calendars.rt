@@ -10,6 +10,7 @@ use super::input;
 use super::output;
 use calendar::DayAnswer;
 use day_kinds::DayKind;
+use editions::Editions;
 
 fn digit(n: u8) -> u8 {
     if n < 10 { b'0' + n } else { b'?' }
@@ -40,34 +41,34 @@ fn mark(answer: DayAnswer) -> u8 {
 
 // What a line has for a day: its weekday (W), its season (S), the season of that day of the period (P), or its answer
 // (A).
-fn letter_of(line: u8, year: u16, list: &[u16], day: u16) -> u8 {
+fn letter_of(editions: Editions, line: u8, year: u16, list: &[u16], day: u16) -> u8 {
     match line {
         b'W' => digit(dates::weekday(year, day)),
         b'S' => digit(dates::season(year, day)),
         b'P' => digit(periods::period_season(year, day)),
-        _ => mark(calendar::day_kind(year, list, day)),
+        _ => mark(calendar::day_kind(editions, year, list, day)),
     }
 }
 
 // Day 0 and the days behind the year's end, too.
-fn write_days(line: u8, year: u16, list: &[u16]) {
+fn write_days(editions: Editions, line: u8, year: u16, list: &[u16]) {
     for day in 0..368 {
-        output::letter(letter_of(line, year, list, day));
+        output::letter(letter_of(editions, line, year, list, day));
     }
     output::letter(b'\n');
 }
 
 // Y: a whole year.
-fn whole_year(year: u16, list: &[u16]) {
+fn whole_year(editions: Editions, year: u16, list: &[u16]) {
     output::letter(b'Y');
     output::next(year as u64);
     output::next(dates::year_days(year) as u64);
     output::next(periods::period_days(year) as u64);
     output::letter(b'\n');
-    write_days(b'W', year, list);
-    write_days(b'S', year, list);
-    write_days(b'P', year, list);
-    write_days(b'A', year, list);
+    write_days(editions, b'W', year, list);
+    write_days(editions, b'S', year, list);
+    write_days(editions, b'P', year, list);
+    write_days(editions, b'A', year, list);
 }
 
 fn write_signs(days: [bool; 366]) {
@@ -78,33 +79,33 @@ fn write_signs(days: [bool; 366]) {
 }
 
 // L: a holiday list.
-fn whole_list(year: u16, list: &[u16]) {
+fn whole_list(editions: Editions, year: u16, list: &[u16]) {
     output::letter(b'L');
     output::next(year as u64);
     output::letter(sign(!holidays::bad_holidays(year, list)));
     output::letter(b'\n');
-    write_days(b'A', year, list);
+    write_days(editions, b'A', year, list);
     write_signs(calendar::window_days(year, list));
 }
 
 // D: one day.
-fn one_day(year: u16, list: &[u16], day: u16) {
-    output::letter(letter_of(b'A', year, list, day));
+fn one_day(editions: Editions, year: u16, list: &[u16], day: u16) {
+    output::letter(letter_of(editions, b'A', year, list, day));
     output::letter(b'\n');
 }
 
-fn one_kind(kind: u8, year: u16, list: &[u16], day: u16) {
+fn one_kind(editions: Editions, kind: u8, year: u16, list: &[u16], day: u16) {
     match kind {
-        b'Y' => whole_year(year, list),
-        b'L' => whole_list(year, list),
-        _ => one_day(year, list, day),
+        b'Y' => whole_year(editions, year, list),
+        b'L' => whole_list(editions, year, list),
+        _ => one_day(editions, year, list, day),
     }
 }
 
-pub(crate) fn one_list(kind: u8) {
+pub(crate) fn one_list(editions: Editions, kind: u8) {
     let year = input::two();
     let day = input::two();
     let count = input::count();
     let list = input::list(count);
-    one_kind(kind, year, &list[0..count], day);
+    one_kind(editions, kind, year, &list[0..count], day);
 }

@@ -9,38 +9,55 @@
 //   P  place (from 0), length: that part of the series as a day.
 //   L  year, day (from 1): the part of the series that is that day: how many readings, and the first and the last.
 //   C  a closing, which leaves the state to the calls after it.
-// tests/customer_records.py makes them, and what must come of them, for customer_cases.py, customer_refusals.py and
-// sunday_cases.py beside it.
+//   E  an operation on the list of editions (lists.rt): the calls after it go by that list, up to the record's end.
+// tests/customer_records.py makes them, and what must come of them, for customer_cases.py, customer_refusals.py,
+// sunday_cases.py, edition_cases.py and edition_series.py beside it.
 use super::input;
+use super::lists;
 use super::output;
 use super::series;
 use super::tariffs::next_prices;
 use super::tariffs::write_answer;
 use customer_days::Customer;
+use editions::Editions;
 use readings::Run;
 use tariff::Decision;
 use tariff::Prices;
 
 // A: the whole series, and an opening under the same terms.
-fn asked(series: &[u32], sheet: &[u8], holidays: &[u16], prices: Prices, option: bool) -> Customer {
+fn asked(
+    editions: Editions,
+    series: &[u32],
+    sheet: &[u8],
+    holidays: &[u16],
+    prices: Prices,
+    option: bool,
+) -> Customer {
     write_answer(
         b'W',
-        customer::decide(sheet, holidays, prices, option, series),
+        customer::decide(editions, sheet, holidays, prices, option, series),
     );
-    let opened = Customer::open(sheet, holidays, prices, option);
+    let opened = Customer::open(editions, sheet, holidays, prices, option);
     let answer = opened.answer;
     write_answer(b'O', answer);
     opened.customer
 }
 
-fn ask(series: &[u32]) -> Customer {
+fn ask(editions: Editions, series: &[u32]) -> Customer {
     let len = input::room();
     let sheet = input::bytes(len);
     let count = input::room();
     let holidays = input::list(count);
     let prices = next_prices();
     let option = input::byte() != 0;
-    asked(series, &sheet[0..len], &holidays[0..count], prices, option)
+    asked(
+        editions,
+        series,
+        &sheet[0..len],
+        &holidays[0..count],
+        prices,
+        option,
+    )
 }
 
 fn write_days(taken: u16, answer: Decision) {
@@ -51,13 +68,13 @@ fn write_days(taken: u16, answer: Decision) {
 }
 
 // D: days of the series one after the other, until one is refused.
-fn days(series: &[u32], customer: Customer) -> Customer {
+fn days(editions: Editions, series: &[u32], customer: Customer) -> Customer {
     let first = input::size();
     let count = input::two();
     let run = Run::Year(customer.terms.rates.year);
     let mut state = customer;
     for k in 0..count {
-        let stepped = state.day(readings::day_part(run, series, first + k as usize));
+        let stepped = state.day(readings::day_part(editions, run, series, first + k as usize));
         let answer = stepped.answer;
         state = stepped.customer;
         let Decision::Taken = answer else {
@@ -78,8 +95,8 @@ fn part(series: &[u32], customer: Customer) -> Customer {
 }
 
 // L: a day's part of the series. The state of the days is handed on.
-fn lent(series: &[u32], customer: Customer) -> Customer {
-    series::write_day(Run::Year(input::two()), series);
+fn lent(editions: Editions, series: &[u32], customer: Customer) -> Customer {
+    series::write_day(editions, Run::Year(input::two()), series);
     customer
 }
 
@@ -89,21 +106,26 @@ fn closing(customer: Customer) -> Customer {
     customer
 }
 
-fn one_call(series: &[u32], customer: Customer) -> Customer {
-    let kind = input::byte();
+fn one_call(editions: Editions, kind: u8, series: &[u32], customer: Customer) -> Customer {
     match kind {
-        b'A' => ask(series),
-        b'D' => days(series, customer),
+        b'A' => ask(editions, series),
+        b'D' => days(editions, series, customer),
         b'P' => part(series, customer),
-        b'L' => lent(series, customer),
+        b'L' => lent(editions, series, customer),
         _ => closing(customer),
     }
 }
 
 // The calls of a record: terms first, so that there is a state.
-pub(crate) fn all_calls(series: &[u32], count: u8) {
-    let mut customer = ask(series);
+pub(crate) fn all_calls(editions: Editions, series: &[u32], count: u8) {
+    let mut customer = ask(editions, series);
+    let mut list = editions;
     for k in 0..count {
-        customer = one_call(series, customer);
+        let kind = input::byte();
+        if kind == b'E' {
+            list = lists::one_step(list);
+        } else {
+            customer = one_call(list, kind, series, customer);
+        }
     }
 }

@@ -8,12 +8,15 @@
 //   P  place (from 0), length: that part of the series as a day.
 //   L  year, day (from 1): the part of the series that is that day: how many readings, and the first and the last.
 //   C  room: a closing, which leaves the state to the calls after it. All 64 bytes stand behind the number.
-// tests/grid_records.py makes them, and what must come of them, for grid_cases.py and sunday_cases.py
-// beside it.
+//   E  an operation on the list of editions (lists.rt): the calls after it go by that list, up to the record's end.
+// tests/grid_records.py makes them, and what must come of them, for grid_cases.py, sunday_cases.py, edition_cases.py
+// and edition_series.py beside it.
 use super::input;
 use super::input::ROOM;
+use super::lists;
 use super::output;
 use super::series;
+use editions::Editions;
 use grid::GridAnswer;
 use grid_days::Grid;
 use readings::Run;
@@ -33,20 +36,20 @@ fn write_sheet(call: u8, answer: GridAnswer, buffer: [u8; ROOM]) {
 }
 
 // W: the whole series. The state of the days is handed on.
-fn whole(series: &[u32], grid: Grid) -> Grid {
+fn whole(editions: Editions, series: &[u32], grid: Grid) -> Grid {
     let year = input::two();
     let level = input::byte();
     let room = input::room();
     let mut buffer = [170u8; ROOM];
-    let answer = grid::windows(year, level, series, &mut buffer[0..room]);
+    let answer = grid::windows(editions, year, level, series, &mut buffer[0..room]);
     write_sheet(b'W', answer, buffer);
     grid
 }
 
 // O: an opening.
-fn opening() -> Grid {
+fn opening(editions: Editions) -> Grid {
     let year = input::two();
-    let opened = Grid::open(year, input::byte());
+    let opened = Grid::open(editions, year, input::byte());
     let answer = opened.answer;
     write_answer(b'O', answer);
     opened.grid
@@ -60,13 +63,13 @@ fn write_days(taken: u16, answer: GridAnswer) {
 }
 
 // D: days of the series one after the other, until one is refused.
-fn days(series: &[u32], grid: Grid) -> Grid {
+fn days(editions: Editions, series: &[u32], grid: Grid) -> Grid {
     let first = input::size();
     let count = input::two();
     let run = Run::Period(grid.year);
     let mut state = grid;
     for k in 0..count {
-        let stepped = state.day(readings::day_part(run, series, first + k as usize));
+        let stepped = state.day(readings::day_part(editions, run, series, first + k as usize));
         let answer = stepped.answer;
         state = stepped.grid;
         let GridAnswer::Done = answer else {
@@ -87,8 +90,8 @@ fn part(series: &[u32], grid: Grid) -> Grid {
 }
 
 // L: a day's part of the series. The state of the days is handed on.
-fn lent(series: &[u32], grid: Grid) -> Grid {
-    series::write_day(Run::Period(input::two()), series);
+fn lent(editions: Editions, series: &[u32], grid: Grid) -> Grid {
+    series::write_day(editions, Run::Period(input::two()), series);
     grid
 }
 
@@ -101,23 +104,28 @@ fn closing(grid: Grid) -> Grid {
     grid
 }
 
-fn one_call(series: &[u32], grid: Grid) -> Grid {
-    let kind = input::byte();
+fn one_call(editions: Editions, kind: u8, series: &[u32], grid: Grid) -> Grid {
     match kind {
-        b'W' => whole(series, grid),
-        b'O' => opening(),
-        b'D' => days(series, grid),
+        b'W' => whole(editions, series, grid),
+        b'O' => opening(editions),
+        b'D' => days(editions, series, grid),
         b'P' => part(series, grid),
-        b'L' => lent(series, grid),
+        b'L' => lent(editions, series, grid),
         _ => closing(grid),
     }
 }
 
 // The calls of a record: the first ones, up to an opening, are made on the state of a refused opening.
-pub(crate) fn all_calls(series: &[u32], count: u8) {
-    let refused = Grid::open(0, 0);
+pub(crate) fn all_calls(editions: Editions, series: &[u32], count: u8) {
+    let refused = Grid::open(editions, 0, 0);
     let mut grid = refused.grid;
+    let mut list = editions;
     for k in 0..count {
-        grid = one_call(series, grid);
+        let kind = input::byte();
+        if kind == b'E' {
+            list = lists::one_step(list);
+        } else {
+            grid = one_call(list, kind, series, grid);
+        }
     }
 }

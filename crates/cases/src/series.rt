@@ -10,6 +10,7 @@ use super::customers;
 use super::grids;
 use super::input;
 use super::output;
+use editions::Editions;
 use readings::Run;
 
 // More than a day beyond the longest year.
@@ -100,8 +101,8 @@ pub(crate) fn part(series: &[u32]) -> &[u32] {
 
 // A day's part of the series, by its number, from 1: how many readings it has, and its first and last where it has
 // some.
-pub(crate) fn write_day(run: Run, series: &[u32]) {
-    let part = readings::day_part(run, series, input::size());
+pub(crate) fn write_day(editions: Editions, run: Run, series: &[u32]) {
+    let part = readings::day_part(editions, run, series, input::size());
     output::letter(b'L');
     output::next(part.len() as u64);
     if part.len() > 0 {
@@ -111,22 +112,22 @@ pub(crate) fn write_day(run: Run, series: &[u32]) {
     output::letter(b'\n');
 }
 
-fn all_calls(kind: u8, series: &[u32], calls: u8) {
+fn all_calls(editions: Editions, kind: u8, series: &[u32], calls: u8) {
     output::letter(b'S');
     output::next(series.len() as u64);
     output::letter(b'\n');
     match kind {
-        b'G' => grids::all_calls(series, calls),
-        _ => customers::all_calls(series, calls),
+        b'G' => grids::all_calls(editions, series, calls),
+        _ => customers::all_calls(editions, series, calls),
     }
 }
 
-pub(crate) fn one_series(kind: u8) {
+pub(crate) fn one_series(editions: Editions, kind: u8) {
     let len = input::smaller(input::size(), MOST);
     let base = input::four();
     let patches = input::byte();
     let calls = input::byte();
     let mut series = [base; MOST];
     all_patches(&mut series, patches);
-    all_calls(kind, &series[0..len], calls);
+    all_calls(editions, kind, &series[0..len], calls);
 }

@@ -9,6 +9,7 @@ ghost use Prim.Native.Nat.{_<_};
 use super::input;
 use super::input::ROOM;
 use super::output;
+use editions::Editions;
 use sheet::Sheet;
 use sheet::SheetAnswer;
 
@@ -41,13 +42,14 @@ fn next_windows(count: u16) -> [bool; sheet::WINDOW_PLACES] {
 }
 
 // W: a meaning is written.
-pub(crate) fn one_writing() {
+pub(crate) fn one_writing(editions: Editions) {
     let year = input::two();
     let level = input::byte();
     let room = input::room();
     let windows = next_windows(input::two());
     let mut buffer = [170u8; ROOM];
     let answer = sheet_write::write(
+        editions,
         Sheet {
             year,
             level,
@@ -76,10 +78,10 @@ fn write_windows(windows: [bool; sheet::WINDOW_PLACES]) {
 }
 
 // R: bytes are read as a sheet.
-pub(crate) fn one_reading() {
+pub(crate) fn one_reading(editions: Editions) {
     let n = input::room();
     let bytes = input::bytes(n);
-    let got = sheet_read::read(&bytes[0..n]);
+    let got = sheet_read::read(editions, &bytes[0..n]);
     let answer = got.answer;
     let meaning = got.sheet;
     let windows = meaning.windows;

@@ -1,15 +1,17 @@
 // The rules over a year's figures (Rules 7.1 to 7.7). A record:
-//   T  M (32 bits), S (64 bits), is there an in-window quarter (a byte), H (32 bits), its day (16 bits, from 1) and
-//      quarter (a byte, from 0), level (a byte), the four prices of 32 bits each, low row before high row and capacity
-//      before energy, option (a byte)
+//   T  charge year (16 bits), M (32 bits), S (64 bits), is there an in-window quarter (a byte), H (32 bits), its day
+//      (16 bits, from 1) and quarter (a byte, from 0), level (a byte), the four prices of 32 bits each, low row before
+//      high row and capacity before energy, option (a byte)
+// They are judged by the edition that the current list has for the year; where it has none, by the edition of no year.
 // It prints a line for each call: the answer's number, and its figures in the order of Rule 8.1.
 //   P  prices_out: 1 for yes, 0 for no
 //   E  eligible
 //   C  charge
 //   J  judge
-// tests/tariff_cases.py makes them, and what must come of them.
+// tests/tariff_cases.py makes them, and what must come of them, and edition_figures.py beside it by other editions.
 use super::input;
 use super::output;
+use editions::Editions;
 use tariff::Decision;
 use tariff::Figures;
 use tariff::Prices;
@@ -45,13 +47,12 @@ pub(crate) fn next_prices() -> Prices {
     Prices { few, many }
 }
 
-// The record has no year: no rule looks at it.
-fn next_rates() -> Rates {
+fn next_rates(year: u16) -> Rates {
     let level = input::byte();
     let prices = next_prices();
     let option = input::byte() != 0;
     Rates {
-        year: 2025,
+        year,
         level,
         option,
         prices,
@@ -66,13 +67,15 @@ pub(crate) fn write_answer(call: u8, answer: Decision) {
 }
 
 // T: one set of figures.
-pub(crate) fn one_set() {
+pub(crate) fn one_set(editions: Editions) {
+    let year = input::two();
+    let edition = editions::pick(editions, year);
     let figures = next_figures();
-    let rates = next_rates();
+    let rates = next_rates(year);
     output::letter(b'P');
     output::next(price_limits::prices_out(rates.prices) as u64);
     output::letter(b'\n');
-    write_answer(b'E', decision::eligible(figures, rates));
-    write_answer(b'C', decision::charge(figures, rates));
-    write_answer(b'J', decision::judge(figures, rates));
+    write_answer(b'E', decision::eligible(edition, figures, rates));
+    write_answer(b'C', decision::charge(edition, figures, rates));
+    write_answer(b'J', decision::judge(edition, figures, rates));
 }

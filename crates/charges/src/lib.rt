@@ -3,7 +3,7 @@
 ghost use mathlib.Core.Path.{_≡_};
 ghost use Prim.Native.Nat.{_≤_, max};
 ghost use Rattle.tariff.specs.Prices.{LegalRow, LegalPrices};
-ghost use Rattle.tariff.specs.Charges.{fewHoursBy, rowOf, chargeFor, chargeMost, generalBy, reducedBy, floorOf};
+ghost use Rattle.tariff.specs.Charges.{fewHours, rowOf, chargeFor, chargeMost, general, reduced, floorOf};
 ghost use Rattle.tariff.specs.Answers.{saidOfGeneral, saidOfCharges};
 ghost use Rattle.tariff.specs.Decision.{generalAnswer, chargesAnswer};
 use answers::Edition;
@@ -39,7 +39,7 @@ fn charge_for(power: u32, row: Row, sum: u64) -> u64
 
 // Are there fewer hours of use than the edition's? There is no division, since M may be 0: then the high row applies.
 fn few_hours(edition: Edition, figures: Figures) -> bool
-    ensures { λ r. ⌜ r ≡ fewHoursBy edition figures ⌝ }
+    ensures { λ r. ⌜ r ≡ fewHours edition figures ⌝ }
 {
     figures.sum < HOUR_QUARTERS * (edition.hours as u64) * (figures.peak as u64)
 }
@@ -60,7 +60,7 @@ fn row_of(prices: Prices, low: bool) -> Row
 // The general charge: for M. It never goes by the option, and the reduction is measured from it.
 fn general_cents(edition: Edition, figures: Figures, rates: Rates) -> u64
     requires { ⌜ LegalPrices (rates .prices) ⌝ }
-    ensures { λ r. ⌜ r ≡ generalBy edition figures rates ⌝ }
+    ensures { λ r. ⌜ r ≡ general edition figures rates ⌝ }
 {
     let prices = rates.prices;
     let row = row_of(prices, few_hours(edition, figures));
@@ -71,7 +71,7 @@ fn general_cents(edition: Edition, figures: Figures, rates: Rates) -> u64
 // row.
 fn reduced_cents(edition: Edition, figures: Figures, rates: Rates) -> u64
     requires { ⌜ LegalPrices (rates .prices) ⌝ }
-    ensures { λ r. ⌜ r ≡ reducedBy edition figures rates ⌝ }
+    ensures { λ r. ⌜ r ≡ reduced edition figures rates ⌝ }
 {
     let prices = rates.prices;
     let row = row_of(prices, few_hours(edition, figures) & !rates.option);
@@ -91,27 +91,26 @@ fn with_floor(edition: Edition, r: u64, g: u64) -> u64
     if r < f { f } else { r }
 }
 
-// The general charge, or 6. Any figures and any rates have an answer.
-pub fn general_charge(figures: Figures, rates: Rates) -> General
-    ensures { λ r. ⌜ saidOfGeneral r ≡ generalAnswer figures rates ⌝ }
+// The general charge by an edition, or 6. Any edition, any figures and any rates have an answer.
+pub fn general_charge(edition: Edition, figures: Figures, rates: Rates) -> General
+    ensures { λ r. ⌜ saidOfGeneral r ≡ generalAnswer edition figures rates ⌝ }
 {
     let prices = rates.prices;
     if price_limits::prices_out(prices) {
         return General::PriceOut;
     }
-    General::Cents(general_cents(answers::today(), figures, rates))
+    General::Cents(general_cents(edition, figures, rates))
 }
 
-// The charge c beside the general charge g, or 6. The decision needs both and asks once. Any figures and any rates have
-// an answer.
-pub fn both_charges(figures: Figures, rates: Rates) -> BothCharges
-    ensures { λ r. ⌜ saidOfCharges r ≡ chargesAnswer figures rates ⌝ }
+// The charge c beside the general charge g by an edition, or 6. The decision needs both and asks once. Any edition, any
+// figures and any rates have an answer.
+pub fn both_charges(edition: Edition, figures: Figures, rates: Rates) -> BothCharges
+    ensures { λ r. ⌜ saidOfCharges r ≡ chargesAnswer edition figures rates ⌝ }
 {
     let prices = rates.prices;
     if price_limits::prices_out(prices) {
         return BothCharges::PriceOut;
     }
-    let edition = answers::today();
     let general = general_cents(edition, figures, rates);
     let charge = with_floor(edition, reduced_cents(edition, figures, rates), general);
     BothCharges::Cents(TwoCharges { charge, general })

@@ -6,14 +6,16 @@ ghost use mathlib.Core.Path.{_≡_};
 ghost use Rattle.tariff.specs.Answers.{saidOf};
 ghost use Rattle.terms.specs.Basis.{basis};
 ghost use Rattle.customer.specs.Answers.{decideAnswer};
+use editions::Editions;
 use readings::Run;
 use tariff::Decision;
 use tariff::Prices;
 use year_figures::YearFigures;
 
-// The decision over a whole series. Refuses 12, 1, 2, 12, 3, 6, 4, 5, 8, 9, 10, 11 in this order; else 0 with the
-// charge.
+// The decision over a whole series by the edition of the sheet's year. Refuses 12, 1, 2, 12, 3, 6, 4, 5, 8, 9, 10, 11
+// in this order; else 0 with the charge.
 pub fn decide(
+    editions: Editions,
     sheet: &[u8],
     holidays: &[u16],
     prices: Prices,
@@ -21,9 +23,9 @@ pub fn decide(
     series: &[u32],
 ) -> Decision
     ensures { λ r. ⌜ saidOf r
-        ≡ decideAnswer (basis (now (sheet .entry)) (now (holidays .entry)) prices option) (now (series .entry)) ⌝ }
+        ≡ decideAnswer (basis editions (now (sheet .entry)) (now (holidays .entry)) prices option) (now (series .entry)) ⌝ }
 {
-    let opening = terms::open(sheet, holidays, prices, option);
+    let opening = terms::open(editions, sheet, holidays, prices, option);
     let answer = opening.answer;
     let Decision::Taken = answer else {
         return answer;
@@ -46,5 +48,6 @@ pub fn decide(
             answers::CUSTOMER_MOST,
         ));
     }
-    decision::judge(figures, rates)
+    let edition = opening.terms.edition;
+    decision::judge(edition, figures, rates)
 }

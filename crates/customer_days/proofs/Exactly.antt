@@ -7,7 +7,6 @@ use Prim.Native.Nat.{ℕ, zero, _≤_, _<_}
 use native.Mathlib.Decide.{decLt, ℕ-discrete}
 use native.Mathlib.Omega.{arith}
 use borrow.Author.Tests.{lt-ltb, le-ltb}
-use Rattle.answers.specs.Edition.{today}
 use Rattle.answers.specs.Ruling.{customerMost}
 use Rattle.answers.specs.Said.{Said, only}
 use Rattle.dates.specs.Dates.{yearDays}
@@ -85,12 +84,12 @@ module _ (c : Customer) where
     where
       go : Dec (c .seen ≡ yearDays (c .terms .rates .year)) → CustomerCloseRow c (customerCloseAnswer c .number)
       go (no n) = rw (← close-early c n) (early n)
-      go (yes n) = rw (number (close-judged c n refl)) (judged n (judge-exactly today (c .figures) (c .terms .rates) _ .0 refl))
+      go (yes n) = rw (number (close-judged c n refl)) (judged n (judge-exactly (c .terms .edition) (c .figures) (c .terms .rates) _ .0 refl))
 
   close-given : {n : ℕ} → CustomerCloseRow c n → customerCloseAnswer c .number ≡ n
   close-given (early n) = number (close-early c n)
   close-given (judged n r) =
-      number (close-judged c n refl) ∙ judge-exactly today (c .figures) (c .terms .rates) _ .1 r
+      number (close-judged c n refl) ∙ judge-exactly (c .terms .edition) (c .figures) (c .terms .rates) _ .1 r
 
   pub customer-close-exactly : (n : ℕ) → (customerCloseAnswer c .number ≡ n) ↔ CustomerCloseRow c n
   customer-close-exactly n = (λ e. rw e at close-holds, close-given)

@@ -36,7 +36,6 @@ use Rattle.customer.specs.Answers.{figuresUnder, wholeAnswer, decideAnswer}
 use Rattle.customer_days.specs.Days.{freshCustomer, openCustomer, sumMost, customerDayAnswer, dayCustomer, customerCloseAnswer}
 use Rattle.customer.specs.Rows.{SeriesRow}
 use Rattle.customer.specs.Rows.SeriesRow.{four, five, judged}
-use Rattle.terms.proofs.Exactly.{open-allowed}
 use Rattle.customer.proofs.Exactly.{series-exactly}
 use Rattle.figures.proofs.Taken.{figures-none, taken-more}
 use Rattle.figures.proofs.Agree.{figures-cong}
@@ -124,7 +123,7 @@ module _ (k : Basis) (o : customerOpenAnswer k ≡ only 0) where
   pub days-whole : AsWhole (Year (basisYear k)) customerMost customerDayAnswer dayCustomer (openCustomer k) customerCloseAnswer (decideAnswer k)
   days-whole =
       as-whole (machine (termsOf k)) customerCloseAnswer (decideAnswer k)
-      (λ xs legal. closes-holding (termsOf k) xs legal ∙ decide-whole k xs (sym o)) (open-allowed k o) (openCustomer k) opens
+      (λ xs legal. closes-holding (termsOf k) xs legal ∙ decide-whole k xs (sym o)) (openCustomer k) opens
 
   -- where the whole call answers 5 at a day and a position, the days before are taken, and that day answers the same
   pub same-place :
@@ -133,4 +132,4 @@ module _ (k : Basis) (o : customerOpenAnswer k ≡ only 0) where
       → BadThere (Year (basisYear k)) customerDayAnswer dayCustomer (openCustomer k) xs d q
   same-place xs d q e =
       let w : wholeAnswer (termsOf k) xs ≡ badPlace (record { day = d + 1; position = q }) = decide-whole k xs (sym o) ∙ e in
-      rw opens (same-bad (machine (termsOf k)) (open-allowed k o) xs d q (series-five (termsOf k) xs (ap (λ (s : Said). s .number) w) ∙ w))
+      rw opens (same-bad (machine (termsOf k)) xs d q (series-five (termsOf k) xs (ap (λ (s : Said). s .number) w) ∙ w))

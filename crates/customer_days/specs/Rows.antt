@@ -4,7 +4,6 @@
 use mathlib.Core.Path.{_≡_}
 use mathlib.Core.List.{List}
 use Prim.Native.Nat.{ℕ, _≤_, _<_}
-use Rattle.answers.specs.Edition.{today}
 use Rattle.answers.specs.Ruling.{customerMost}
 use Rattle.dates.specs.Dates.{yearDays}
 use Rattle.readings.specs.declared.Run.the-variants.{Year}
@@ -32,5 +31,5 @@ pub data CustomerCloseRow (c : Customer) : ℕ → Type 0 where
   judged :
       {n : ℕ}
       → c .seen ≡ yearDays (c .terms .rates .year)
-      → JudgeRow today (c .figures) (c .terms .rates) n
+      → JudgeRow (c .terms .edition) (c .figures) (c .terms .rates) n
       → CustomerCloseRow c n

@@ -10,6 +10,7 @@ ghost use Rattle.customer_days.specs.Days.{openCustomer, dayUnder, custo
 ghost use Rattle.customer_days.specs.Rows.{DayFits};
 use answers::Place;
 use day_figures::Taking;
+use editions::Editions;
 use readings::Run;
 use tariff::Decision;
 use tariff::Figures;
@@ -71,11 +72,17 @@ fn figures_of(taking: Taking) -> Figures
 impl Customer {
     // Opens a year that comes day by day. Refuses 12, 1, 2, 12, 3, 6 in this order; beside a refusal stands one fixed
     // state, which takes no day and never closes (Rule 9.5).
-    pub fn open(sheet: &[u8], holidays: &[u16], prices: Prices, option: bool) -> Stepped
-        ensures { λ r. ⌜ (let k = basis (now (sheet .entry)) (now (holidays .entry)) prices option in
+    pub fn open(
+        editions: Editions,
+        sheet: &[u8],
+        holidays: &[u16],
+        prices: Prices,
+        option: bool,
+    ) -> Stepped
+        ensures { λ r. ⌜ (let k = basis editions (now (sheet .entry)) (now (holidays .entry)) prices option in
             Steps (customerOpenAnswer k) (openCustomer k) r) ⌝ }
     {
-        let opened = terms::open(sheet, holidays, prices, option);
+        let opened = terms::open(editions, sheet, holidays, prices, option);
         let answer = opened.answer;
         let terms = opened.terms;
         let Decision::Taken = answer else {
@@ -137,7 +144,8 @@ impl Customer {
         if self.seen != dates::year_days(rates.year) {
             return Decision::DayOut;
         }
+        let edition = self.terms.edition;
         let figures = self.figures;
-        decision::judge(figures, rates)
+        decision::judge(edition, figures, rates)
     }
 }

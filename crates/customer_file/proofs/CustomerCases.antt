@@ -74,7 +74,7 @@ module _ (s : CustomerFile) (day : List ℕ) where
   said = customerDayAnswer (s .customer) day
 
   abbrev with : Customer → Stage → CustomerFile
-  with c stage = record { field = s .field; head = s .head; customer = c; stage = stage }
+  with c stage = record { editions = s .editions; field = s .field; head = s .head; customer = c; stage = stage }
 
   kept : eqb (said .number) 0 ≡ false → dayCustomer (s .customer) day ≡ s .customer
   unfolding dayCustomer

@@ -13,14 +13,16 @@ ghost use Rattle.fields.specs.Stages.{dayStage};
 ghost use Rattle.fields.specs.Machine.{fieldFed, dayFed, endFed};
 ghost use Rattle.customer_file.specs.CustomerMachine.{openedWith, customerStart, customerEnded, customerReader, customerWants, customerFed};
 use customer_days::Customer;
+use editions::Editions;
 use fields::Span;
 use fields::Stage;
 use readings::Run;
 use tariff::Decision;
 
-// A customer file that is being read: how many fields are taken, the header's bytes, the customer's year with the days
-// taken, and where the machine stands.
+// A customer file that is being read: the list of editions that it is read by, how many fields are taken, the header's
+// bytes, the customer's year with the days taken, and where the machine stands.
 pub struct CustomerFile {
+    pub editions: Editions,
     pub field: usize,
     pub head: [u8; customer_head::CUSTOMER_HEAD_MOST],
     pub customer: Customer,
@@ -42,25 +44,26 @@ fn stage_of(decision: Decision) -> Stage
 }
 
 // After k fields: the customer's year is opened once the header's last field is taken.
-fn opened_after(customer: Customer, head: &[u8], k: usize) -> Customer
-    ensures { λ r. ⌜ r ≡ openedWith customer (now (head .entry)) k ⌝ }
+fn opened_after(editions: Editions, customer: Customer, head: &[u8], k: usize) -> Customer
+    ensures { λ r. ⌜ r ≡ openedWith editions customer (now (head .entry)) k ⌝ }
 {
     if 0 < customer_head::span_of(head, k).width {
         return customer;
     }
-    customer_opening::opened(head)
+    customer_opening::opened(editions, head)
 }
 
 impl CustomerFile {
     // The state before the first byte: a header of zeros opens no year.
-    pub fn start() -> CustomerFile
-        ensures { λ r. ⌜ r ≡ customerStart ⌝ }
+    pub fn start(editions: Editions) -> CustomerFile
+        ensures { λ r. ⌜ r ≡ customerStart editions ⌝ }
     {
         let head = [0; customer_head::CUSTOMER_HEAD_MOST];
         CustomerFile {
+            editions,
             field: 0,
             head,
-            customer: customer_opening::opened(&head),
+            customer: customer_opening::opened(editions, &head),
             stage: Stage::Going,
         }
     }
@@ -69,9 +72,11 @@ impl CustomerFile {
     fn ended(self, stage: Stage) -> CustomerFile
         ensures { λ r. ⌜ r ≡ customerEnded self stage ⌝ }
     {
+        let editions = self.editions;
         let head = self.head;
         let customer = self.customer;
         CustomerFile {
+            editions,
             field: self.field,
             head,
             customer,
@@ -103,23 +108,25 @@ impl CustomerFile {
 
     // Takes the next field, which stands at this span of the header: 12 where the file ends before it is complete.
     fn take_field(self, span: Span, b: &[u8]) -> CustomerFile
-        requires { ⌜ (span ≡ fieldSpan (customerLayout (self .head)) (self .field)) × (0 < span .width) ⌝ }
+        requires { ⌜ (span ≡ fieldSpan (customerLayout (self .editions) (self .head)) (self .field)) × (0 < span .width) ⌝ }
         ensures { λ r. ⌜ r ≡ fieldFed customerReader self (now (b .entry)) ⌝ }
     {
         if b.len() < span.width {
             return self.ended(Stage::Refused(12));
         }
+        let editions = self.editions;
         let k = self.field;
         let mut head = self.head;
         buffers::lay(&mut head, span.start, &b[..span.width]);
-        let number = customer_head::refusal(&head, k);
+        let number = customer_head::refusal(editions, &head, k);
         if number != 0 {
             return self.ended(Stage::Refused(number));
         }
         CustomerFile {
+            editions,
             field: k + 1,
             head,
-            customer: opened_after(self.customer, &head, k + 1),
+            customer: opened_after(editions, self.customer, &head, k + 1),
             stage: Stage::Going,
         }
     }
@@ -139,9 +146,11 @@ impl CustomerFile {
         let readings = field_steps::readings_in(b);
         let step = self.customer.day(&readings[..n]);
         let answer = step.answer;
+        let editions = self.editions;
         let head = self.head;
         let customer = step.customer;
         CustomerFile {
+            editions,
             field: self.field,
             head,
             customer,

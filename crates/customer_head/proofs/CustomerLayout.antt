@@ -14,9 +14,10 @@ use Rattle.ranges.specs.Ranges.{joined, sumOver, allOver, numberIf, table}
 use Rattle.holidays.specs.Holidays.{before}
 use Rattle.encoding.specs.Bytes.{twoAt}
 use Rattle.sheet.specs.Bytes.{sheetSize}
+use Rattle.editions.specs.declared.Editions.{Editions}
 use Rattle.fields.specs.Layout.{Field, noField, fieldAt, widthAt, layoutOf, startOf, headSize}
 use Rattle.fields.specs.Common.{markField, versionField, yearField, levelField}
-use Rattle.customer_head.specs.Header.{customerHeadMost, sheetAt, optionAt, sheetPart, holidaysAt, holidayCount, holidaysOf, pricesAt, seasonField, optionField, countField, holidayOut, holidayField, capacityField, energyField, firstFields, priceFields, customerFields, customerLayout}
+use Rattle.customer_head.specs.Header.{customerEdition, customerHeadMost, sheetAt, optionAt, sheetPart, holidaysAt, holidayCount, holidaysOf, pricesAt, seasonField, optionField, countField, holidayOut, holidayField, capacityField, energyField, firstFields, priceFields, customerFields, customerLayout}
 use Rattle.ranges.proofs.Sums.{sum-none, sum-suc, sum-add, sum-cong}
 use Rattle.ranges.proofs.Tests.{all-at}
 use Rattle.ranges.proofs.Tables.{length-table, getD-table}
@@ -47,12 +48,12 @@ in-table : (k : ℕ) → k < 12 → Tabled firstWidths firstStarts 12 63 k
 unfolding allOver joined
 in-table k l = tabled firstWidths firstStarts 12 63 12 refl k l
 
-module _ (b : List ℕ) where
+module _ (es : Editions) (b : List ℕ) where
   abbrev n : ℕ
   n = holidayCount b
 
   abbrev fields : List Field
-  fields = customerFields b
+  fields = customerFields es b
 
   abbrev rest : List Field
   rest = table (holidayField b) n ++ priceFields b
@@ -61,36 +62,36 @@ module _ (b : List ℕ) where
   count-few = omega arith
 
   -- how many fields
-  pub count-is : customerLayout b .count ≡ 16 + n
+  pub count-is : customerLayout es b .count ≡ 16 + n
   unfolding customerLayout layoutOf
   count-is =
       omega (
         arith,
-        length-append (firstFields b) rest,
+        length-append (firstFields es b) rest,
         length-append (table (holidayField b) n) (priceFields b),
         length-table (holidayField b) n,
       )
 
   -- what each is
-  first-at : (k : ℕ) → k < 12 → fieldAt fields k ≡ fieldAt (firstFields b) k
-  first-at k l = List·getD-append (firstFields b) rest noField k l
+  first-at : (k : ℕ) → k < 12 → fieldAt fields k ≡ fieldAt (firstFields es b) k
+  first-at k l = List·getD-append (firstFields es b) rest noField k l
 
   holiday-at : (j : ℕ) → j < n → fieldAt fields (12 + j) ≡ holidayField b j
   holiday-at j l =
-      getD-append-add (firstFields b) rest j noField
+      getD-append-add (firstFields es b) rest j noField
       ∙ List·getD-append (table (holidayField b) n) (priceFields b) noField j (omega (arith, length-table (holidayField b) n))
       ∙ getD-table (holidayField b) n j noField l
 
   price-at : (j : ℕ) → fieldAt fields (12 + (n + j)) ≡ fieldAt (priceFields b) j
   price-at j =
-      getD-append-add (firstFields b) rest (n + j) noField
+      getD-append-add (firstFields es b) rest (n + j) noField
       ∙ ap (λ (m : ℕ). fieldAt rest (m + j)) (sym (length-table (holidayField b) n))
       ∙ getD-append-add (table (holidayField b) n) (priceFields b) j noField
 
   -- how wide
   first-widths : (k : ℕ) → k < 12 → widthAt fields k ≡ getD firstWidths k 0
   unfolding markField versionField yearField levelField seasonField optionField countField
-  first-widths k l = ap (λ (f : Field). f .width) (first-at k l) ∙ sym (List·getD-map (λ (f : Field). f .width) (firstFields b) k noField)
+  first-widths k l = ap (λ (f : Field). f .width) (first-at k l) ∙ sym (List·getD-map (λ (f : Field). f .width) (firstFields es b) k noField)
 
   holiday-widths : (j : ℕ) → j < n → widthAt fields (12 + j) ≡ 2
   unfolding holidayField
@@ -138,22 +139,22 @@ module _ (b : List ℕ) where
       regroup i = omega arith
 
   -- the number that refuses it
-  pub refusal-first : (k : ℕ) → k < 12 → fieldAt (firstFields b) k .refusedAt (getD firstStarts k 0) ≡ customerLayout b .refusal k
+  pub refusal-first : (k : ℕ) → k < 12 → fieldAt (firstFields es b) k .refusedAt (getD firstStarts k 0) ≡ customerLayout es b .refusal k
   unfolding customerLayout layoutOf
   refusal-first k l = rw (first-at k l, first-starts k l)
 
-  pub season-refused : (j : ℕ) → j < 4 → seasonField b .refusedAt (13 + 12 * j) ≡ customerLayout b .refusal (6 + j)
+  pub season-refused : (j : ℕ) → j < 4 → seasonField (customerEdition es b) b .refusedAt (13 + 12 * j) ≡ customerLayout es b .refusal (6 + j)
   season-refused zero l = refusal-first 6 (omega arith)
   season-refused (suc zero) l = refusal-first 7 (omega arith)
   season-refused (suc (suc zero)) l = refusal-first 8 (omega arith)
   season-refused (suc (suc (suc zero))) l = refusal-first 9 (omega arith)
   season-refused (suc (suc (suc (suc j)))) l = absurd (omega arith)
 
-  pub holiday-refused : (j : ℕ) → j < n → numberIf (holidayOut b j) 3 ≡ customerLayout b .refusal (12 + j)
+  pub holiday-refused : (j : ℕ) → j < n → numberIf (holidayOut b j) 3 ≡ customerLayout es b .refusal (12 + j)
   unfolding customerLayout layoutOf holidayField
   holiday-refused j l = sym (ap (λ (f : Field). f .refusedAt (sumOver (widthAt fields) (12 + j))) (holiday-at j l))
 
-  pub price-refused : (j : ℕ) → j < 4 → fieldAt (priceFields b) j .refusedAt (pricesAt b + 4 * j) ≡ customerLayout b .refusal (12 + (n + j))
+  pub price-refused : (j : ℕ) → j < 4 → fieldAt (priceFields b) j .refusedAt (pricesAt b + 4 * j) ≡ customerLayout es b .refusal (12 + (n + j))
   unfolding customerLayout layoutOf
   price-refused j l = rw (price-at j, price-starts j (omega arith))
 
@@ -182,56 +183,56 @@ module _ (b : List ℕ) where
   price k = k - 12 - n
 
   module _ (k : ℕ) (l : k < 12) where
-    pub width-first : getD firstWidths k 0 ≡ customerLayout b .width k
+    pub width-first : getD firstWidths k 0 ≡ customerLayout es b .width k
     unfolding customerLayout layoutOf
     width-first = sym (first-widths k l)
 
-    pub start-first : getD firstStarts k 0 ≡ startOf (customerLayout b) k
+    pub start-first : getD firstStarts k 0 ≡ startOf (customerLayout es b) k
     unfolding customerLayout layoutOf startOf
     start-first = sym (first-starts k l)
 
-  pub refusal-at : (i : ℕ) {k : ℕ} → k ≡ i → i < 12 → fieldAt (firstFields b) i .refusedAt (getD firstStarts i 0) ≡ customerLayout b .refusal k
-  refusal-at i e l = refusal-first i l ∙ ap (customerLayout b .refusal) (sym e)
+  pub refusal-at : (i : ℕ) {k : ℕ} → k ≡ i → i < 12 → fieldAt (firstFields es b) i .refusedAt (getD firstStarts i 0) ≡ customerLayout es b .refusal k
+  refusal-at i e l = refusal-first i l ∙ ap (customerLayout es b .refusal) (sym e)
 
-  pub refusal-season : (k : ℕ) → 6 ≤ k → k < 10 → seasonField b .refusedAt (13 + 12 * (k - 6)) ≡ customerLayout b .refusal k
+  pub refusal-season : (k : ℕ) → 6 ≤ k → k < 10 → seasonField (customerEdition es b) b .refusedAt (13 + 12 * (k - 6)) ≡ customerLayout es b .refusal k
   refusal-season k l m =
       let e : 6 + (k - 6) ≡ k = omega arith in
-      season-refused (k - 6) (omega arith) ∙ ap (customerLayout b .refusal) e
+      season-refused (k - 6) (omega arith) ∙ ap (customerLayout es b .refusal) e
 
   module _ (k : ℕ) (m : 12 ≤ k) where
     here : 12 + holiday k ≡ k
     here = omega arith
 
-    pub start-holiday : k ≤ 12 + n → holidaysAt + 2 * holiday k ≡ startOf (customerLayout b) k
+    pub start-holiday : k ≤ 12 + n → holidaysAt + 2 * holiday k ≡ startOf (customerLayout es b) k
     unfolding customerLayout layoutOf startOf
     start-holiday l = sym (holiday-starts (holiday k) (omega arith)) ∙ ap (sumOver (widthAt fields)) here
 
     module _ (l : k < 12 + n) where
-      pub width-holiday : 2 ≡ customerLayout b .width k
+      pub width-holiday : 2 ≡ customerLayout es b .width k
       unfolding customerLayout layoutOf
       width-holiday = sym (holiday-widths (holiday k) (omega arith)) ∙ ap (widthAt fields) here
 
-      pub refusal-holiday : numberIf (holidayOut b (holiday k)) 3 ≡ customerLayout b .refusal k
-      refusal-holiday = holiday-refused (holiday k) (omega arith) ∙ ap (customerLayout b .refusal) here
+      pub refusal-holiday : numberIf (holidayOut b (holiday k)) 3 ≡ customerLayout es b .refusal k
+      refusal-holiday = holiday-refused (holiday k) (omega arith) ∙ ap (customerLayout es b .refusal) here
 
   module _ (k : ℕ) (m : 12 + n ≤ k) where
     there : 12 + (n + price k) ≡ k
     there = omega arith
 
-    pub start-price : k ≤ 16 + n → pricesAt b + 4 * price k ≡ startOf (customerLayout b) k
+    pub start-price : k ≤ 16 + n → pricesAt b + 4 * price k ≡ startOf (customerLayout es b) k
     unfolding customerLayout layoutOf startOf
     start-price l = sym (price-starts (price k) (omega arith)) ∙ ap (sumOver (widthAt fields)) there
 
     module _ (l : k < 16 + n) where
-      pub width-price : 4 ≡ customerLayout b .width k
+      pub width-price : 4 ≡ customerLayout es b .width k
       unfolding customerLayout layoutOf
       width-price = sym (price-widths (price k) (omega arith)) ∙ ap (widthAt fields) there
 
-      pub refusal-price : fieldAt (priceFields b) (price k) .refusedAt (pricesAt b + 4 * price k) ≡ customerLayout b .refusal k
-      refusal-price = price-refused (price k) (omega arith) ∙ ap (customerLayout b .refusal) there
+      pub refusal-price : fieldAt (priceFields b) (price k) .refusedAt (pricesAt b + 4 * price k) ≡ customerLayout es b .refusal k
+      refusal-price = price-refused (price k) (omega arith) ∙ ap (customerLayout es b .refusal) there
 
     -- a price, or no field
-    pub refusal-rest : fieldAt (priceFields b) (price k) .refusedAt (startOf (customerLayout b) k) ≡ customerLayout b .refusal k
+    pub refusal-rest : fieldAt (priceFields b) (price k) .refusedAt (startOf (customerLayout es b) k) ≡ customerLayout es b .refusal k
     unfolding customerLayout layoutOf startOf
     refusal-rest = sym (ap (λ (f : Field). f .refusedAt (sumOver (widthAt fields) k)) (ap (fieldAt fields) (sym there) ∙ price-at (price k)))
 
@@ -239,19 +240,19 @@ module _ (b : List ℕ) where
     behind : 12 + (n + (4 + (k - 16 - n))) ≡ k
     behind = omega arith
 
-    pub start-none : 79 + 2 * n ≡ startOf (customerLayout b) k
+    pub start-none : 79 + 2 * n ≡ startOf (customerLayout es b) k
     unfolding customerLayout layoutOf startOf
     start-none = sym (no-starts (k - 16 - n)) ∙ ap (sumOver (widthAt fields)) behind
 
-    pub width-none : 0 ≡ customerLayout b .width k
+    pub width-none : 0 ≡ customerLayout es b .width k
     unfolding customerLayout layoutOf
     width-none = sym (no-widths (k - 16 - n)) ∙ ap (widthAt fields) behind
 
   -- every field has a byte, at most twelve, and a header of 159 bytes has room for it
-  pub fits : (k : ℕ) → Fits (customerLayout b) 12 customerHeadMost k
+  pub fits : (k : ℕ) → Fits (customerLayout es b) 12 customerHeadMost k
   fits k = go (decLt k 12) (decLt k (12 + n)) (decLt k (16 + n))
     where
-      go : Dec (k < 12) → Dec (k < 12 + n) → Dec (k < 16 + n) → Fits (customerLayout b) 12 customerHeadMost k
+      go : Dec (k < 12) → Dec (k < 12 + n) → Dec (k < 16 + n) → Fits (customerLayout es b) 12 customerHeadMost k
       go (yes l) h p =
           fits-by count-is (start-first k l) (width-first k l)
           (in-table k l .few) (omega (arith, in-table k l .room)) (λ z. omega arith) (λ z. omega (arith, in-table k l .some))
@@ -265,21 +266,22 @@ module _ (b : List ℕ) where
           fits-by count-is (start-none k (omega arith)) (width-none k (omega arith))
           (omega arith) (omega arith) (λ z. omega arith) (λ z. omega arith)
 
-  -- the holidays by their bytes; holiday j counts from 0
-  pub holiday-is : (j : ℕ) → j < n → twoAt b (holidaysAt + 2 * j) ≡ getD (holidaysOf b) j 0
-  holiday-is j l = sym (getD-table (λ i. twoAt b (holidaysAt + 2 * i)) n j 0 l)
+  -- the header's size
+  pub size-is : headSize (customerLayout es b) ≡ 79 + 2 * n
+  size-is =
+      let last = start-price (16 + n) (omega arith) (omega arith) in
+      ap (startOf (customerLayout es b)) count-is ∙ omega arith
 
-  pub before-is : (j : ℕ) → (j ≡ 0 → ⊥) → j < n → twoAt b (holidaysAt + 2 * (j - 1)) ≡ before (holidaysOf b) j
+-- the holidays by their bytes; holiday j counts from 0
+module _ (b : List ℕ) where
+  pub holiday-is : (j : ℕ) → j < holidayCount b → twoAt b (holidaysAt + 2 * j) ≡ getD (holidaysOf b) j 0
+  holiday-is j l = sym (getD-table (λ i. twoAt b (holidaysAt + 2 * i)) (holidayCount b) j 0 l)
+
+  pub before-is : (j : ℕ) → (j ≡ 0 → ⊥) → j < holidayCount b → twoAt b (holidaysAt + 2 * (j - 1)) ≡ before (holidaysOf b) j
   before-is zero z l = absurd (z refl)
   before-is (suc j) z l =
       let e : suc j - 1 ≡ j = omega arith in
       ap (λ (i : ℕ). twoAt b (holidaysAt + 2 * i)) e ∙ holiday-is j (omega arith)
-
-  -- the header's size
-  pub size-is : headSize (customerLayout b) ≡ 79 + 2 * n
-  size-is =
-      let last = start-price (16 + n) (omega arith) (omega arith) in
-      ap (startOf (customerLayout b)) count-is ∙ omega arith
 
 -- the sheet, in a header that may end before it does
 held-size : (n : ℕ) → min optionAt n - min sheetAt n ≡ min sheetSize (n - sheetAt)

@@ -1,12 +1,16 @@
 -- The header of a customer file, by the file's bytes b: mark, version, a window sheet, the option, the number of
--- holidays, the holidays, four prices. Fields, places, holidays j and prices j count from 0. Rules 10.3 and 10.4.
+-- holidays, the holidays, four prices; es is the list of editions. Fields, places, holidays j and prices j count from
+-- 0. Rules 10.3 and 10.4.
 use mathlib.Core.Bool.{Bool}
 use mathlib.Core.List.{List, [], _∷_, _++_}
 use Prim.Native.Nat.{ℕ, _+_, _*_, min}
 use lib.Dec.{ltb, eqb}
 use lib.ListN.{getD}
 use Rattle.ranges.specs.Ranges.{numberIf, table}
+use Rattle.answers.specs.declared.Edition.{Edition}
 use Rattle.answers.specs.Ruling.{holidaysMost, capacityOut, energyOut}
+use Rattle.editions.specs.declared.Editions.{Editions}
+use Rattle.editions.specs.Editions.{editionOf}
 use Rattle.holidays.specs.Holidays.{badEntry}
 use Rattle.encoding.specs.Bytes.{ascii, twoAt, fourAt, markSize, versionSize}
 use Rattle.sheet.specs.Bytes.{mark, yearAt, sheetSize, seasonBytes, seasonFull}
@@ -69,9 +73,13 @@ pricesIn b =
       many = record { capacity = priceOf b 2; energy = priceOf b 3 };
     }
 
--- a season of the sheet, 12 bytes: more than 40 set bits are 12
-unfoldable pub seasonField : List ℕ → Field
-seasonField b = record { width = seasonBytes; refusedAt = λ i. numberIf (seasonFull b i) 12 }
+-- the edition of the year, in the list es
+abbrev pub customerEdition : Editions → List ℕ → Edition
+customerEdition es b = editionOf es (customerYear b)
+
+-- a season of the sheet, 12 bytes: more set bits than the limit of the year's edition are 12
+unfoldable pub seasonField : Edition → List ℕ → Field
+seasonField ed b = record { width = seasonBytes; refusedAt = λ i. numberIf (seasonFull ed b i) 12 }
 
 -- the option, one byte: above 1 it is 12. The number of holidays, one byte: above 40 it is 3. Holiday j, two bytes: 3
 -- where it breaks Rule 2.6.
@@ -96,18 +104,18 @@ energyField b = record { width = 4; refusedAt = λ i. numberIf (energyOut (fourA
 
 -- the fields of the header, in order: twelve first ones (mark and version, the sheet's eight, option, number of
 -- holidays), then the holidays, then the four prices
-abbrev pub firstFields : List ℕ → List Field
-firstFields b =
+abbrev pub firstFields : Editions → List ℕ → List Field
+firstFields es b =
     markField customerMark b
     ∷ versionField b
     ∷ markField mark b
     ∷ versionField b
-    ∷ yearField b
+    ∷ yearField es b
     ∷ levelField b
-    ∷ seasonField b
-    ∷ seasonField b
-    ∷ seasonField b
-    ∷ seasonField b
+    ∷ seasonField (customerEdition es b) b
+    ∷ seasonField (customerEdition es b) b
+    ∷ seasonField (customerEdition es b) b
+    ∷ seasonField (customerEdition es b) b
     ∷ optionField b
     ∷ countField b
     ∷ []
@@ -115,8 +123,8 @@ firstFields b =
 abbrev pub priceFields : List ℕ → List Field
 priceFields b = capacityField b ∷ energyField b ∷ capacityField b ∷ energyField b ∷ []
 
-abbrev pub customerFields : List ℕ → List Field
-customerFields b = firstFields b ++ (table (holidayField b) (holidayCount b) ++ priceFields b)
+abbrev pub customerFields : Editions → List ℕ → List Field
+customerFields es b = firstFields es b ++ (table (holidayField b) (holidayCount b) ++ priceFields b)
 
-unfoldable pub customerLayout : List ℕ → Layout
-customerLayout b = layoutOf (customerFields b)
+unfoldable pub customerLayout : Editions → List ℕ → Layout
+customerLayout es b = layoutOf (customerFields es b)

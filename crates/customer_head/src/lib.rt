@@ -6,9 +6,11 @@ ghost use mathlib.Core.Bool.{not};
 ghost use Prim.Native.Nat.{_≤_, _<_};
 ghost use lib.Dec.{eqb};
 ghost use Rattle.ranges.specs.Ranges.{numberIf};
+ghost use Rattle.editions.specs.declared.Editions.{Editions};
 ghost use Rattle.holidays.specs.Holidays.{before};
 ghost use Rattle.fields.specs.Layout.{fieldAt, fieldSpan};
 ghost use Rattle.customer_head.specs.Header.{holidayCount, holidaysOf, holidayOut, priceFields, customerLayout};
+use editions::Editions;
 use fields::Span;
 
 // How many fields stand before the holidays, and how many prices behind them. Of the former, field 0 (the mark) first:
@@ -63,9 +65,10 @@ pub fn holiday_count(head: &[u8]) -> usize
     }
 }
 
-// Where field k, from 0, stands; behind the last field this is no byte, at the header's end.
+// Where field k, from 0, stands, whatever the list of editions; behind the last field this is no byte, at the header's
+// end.
 pub fn span_of(head: &[u8], k: usize) -> Span
-    ensures { λ r. ⌜ r ≡ fieldSpan (customerLayout (now (head .entry))) k ⌝ }
+    ensures { λ r. ⌜ ((es : Editions) → r ≡ fieldSpan (customerLayout es (now (head .entry))) k) ⌝ }
 {
     if k < FIRST_FIELDS {
         return Span {
@@ -95,9 +98,9 @@ pub fn span_of(head: &[u8], k: usize) -> Span
 }
 
 // Is field k, from 0, one of the twelve before the holidays, refused?
-fn first_fails(head: &[u8], k: usize) -> bool
+fn first_fails(editions: Editions, head: &[u8], k: usize) -> bool
     requires { ⌜ k < 12 ⌝ }
-    ensures { λ r. ⌜ r ≡ not (eqb (customerLayout (now (head .entry)) .refusal k) 0) ⌝ }
+    ensures { λ r. ⌜ r ≡ not (eqb (customerLayout editions (now (head .entry)) .refusal k) 0) ⌝ }
 {
     if k < 1 {
         return encoding::other_mark(head, 0, b"CUS");
@@ -112,13 +115,14 @@ fn first_fails(head: &[u8], k: usize) -> bool
         return encoding::two_at(head, SHEET_VERSION_AT) != encoding::FORMAT_VERSION;
     }
     if k < 5 {
-        return answers::year_out(encoding::two_at(head, YEAR_AT));
+        return editions::year_out(editions, encoding::two_at(head, YEAR_AT));
     }
     if k < 6 {
         return answers::level_out(encoding::byte_at(head, LEVEL_AT, 0));
     }
     if k < 10 {
-        return sheet_read::season_full(head, SEASONS_AT + 12 * (k - 6));
+        let edition = editions::pick(editions, encoding::two_at(head, YEAR_AT));
+        return sheet_read::season_full(edition, head, SEASONS_AT + 12 * (k - 6));
     }
     if k < 11 {
         return 1 < encoding::byte_at(head, OPTION_AT, 0);
@@ -167,11 +171,11 @@ fn price_no(head: &[u8], i: usize, j: usize) -> u8
 }
 
 // The number that refuses field k, from 0; 0 where it passes, and where there is no such field.
-pub fn refusal(head: &[u8], k: usize) -> u8
-    ensures { λ r. ⌜ r ≡ customerLayout (now (head .entry)) .refusal k ⌝ }
+pub fn refusal(editions: Editions, head: &[u8], k: usize) -> u8
+    ensures { λ r. ⌜ r ≡ customerLayout editions (now (head .entry)) .refusal k ⌝ }
 {
     if k < FIRST_FIELDS {
-        return field_steps::number_if(first_fails(head, k), NUMBERS[k]);
+        return field_steps::number_if(first_fails(editions, head, k), NUMBERS[k]);
     }
     let n = holiday_count(head);
     if k < FIRST_FIELDS + n {

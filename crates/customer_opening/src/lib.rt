@@ -6,6 +6,7 @@ ghost use lib.ListN.{take};
 ghost use Rattle.customer_head.specs.Header.{holidayCount, holidaysOf, pricesIn};
 ghost use Rattle.customer_opening.specs.Opening.{openedIn};
 use customer_days::Customer;
+use editions::Editions;
 use tariff::Prices;
 use tariff::Row;
 
@@ -49,8 +50,8 @@ fn prices_of(head: &[u8]) -> Prices
 
 // The customer's year that the header opens. Where its sheet (one that is cut off, too), its holidays or its prices are
 // refused, this is the fixed state of a refused opening (Rule 9.5).
-pub fn opened(head: &[u8]) -> Customer
-    ensures { λ r. ⌜ r ≡ openedIn (now (head .entry)) ⌝ }
+pub fn opened(editions: Editions, head: &[u8]) -> Customer
+    ensures { λ r. ⌜ r ≡ openedIn editions (now (head .entry)) ⌝ }
 {
     let n = customer_head::holiday_count(head);
     let list = holidays_of(head);
@@ -58,6 +59,6 @@ pub fn opened(head: &[u8]) -> Customer
     let option = encoding::byte_at(head, customer_head::OPTION_AT, 0) == 1;
     let from = earlier(customer_head::SHEET_AT, head.len());
     let to = earlier(customer_head::OPTION_AT, head.len());
-    let step = Customer::open(&head[from..to], &list[..n], prices, option);
+    let step = Customer::open(editions, &head[from..to], &list[..n], prices, option);
     step.customer
 }

@@ -3,11 +3,12 @@
 -- Assumes nothing.
 use mathlib.Core.Path.{refl}
 use mathlib.Core.List.{List, [], _∷_}
-use Rattle.ranges.specs.Ranges.{joined, sumOver, anyOver, table}
+use Rattle.ranges.specs.Ranges.{firstOver, joined, sumOver, anyOver, table}
 use Rattle.answers.specs.Ruling.{lacksYear}
 use Rattle.dates.specs.Dates.{leap, leapDay, daysTo, dayNumber, weekdayOf}
 use Rattle.holidays.specs.Holidays.{listed, badHolidays}
 use Rattle.day_kinds.specs.Kinds.{christmas, free, candidate, bridge, kindBy}
+use Rattle.editions.specs.Editions.{placeFor, editionOf}
 use Rattle.calendar.specs.Answer.{dayOut, calendarAnswer}
 use Rattle.encoding.specs.Bytes.{ascii}
 use Rattle.texts.proofs.Cases.{Case, Hold}
@@ -41,6 +42,6 @@ cases =
 pub worked : Hold cases
 unfolding
     whyText noDates noSuchDate whyAnswer weekdayName kindWord dayLine wrongLine usageLine calendarAnswer dayOut
-    kindBy bridge candidate free christmas badHolidays listed dayNumber weekdayOf daysTo leapDay leap lacksYear
-    anyOver table sumOver joined
+    kindBy bridge candidate free christmas badHolidays listed dayNumber weekdayOf daysTo leapDay leap lacksYear editionOf placeFor
+    anyOver firstOver table sumOver joined
 worked = (refl, (refl, (refl, (refl, (refl, (refl, (refl, (refl, (refl, (refl, tt))))))))))

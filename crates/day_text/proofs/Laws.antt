@@ -12,7 +12,7 @@ use Rattle.ranges.specs.Limits.{outside}
 use Rattle.ranges.specs.Ranges.{anyOver}
 use Rattle.ranges.proofs.Bools.{neither}
 use Rattle.ranges.proofs.Tests.{any-at, any-fails, Passed}
-use Rattle.answers.specs.Ruling.{yearOut}
+use Rattle.editions.specs.Editions.{todays, editionOf, yearOut}
 use Rattle.answers.specs.Said.{only}
 use Rattle.day_kinds.specs.declared.DayKind.{DayKind}
 use Rattle.day_kinds.specs.Kinds.{kindCode}
@@ -81,16 +81,16 @@ module _ (b : List ℕ) where
       omega (arith, eqb-false (length b) 0 (some .0), eqb-true (length b % lineSize) 0 (held (eqb (length b % lineSize) 0) whole))
 
   -- what is answered, test after test
-  pub year-told : yearOut (yearAt b 0) ≡ true → only 1 ≡ whyAnswer b
+  pub year-told : yearOut todays (yearAt b 0) ≡ true → only 1 ≡ whyAnswer b
   unfolding whyAnswer
   year-told e = rw e
 
-  module _ (a : yearOut (yearAt b 0) ≡ false) where
+  module _ (a : yearOut todays (yearAt b 0) ≡ false) where
     pub date-told : noSuchDate b ≡ true → only 13 ≡ whyAnswer b
     unfolding whyAnswer
     date-told e = rw (a, e)
 
-    pub calendar-told : noSuchDate b ≡ false → calendarAnswer (yearAt b 0) (listedDays b) (dayAt b 0) ≡ whyAnswer b
+    pub calendar-told : noSuchDate b ≡ false → calendarAnswer (editionOf todays (yearAt b 0)) (yearAt b 0) (listedDays b) (dayAt b 0) ≡ whyAnswer b
     unfolding whyAnswer
     calendar-told e = rw (a, e)
 

@@ -9,8 +9,9 @@ use lib.Dec.{eqb}
 use lib.ListN.{length, getD}
 use Rattle.ranges.specs.Limits.{outside}
 use Rattle.ranges.specs.Ranges.{anyOver, table}
-use Rattle.answers.specs.Ruling.{yearOut, holidaysMost}
+use Rattle.answers.specs.Ruling.{holidaysMost}
 use Rattle.answers.specs.Said.{Said, only}
+use Rattle.editions.specs.Editions.{todays, editionOf, yearOut}
 use Rattle.dates.specs.Dates.{dayNumber}
 use Rattle.encoding.specs.Bytes.{ascii}
 use Rattle.calendar.specs.Answer.{calendarAnswer}
@@ -69,9 +70,10 @@ listCount b = min (holidaysMost + 1) (lineCount b - 1)
 abbrev pub listedDays : List ℕ → List ℕ
 listedDays b = table (λ j. listedAt b (lineSize * (j + 1))) (listCount b)
 
--- what is answered: 1 for the year asked for, 13 for a date that its year does not have, else what the calendar says
+-- what is answered, by today's list of editions: 1 for the year asked for, 13 for a date that its year does not have,
+-- else what the calendar says
 unfoldable pub whyAnswer : List ℕ → Said
 whyAnswer b =
-    cond (yearOut (yearAt b 0)) (only 1)
+    cond (yearOut todays (yearAt b 0)) (only 1)
     (cond (noSuchDate b) (only 13)
-    (calendarAnswer (yearAt b 0) (listedDays b) (dayAt b 0)))
+    (calendarAnswer (editionOf todays (yearAt b 0)) (yearAt b 0) (listedDays b) (dayAt b 0)))

@@ -140,7 +140,8 @@ fn answer(b: &[u8]) -> DayAnswer
     ensures { λ r. ⌜ saidOfDay r ≡ whyAnswer (now (b .entry)) ⌝ }
 {
     let year = year_at(b, 0);
-    if answers::year_out(year) {
+    let editions = editions::todays();
+    if editions::year_out(editions, year) {
         return DayAnswer::YearOut;
     }
     if no_such_date(b) {
@@ -148,7 +149,7 @@ fn answer(b: &[u8]) -> DayAnswer
     }
     let n = list_count(b);
     let list = listed_days(b);
-    calendar::day_kind(year, &list[..n], day_at(b, 0))
+    calendar::day_kind(editions, year, &list[..n], day_at(b, 0))
 }
 
 // A weekday's name.

@@ -6,7 +6,7 @@ ghost use lib.Dec.{ltb};
 ghost use Rattle.answers.specs.Ruling.{leastReduction, shareOf, Level};
 ghost use Rattle.tariff.specs.declared.Rates.{Rates};
 ghost use Rattle.tariff.specs.Answers.{saidOf, plainOf, peaksOf};
-ghost use Rattle.tariff.specs.Charges.{generalBy, chargesOf};
+ghost use Rattle.tariff.specs.Charges.{general, chargesOf};
 ghost use Rattle.tariff.specs.Decision.{moved, shareShort, eligibleRules, chargeRules, eligibleAnswer, chargeAnswer, judgeAnswer};
 use answers::Edition;
 use tariff::BothCharges;
@@ -85,7 +85,7 @@ fn reduction_short(edition: Edition, charges: TwoCharges) -> bool
 
 // The rules of the first half: 8, 9, 10, else 0 with yes, where g is the general charge.
 fn eligible_rules(edition: Edition, figures: Figures, rates: Rates, g: u64) -> Decision
-    requires { ⌜ Level (rates .level) × (g ≡ generalBy edition figures rates) ⌝ }
+    requires { ⌜ Level (rates .level) × (g ≡ general edition figures rates) ⌝ }
     ensures { λ r. ⌜ saidOf r ≡ eligibleRules edition figures rates ⌝ }
 {
     if !figures.any {
@@ -119,47 +119,46 @@ fn charge_rules(edition: Edition, figures: Figures, charges: TwoCharges) -> Deci
     })
 }
 
-// May the customer pay the reduced charge? Refuses 2, 6, 8, 9, 10 in this order, else 0 with yes. Any figures have an
-// answer.
-pub fn eligible(figures: Figures, rates: Rates) -> Decision
-    ensures { λ r. ⌜ saidOf r ≡ eligibleAnswer figures rates ⌝ }
+// May the customer pay the reduced charge by an edition? Refuses 2, 6, 8, 9, 10 in this order, else 0 with yes. Any
+// edition and any figures have an answer.
+pub fn eligible(edition: Edition, figures: Figures, rates: Rates) -> Decision
+    ensures { λ r. ⌜ saidOf r ≡ eligibleAnswer edition figures rates ⌝ }
 {
     if answers::level_out(rates.level) {
         return Decision::LevelOut;
     }
-    let asked = charges::general_charge(figures, rates);
+    let asked = charges::general_charge(edition, figures, rates);
     let General::Cents(g) = asked else {
         return Decision::PriceOut;
     };
-    eligible_rules(answers::today(), figures, rates, g)
+    eligible_rules(edition, figures, rates, g)
 }
 
-// What a customer who may pay the reduced charge is charged. Refuses 6, 8, 11 in this order, else 0 with the charge.
-// Any figures have an answer.
-pub fn charge(figures: Figures, rates: Rates) -> Decision
-    ensures { λ r. ⌜ saidOf r ≡ chargeAnswer figures rates ⌝ }
+// What a customer who may pay the reduced charge is charged by an edition. Refuses 6, 8, 11 in this order, else 0 with
+// the charge. Any edition and any figures have an answer.
+pub fn charge(edition: Edition, figures: Figures, rates: Rates) -> Decision
+    ensures { λ r. ⌜ saidOf r ≡ chargeAnswer edition figures rates ⌝ }
 {
-    let asked = charges::both_charges(figures, rates);
+    let asked = charges::both_charges(edition, figures, rates);
     let BothCharges::Cents(both) = asked else {
         return Decision::PriceOut;
     };
-    charge_rules(answers::today(), figures, both)
+    charge_rules(edition, figures, both)
 }
 
-// The decision over a year's figures: the two halves in a row, by their rules, so that no rule is written twice, the
-// level and the prices are tested once and each charge is worked out once. Refuses 2, 6, 8, 9, 10, 11 in this order,
-// else 0 with the charge. Any figures have an answer.
-pub fn judge(figures: Figures, rates: Rates) -> Decision
-    ensures { λ r. ⌜ saidOf r ≡ judgeAnswer figures rates ⌝ }
+// The decision over a year's figures by an edition: the two halves in a row, by their rules, so that no rule is written
+// twice, the level and the prices are tested once and each charge is worked out once. Refuses 2, 6, 8, 9, 10, 11 in
+// this order, else 0 with the charge. Any edition and any figures have an answer.
+pub fn judge(edition: Edition, figures: Figures, rates: Rates) -> Decision
+    ensures { λ r. ⌜ saidOf r ≡ judgeAnswer edition figures rates ⌝ }
 {
     if answers::level_out(rates.level) {
         return Decision::LevelOut;
     }
-    let asked = charges::both_charges(figures, rates);
+    let asked = charges::both_charges(edition, figures, rates);
     let BothCharges::Cents(both) = asked else {
         return Decision::PriceOut;
     };
-    let edition = answers::today();
     let first = eligible_rules(edition, figures, rates, both.general);
     if let Decision::Eligible = first {
         return charge_rules(edition, figures, both);

@@ -10,7 +10,7 @@ use native.Mathlib.Omega.{arith}
 use Rattle.answers.specs.Said.{Said}
 use Rattle.readings.specs.declared.Run.{Run}
 use Rattle.readings.specs.Illegal.{FirstIllegalIn}
-use Rattle.demands.specs.Refusals.{Carries, NamesFirst, CarriesPlace, FirstToday}
+use Rattle.demands.specs.Refusals.{Carries, NamesFirst, CarriesPlace, FirstOfDay}
 use Rattle.demands.specs.Demands.{NothingElse}
 use Rattle.demands.proofs.Carried.{said-is}
 use Rattle.demands.proofs.Parts.{same-part}
@@ -68,8 +68,8 @@ one-in run limit xs d q e r f g = (day, position)
         go (no l) (yes m) = absurd (omega (arith, there .above, f .before r m))
         go (no l) (no m) = omega arith
 
-one-today : (limit n : ℕ) (day : List ℕ) → One (FirstToday limit n day)
-one-today limit n day d q e r f g = (f .today ∙ sym (g .today), go (decLt q r) (decLt r q))
+one-of-day : (limit n : ℕ) (day : List ℕ) → One (FirstOfDay limit n day)
+one-of-day limit n day d q e r f g = (f .on-day ∙ sym (g .on-day), go (decLt q r) (decLt r q))
   where
     go : Dec (q < r) → Dec (r < q) → q ≡ r
     go (yes l) m = absurd (omega (arith, f .first .above, g .first .before q l))
@@ -83,29 +83,31 @@ nothing-else m n d e =
     let mine = d .carried in
     let other = e .carried in
     record {
-      calendar = λ y hs k. carried-same (same-number (given .calendar y hs k) (row .calendar y hs k)) (mine .calendar y hs k) (other .calendar y hs k);
-      read = λ b. carried-same (same-number (given .read b) (row .read b)) (mine .read b) (other .read b);
-      write = λ s room. carried-same (same-number (given .write s room) (row .write s room)) (mine .write s room) (other .write s room);
+      load = λ es ed. carried-same (same-number (given .load es ed) (row .load es ed)) (mine .load es ed) (other .load es ed);
+      calendar = λ es y hs k.
+          carried-same (same-number (given .calendar es y hs k) (row .calendar es y hs k)) (mine .calendar es y hs k) (other .calendar es y hs k);
+      read = λ es b. carried-same (same-number (given .read es b) (row .read es b)) (mine .read es b) (other .read es b);
+      write = λ es s room. carried-same (same-number (given .write es s room) (row .write es s room)) (mine .write es s room) (other .write es s room);
       part = same-part m n (d .handed-out) (e .handed-out);
-      windows = λ y level xs buffer.
-          placed-same (one-in _ _ xs) (same-number (given .windows y level xs buffer) (row .windows y level xs buffer))
-          (mine .windows y level xs buffer) (other .windows y level xs buffer);
-      grid-open = λ y level.
-          carried-same (same-number (given .grid-open y level) (row .grid-open y level))
-          (mine .grid-open y level) (other .grid-open y level);
+      windows = λ es y level xs buffer.
+          placed-same (one-in _ _ xs) (same-number (given .windows es y level xs buffer) (row .windows es y level xs buffer))
+          (mine .windows es y level xs buffer) (other .windows es y level xs buffer);
+      grid-open = λ es y level.
+          carried-same (same-number (given .grid-open es y level) (row .grid-open es y level))
+          (mine .grid-open es y level) (other .grid-open es y level);
       grid-day = λ g day.
-          placed-same (one-today _ (g .seen) day) (same-number (given .grid-day g day) (row .grid-day g day))
+          placed-same (one-of-day _ (g .seen) day) (same-number (given .grid-day g day) (row .grid-day g day))
           (mine .grid-day g day) (other .grid-day g day);
       grid-close = λ g buffer.
           carried-same (same-number (given .grid-close g buffer) (row .grid-close g buffer))
           (mine .grid-close g _) (other .grid-close g _);
-      eligible = λ f r. carried-same (same-number (given .eligible f r) (row .eligible f r)) (mine .eligible f r) (other .eligible f r);
-      charge = λ f r. carried-same (same-number (given .charge f r) (row .charge f r)) (mine .charge f r) (other .charge f r);
-      judge = λ f r. carried-same (same-number (given .judge f r) (row .judge f r)) (mine .judge f r) (other .judge f r);
+      eligible = λ ed f r. carried-same (same-number (given .eligible ed f r) (row .eligible ed f r)) (mine .eligible ed f r) (other .eligible ed f r);
+      charge = λ ed f r. carried-same (same-number (given .charge ed f r) (row .charge ed f r)) (mine .charge ed f r) (other .charge ed f r);
+      judge = λ ed f r. carried-same (same-number (given .judge ed f r) (row .judge ed f r)) (mine .judge ed f r) (other .judge ed f r);
       decide = λ k xs. placed-same (one-in _ _ xs) (same-number (given .decide k xs) (row .decide k xs)) (mine .decide k xs) (other .decide k xs);
       customer-open = λ k. carried-same (same-number (given .customer-open k) (row .customer-open k)) (mine .customer-open k) (other .customer-open k);
       customer-day = λ c day.
-          placed-same (one-today _ (c .seen) day) (same-number (given .customer-day c day) (row .customer-day c day))
+          placed-same (one-of-day _ (c .seen) day) (same-number (given .customer-day c day) (row .customer-day c day))
           (mine .customer-day c day) (other .customer-day c day);
       customer-close = λ c. carried-same (same-number (given .customer-close c) (row .customer-close c)) (mine .customer-close c) (other .customer-close c);
     }

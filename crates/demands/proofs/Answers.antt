@@ -13,7 +13,9 @@ use lib.ListN.{length, getD, take, drop}
 use Rattle.ranges.specs.Limits.{Within}
 use Rattle.ranges.specs.Ranges.{table}
 use Rattle.ranges.proofs.Tables.{getD-table, table-cong}
-use Rattle.answers.specs.Edition.{today}
+use Rattle.answers.specs.declared.Edition.{Edition}
+use Rattle.editions.specs.Editions.{editionOf}
+use Rattle.editions.proofs.Lists.{load-exactly}
 use Rattle.answers.specs.Ruling.{dayQuarters, gridMost}
 use Rattle.answers.specs.Said.{Said, only, orElse}
 use Rattle.periods.specs.Period.{periodDays}
@@ -29,6 +31,7 @@ use Rattle.sheet.specs.Answers.{ReadSaid, readOf, writeAnswer, written}
 use Rattle.sheet.proofs.Windows.{set-at, length-flat}
 use Rattle.sheet.proofs.Exactly.{read-exactly, write-exactly}
 use Rattle.sheet.proofs.Back.{buffer-read}
+use Rattle.sheet_read.specs.Editions.{sheetEdition}
 use Rattle.windows.specs.Chosen.{kept}
 use Rattle.windows.proofs.Kept.{chosen-at}
 use Rattle.grid_curves.specs.Curves.{curveAt, flatCurves}
@@ -47,21 +50,22 @@ use Rattle.customer_days.proofs.Whole.{days-whole as customer-days, same-place 
 use Rattle.demands.specs.Module.{ours}
 use Rattle.demands.specs.Answers.{ExactlyWhen, ToTheQuarterHour, DaysAsWhole}
 use Rattle.demands.proofs.Windows.{peak-one, curve-one, kept-plain}
-use Rattle.demands.proofs.Sheets.{handed, rest-stays}
+use Rattle.demands.proofs.Sheets.{by-list, handed, rest-stays}
 
 pub exactly-when : ExactlyWhen ours
 exactly-when =
     record {
-      calendar = exactly;
-      read = read-exactly today;
-      write = write-exactly today;
-      windows = windows-exactly;
-      grid-open = open-exactly;
+      load = load-exactly;
+      calendar = λ es y. exactly (editionOf es y) y;
+      read = λ es b. read-exactly (sheetEdition es b) b;
+      write = λ es s. write-exactly (editionOf es (s .year)) s;
+      windows = λ es y. windows-exactly (editionOf es y) y;
+      grid-open = λ es y. open-exactly (editionOf es y) y;
       grid-day = λ g day. next-exactly _ _ (g .seen) day;
       grid-close = close-exactly;
-      eligible = eligible-exactly today;
-      charge = charge-exactly today;
-      judge = judge-exactly today;
+      eligible = eligible-exactly;
+      charge = charge-exactly;
+      judge = judge-exactly;
       decide = decide-exactly;
       customer-open = customer-open-exactly;
       customer-day = customer-day-exactly;
@@ -71,8 +75,8 @@ exactly-when =
 pub days-as-whole : DaysAsWhole ours
 days-as-whole =
     record {
-      grid = λ y level buffer o. grid-days y level o buffer;
-      grid-place = λ y level xs buffer d q e. grid-place y level xs buffer d q e;
+      grid = λ es y level buffer o. grid-days (editionOf es y) y level o buffer;
+      grid-place = λ es y level xs buffer d q e. grid-place (editionOf es y) y level xs buffer d q e;
       customer = customer-days;
       customer-place = λ k xs d q o e. customer-place k o xs d q e;
     }
@@ -103,57 +107,58 @@ curve-is y xs s h =
     getD-table (λ i. curveAt y xs (periodDays y) (i / dayQuarters + 1) (i % dayQuarters)) windowPlaces (dayQuarters * (s - 1) + q) 0 (omega arith) ∙ rw (a, b))
 
 -- an accepted series
-module _ (y level : ℕ) (xs buffer : List ℕ) (z : windowsAnswer y level xs (length buffer) .number ≡ 0) where
+module _ (ed : Edition) (y level : ℕ) (xs buffer : List ℕ) (z : windowsAnswer ed y level xs (length buffer) .number ≡ 0) where
   abbrev flat : List ℕ
   flat = flatCurves y xs (periodDays y)
 
   abbrev laid : Sheet
-  laid = sheetOf y level flat
+  laid = sheetOf ed y level flat
 
-  finish-is : windowsAnswer y level xs (length buffer) ≡ finishAnswer y level flat (length buffer)
+  finish-is : windowsAnswer ed y level xs (length buffer) ≡ finishAnswer ed y level flat (length buffer)
   unfolding windowsAnswer
   finish-is =
       let a = otherwise (ltb (length buffer) sheetSize) 14 _ (omega arith) z in
-      let b = second (gridOpenAnswer y level) _ (sym (number-is a) ∙ z) in
+      let b = second (gridOpenAnswer ed y level) _ (sym (number-is a) ∙ z) in
       let c = second (seriesAnswer (Period y) gridMost xs) _ (sym (number-is (a ∙ b)) ∙ z) in
       a ∙ b ∙ c
 
-  write-is : finishAnswer y level flat (length buffer) ≡ writeAnswer laid (length buffer)
+  write-is : finishAnswer ed y level flat (length buffer) ≡ writeAnswer ed laid (length buffer)
   unfolding finishAnswer
   write-is = otherwise (eqb (highestOf flat) 0) 7 _ (omega arith) (sym (number-is finish-is) ∙ z)
 
-  accepts : writeAnswer laid (length buffer) .number ≡ 0
+  accepts : writeAnswer ed laid (length buffer) .number ≡ 0
   accepts = sym (number-is (finish-is ∙ write-is)) ∙ z
 
-  buffer-is : windowsBuffer y level xs buffer ≡ written laid buffer
+  buffer-is : windowsBuffer ed y level xs buffer ≡ written ed laid buffer
   unfolding windowsBuffer finished
   buffer-is =
-      handed (windowsAnswer y level xs (length buffer)) _ _ z
-      ∙ handed (finishAnswer y level flat (length buffer)) _ _ (sym (number-is finish-is) ∙ z)
+      handed (windowsAnswer ed y level xs (length buffer)) _ _ z
+      ∙ handed (finishAnswer ed y level flat (length buffer)) _ _ (sym (number-is finish-is) ∙ z)
 
-  reads : readOf (take sheetSize (windowsBuffer y level xs buffer)) ≡ record { answer = only 0; sheet = laid }
+  reads : readOf ed (take sheetSize (windowsBuffer ed y level xs buffer)) ≡ record { answer = only 0; sheet = laid }
   unfolding sheetOf
-  reads = ap (λ (b : List ℕ). readOf (take sheetSize b)) buffer-is ∙ buffer-read today laid buffer (length-flat _) accepts
+  reads = ap (λ (b : List ℕ). readOf ed (take sheetSize b)) buffer-is ∙ buffer-read ed laid buffer (length-flat _) accepts
 
-  window-is : (s q : ℕ) → Within 1 seasons s → q < dayQuarters → isSet (laid .windows) s q ≡ kept today (periodPeak y xs) (curveIn y xs s) q
+  window-is : (s q : ℕ) → Within 1 seasons s → q < dayQuarters → isSet (laid .windows) s q ≡ kept ed (periodPeak y xs) (curveIn y xs s) q
   unfolding sheetOf
   window-is s q h l =
       sym (set-at (laid .windows) s q h l)
-      ∙ chosen-at today (highestOf flat) (curvesOf flat) s q h l
-      ∙ ap (λ (m : ℕ). kept today m (getD (curvesOf flat) (s - 1) []) q) (peak-curves y xs (periodDays y))
-      ∙ ap (λ (curve : List ℕ). kept today (periodPeak y xs) curve q) (curve-is y xs s h)
+      ∙ chosen-at ed (highestOf flat) (curvesOf flat) s q h l
+      ∙ ap (λ (m : ℕ). kept ed m (getD (curvesOf flat) (s - 1) []) q) (peak-curves y xs (periodDays y))
+      ∙ ap (λ (curve : List ℕ). kept ed (periodPeak y xs) curve q) (curve-is y xs s h)
 
 pub to-the-quarter-hour : ToTheQuarterHour ours
 unfolding sheetOf
-to-the-quarter-hour y level xs buffer z =
-    let r = reads y level xs buffer z in
+to-the-quarter-hour es y level xs buffer z =
+    let ed = editionOf es y in
+    let r = by-list es (laid ed y level xs buffer z) _ (reads ed y level xs buffer z) in
     record {
       accepted = ap (λ (x : ReadSaid). x .answer) r;
       year-is = ap (λ (x : ReadSaid). x .sheet .year) r;
       level-is = ap (λ (x : ReadSaid). x .sheet .level) r;
       windows-are = λ s q h l peak c i j.
-          let shown = ap (λ (x : ReadSaid). isSet (x .sheet .windows) s q) r ∙ window-is y level xs buffer z s q h l in
+          let shown = ap (λ (x : ReadSaid). isSet (x .sheet .windows) s q) r ∙ window-is ed y level xs buffer z s q h l in
           rw (shown, ← peak-one y xs peak i)
-          (kept-plain peak c (curveIn y xs s) (λ p m. curve-one y xs s c j p m ∙ sym (getD-table (curveAt y xs (periodDays y) s) dayQuarters p 0 m)) q l);
-      rest-stays = ap (drop sheetSize) (buffer-is y level xs buffer z) ∙ rest-stays (laid y level xs buffer z) buffer (accepts y level xs buffer z);
+          (kept-plain ed peak c (curveIn y xs s) (λ p m. curve-one y xs s c j p m ∙ sym (getD-table (curveAt y xs (periodDays y) s) dayQuarters p 0 m)) q l);
+      rest-stays = ap (drop sheetSize) (buffer-is ed y level xs buffer z) ∙ rest-stays ed (laid ed y level xs buffer z) buffer (accepts ed y level xs buffer z);
     }

@@ -11,11 +11,11 @@ use lib.Dec.{leb, eqb}
 use lib.ListN.{getD}
 use Rattle.ranges.proofs.Bools.{decided, both, pair, either, neither, clash}
 use Rattle.dates.specs.Dates.{yearDays, saturday, weekdayOf}
+use Rattle.editions.specs.declared.Editions.{Editions}
 use Rattle.holidays.specs.Holidays.{listed}
 use Rattle.day_kinds.specs.declared.DayKind.{DayKind}
 use Rattle.day_kinds.specs.declared.DayKind.the-variants.{Windows, Weekend, Listed, Christmas, Bridge}
 use Rattle.day_kinds.specs.Kinds.{weekend, christmas, free, candidate, mondayCandidate, fridayCandidate, bridge, kindCode, isWindows, kindOf}
-use Rattle.calendar.specs.Answer.{calendarAnswer}
 use Rattle.day_kinds.proofs.Rules.{christmas-by, kind-weekend, kind-listed, kind-christmas, kind-bridge, kind-windows}
 use Rattle.demands.specs.Module.{ours}
 use Rattle.demands.specs.Calendar.{Working, MondayBridge, FridayBridge, CarriesWindows, KindRow, Calendar}
@@ -182,11 +182,11 @@ pub calendar : Calendar ours
 calendar = record { kind = kind-when }
   where
     kind-when :
-        (y : ℕ) (hs : List ℕ) (d code : ℕ)
-        → calendarAnswer y hs d .number ≡ 0
-        → (calendarAnswer y hs d .figures ≡ code ∷ []) ↔ KindRow y hs d code
-    kind-when y hs d code z =
-        let is : calendarAnswer y hs d .figures ≡ kindCode (kindOf y hs d) ∷ [] = carried .calendar y hs d .listed ∙ simp (eq-eqb _ _ z) in (
+        (es : Editions) (y : ℕ) (hs : List ℕ) (d code : ℕ)
+        → ours .calendar es y hs d .number ≡ 0
+        → (ours .calendar es y hs d .figures ≡ code ∷ []) ↔ KindRow y hs d code
+    kind-when es y hs d code z =
+        let is : ours .calendar es y hs d .figures ≡ kindCode (kindOf y hs d) ∷ [] = carried .calendar es y hs d .listed ∙ simp (eq-eqb _ _ z) in (
           (λ e. rw (ap first-of (sym is ∙ e)) at (row y hs d)),
           λ r. is ∙ ap (λ (c : ℕ). c ∷ []) (code-is y hs d r),
         )

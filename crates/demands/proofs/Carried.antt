@@ -9,10 +9,10 @@ use native.Mathlib.Omega.{arith}
 use borrow.Author.Tests.{lt-ltb, eq-eqb, ne-eqb}
 use lib.Dec.{leb, ltb, eqb}
 use lib.ListN.{length, getD}
+use Rattle.editions.specs.Editions.{editionOf}
 use Rattle.answers.specs.declared.Edition.{Edition}
 use Rattle.answers.specs.declared.Place.{Place}
-use Rattle.answers.specs.Edition.{today}
-use Rattle.answers.specs.Ruling.{gridMost, customerMost, yearOut, levelOut}
+use Rattle.answers.specs.Ruling.{gridMost, customerMost, lacksYear, levelOut}
 use Rattle.answers.specs.Said.{Said, only, orElse}
 use Rattle.dates.specs.Dates.{yearDays}
 use Rattle.periods.specs.Period.{periodDays}
@@ -34,10 +34,11 @@ use Rattle.sheet.specs.declared.Sheet.{Sheet}
 use Rattle.sheet.specs.Windows.{tooFull}
 use Rattle.encoding.specs.Bytes.{twoAt, versionOut}
 use Rattle.sheet.specs.Bytes.{versionAt, yearAt, levelAt, sheetSize, windowsIn, unmarked}
-use Rattle.sheet.specs.Answers.{readAnswer, readAnswerBy, writeAnswer, writeAnswerBy}
+use Rattle.sheet.specs.Answers.{readAnswer, writeAnswer}
 use Rattle.sheet.specs.Rows.{ReadRow}
 use Rattle.sheet.specs.Rows.ReadRow.{malformed, one, two, full, zero}
 use Rattle.sheet.proofs.Exactly.{read-zero}
+use Rattle.sheet_read.specs.Editions.{sheetEdition}
 use Rattle.grid.specs.Answers.{windowsAnswer, gridOpenAnswer, finishAnswer, sheetOf}
 use Rattle.grid_days.specs.Days.{gridCloseAnswer}
 use Rattle.grid.specs.Rows.{WindowsRow}
@@ -48,8 +49,8 @@ use Rattle.tariff.specs.declared.Rates.{Rates}
 use Rattle.tariff.specs.declared.Figures.{Figures}
 use Rattle.tariff.specs.Prices.{pricesOut}
 use Rattle.tariff.specs.Charges.{general, charge}
-use Rattle.tariff.specs.Decision.{noWindow, shareShort, moveShort, reductionShort, eligibleRules, chargeRules, judgeRules, eligibleAnswer, eligibleAnswerBy, chargeAnswer, chargeAnswerBy, judgeAnswer, judgeAnswerBy}
-use Rattle.terms.specs.Basis.{Basis, basisYear, basisRates}
+use Rattle.tariff.specs.Decision.{noWindow, shareShort, moveShort, reductionShort, eligibleRules, chargeRules, judgeRules, eligibleAnswer, chargeAnswer, judgeAnswer}
+use Rattle.terms.specs.Basis.{Basis, basisYear, basisEdition, basisRates}
 use Rattle.terms.specs.Opening.{termsOf, customerOpenAnswer}
 use Rattle.terms.specs.Rows.{CustomerOpenRow}
 use Rattle.terms.specs.Rows.CustomerOpenRow.{sheet, three, six, zero}
@@ -67,7 +68,8 @@ use Rattle.customer.proofs.Exactly.{decide-exactly}
 use Rattle.customer_days.proofs.Exactly.{customer-day-exactly}
 use Rattle.customer_days.proofs.Whole.{judge-five}
 use Rattle.demands.specs.Module.{ours, Refused}
-use Rattle.demands.specs.Refusals.{zeroAlone, withFigures, yearColumn, Carries, CarriesPlace, FirstToday, Carried}
+use Rattle.demands.specs.Refusals.{zeroAlone, withFigures, yearColumn, Carries, CarriesPlace, FirstOfDay, Carried}
+use Rattle.demands.proofs.Editions.{load-listed}
 
 -- an answer, a choice between two, and a second answer behind the refusals of a first
 leaf : {a : Said} {column : ℕ → List ℕ} → a .figures ≡ column (a .number) → Carries a column
@@ -92,25 +94,25 @@ behind a {b} {column} p q = go (ℕ-discrete (a .number) 0)
 
 -- any column that lists nothing for the refusals of reading a sheet and of opening
 module _ (column : ℕ → List ℕ) (one : column 1 ≡ []) (two : column 2 ≡ []) (three : column 3 ≡ []) (six : column 6 ≡ []) (twelve : column 12 ≡ []) where
-  reads : (b : List ℕ) → Refusing column (readAnswer b)
-  unfolding readAnswerBy
-  reads b =
+  reads : (ed : Edition) (b : List ℕ) → Refusing column (readAnswer ed b)
+  unfolding readAnswer
+  reads ed b =
       choice (Refusing column) (not (eqb (length b) sheetSize)) (λ r. leaf (sym twelve))
       (choice (Refusing column) (unmarked b) (λ r. leaf (sym twelve))
       (choice (Refusing column) (versionOut b versionAt) (λ r. leaf (sym twelve))
-      (choice (Refusing column) (yearOut (twoAt b yearAt)) (λ r. leaf (sym one))
+      (choice (Refusing column) (lacksYear ed (twoAt b yearAt)) (λ r. leaf (sym one))
       (choice (Refusing column) (levelOut (getD b levelAt 0)) (λ r. leaf (sym two))
-      (choice (Refusing column) (tooFull today (windowsIn b)) (λ r. leaf (sym twelve))
+      (choice (Refusing column) (tooFull ed (windowsIn b)) (λ r. leaf (sym twelve))
       (λ r. absurd (r refl)))))))
 
   opens : (k : Basis) → Refusing column (customerOpenAnswer k)
   unfolding customerOpenAnswer
   opens k =
-      choice (Refusing column) (eqb (readAnswer (k .sheet) .number) 0)
+      choice (Refusing column) (eqb (readAnswer (basisEdition k) (k .sheet) .number) 0)
       (choice (Refusing column) (badHolidays (basisYear k) (k .holidays)) (λ r. leaf (sym three))
       (choice (Refusing column) (pricesOut (k .prices)) (λ r. leaf (sym six))
       (λ r. absurd (r refl))))
-      (reads (k .sheet))
+      (reads (basisEdition k) (k .sheet))
 
 -- an answer whose refusals and whose 0 carry nothing
 zero-alone-all : (a : Said) → (Refused a → Carries a (zeroAlone [])) → (a .number ≡ 0 → only 0 ≡ a) → Carries a (zeroAlone [])
@@ -125,29 +127,29 @@ module _ (column : ℕ → List ℕ) (same : (n : ℕ) → eqb n 5 ≡ false →
   nothing : (n : ℕ) → eqb n 5 ≡ false → zeroAlone [] n ≡ [] → Carries (only n) column
   nothing n e z = leaf (sym (same n e ∙ z))
 
-  writes : (s : Sheet) (room : ℕ) → Carries (writeAnswer s room) column
-  unfolding writeAnswerBy
-  writes s room =
+  writes : (ed : Edition) (s : Sheet) (room : ℕ) → Carries (writeAnswer ed s room) column
+  unfolding writeAnswer
+  writes ed s room =
       either (ltb room sheetSize) (nothing 14 refl refl)
-      (either (yearOut (s .year)) (nothing 1 refl refl)
+      (either (lacksYear ed (s .year)) (nothing 1 refl refl)
       (either (levelOut (s .level)) (nothing 2 refl refl)
-      (either (tooFull today (s .windows)) (nothing 12 refl refl)
+      (either (tooFull ed (s .windows)) (nothing 12 refl refl)
       (nothing 0 refl refl))))
 
-  grid-opens : (y level : ℕ) → Carries (gridOpenAnswer y level) column
+  grid-opens : (ed : Edition) (y level : ℕ) → Carries (gridOpenAnswer ed y level) column
   unfolding gridOpenAnswer
-  grid-opens y level = either (yearOut y) (nothing 1 refl refl) (either (levelOut level) (nothing 2 refl refl) (nothing 0 refl refl))
+  grid-opens ed y level = either (lacksYear ed y) (nothing 1 refl refl) (either (levelOut level) (nothing 2 refl refl) (nothing 0 refl refl))
 
-  finishes : (y level : ℕ) (flat : List ℕ) (room : ℕ) → Carries (finishAnswer y level flat room) column
+  finishes : (ed : Edition) (y level : ℕ) (flat : List ℕ) (room : ℕ) → Carries (finishAnswer ed y level flat room) column
   unfolding finishAnswer
-  finishes y level flat room = either (eqb (highestOf flat) 0) (nothing 7 refl refl) (writes (sheetOf y level flat) room)
+  finishes ed y level flat room = either (eqb (highestOf flat) 0) (nothing 7 refl refl) (writes ed (sheetOf ed y level flat) room)
 
   grid-closes : (g : Grid) (room : ℕ) → Carries (gridCloseAnswer g room) column
   unfolding gridCloseAnswer
   grid-closes g room =
       either (ltb room sheetSize) (nothing 14 refl refl)
       (either (not (eqb (g .seen) (periodDays (g .year)))) (nothing 13 refl refl)
-      (finishes (g .year) (g .level) (g .curves) room))
+      (finishes (g .edition) (g .year) (g .level) (g .curves) room))
 
 -- the place of a bad reading before a column
 abbrev withPlace : Place → (ℕ → List ℕ) → ℕ → List ℕ
@@ -181,70 +183,70 @@ series-listed run limit xs others none =
     (λ r. absurd (r refl)))
 
 windows-listed :
-    (y level : ℕ) (xs : List ℕ) (room : ℕ)
-    → Carries (windowsAnswer y level xs room) (withPlace (firstIllegal (Period y) gridMost xs) (zeroAlone []))
+    (ed : Edition) (y level : ℕ) (xs : List ℕ) (room : ℕ)
+    → Carries (windowsAnswer ed y level xs room) (withPlace (firstIllegal (Period y) gridMost xs) (zeroAlone []))
 unfolding windowsAnswer
-windows-listed y level xs room =
+windows-listed ed y level xs room =
     let place = firstIllegal (Period y) gridMost xs in
     let column = withPlace place (zeroAlone []) in
     either (ltb room sheetSize) (leaf refl)
-    (behind (gridOpenAnswer y level) (λ r. grid-opens column (before place (zeroAlone [])) y level)
+    (behind (gridOpenAnswer ed y level) (λ r. grid-opens column (before place (zeroAlone [])) ed y level)
     (behind (seriesAnswer (Period y) gridMost xs) (series-listed (Period y) gridMost xs (zeroAlone []) refl)
-    (finishes column (before place (zeroAlone [])) y level _ room)))
+    (finishes column (before place (zeroAlone [])) ed y level _ room)))
 
 -- the decision over figures, under any column that lists what the year's does, but for 5
-module _ (f : Figures) (r : Rates) (column : ℕ → List ℕ) where
-  module _ (done : List ℕ) (same : (n : ℕ) → eqb n 5 ≡ false → column n ≡ withFigures f (general f r) (zeroAlone done) n) where
-    eligible-refuses : Refusing column (eligibleRules today f r)
+module _ (ed : Edition) (f : Figures) (r : Rates) (column : ℕ → List ℕ) where
+  module _ (done : List ℕ) (same : (n : ℕ) → eqb n 5 ≡ false → column n ≡ withFigures f (general ed f r) (zeroAlone done) n) where
+    eligible-refuses : Refusing column (eligibleRules ed f r)
     unfolding eligibleRules
     eligible-refuses =
         choice (Refusing column) (noWindow f) (λ z. leaf (sym (same 8 refl)))
-        (choice (Refusing column) (shareShort today f r) (λ z. leaf (sym (same 9 refl)))
-        (choice (Refusing column) (moveShort today f) (λ z. leaf (sym (same 10 refl)))
+        (choice (Refusing column) (shareShort ed f r) (λ z. leaf (sym (same 9 refl)))
+        (choice (Refusing column) (moveShort ed f) (λ z. leaf (sym (same 10 refl)))
         (λ z. absurd (z refl))))
 
-    module _ (is : done ≡ charge f r ∷ general f r ∷ f .peak ∷ f .sum ∷ f .high ∷ f .day ∷ f .quarter ∷ []) where
-      charge-listed : Carries (chargeRules today f r) column
+    module _ (is : done ≡ charge ed f r ∷ general ed f r ∷ f .peak ∷ f .sum ∷ f .high ∷ f .day ∷ f .quarter ∷ []) where
+      charge-listed : Carries (chargeRules ed f r) column
       unfolding chargeRules
       charge-listed =
           either (noWindow f) (leaf (sym (same 8 refl)))
-          (either (reductionShort today f r) (leaf (sym (same 11 refl)))
+          (either (reductionShort ed f r) (leaf (sym (same 11 refl)))
           (leaf (sym (same 0 refl ∙ is))))
 
-      judge-listed : Carries (judgeAnswer f r) column
-      unfolding judgeAnswerBy judgeRules
+      judge-listed : Carries (judgeAnswer ed f r) column
+      unfolding judgeAnswer judgeRules
       judge-listed =
           either (levelOut (r .level)) (leaf (sym (same 2 refl)))
           (either (pricesOut (r .prices)) (leaf (sym (same 6 refl)))
-          (behind (eligibleRules today f r) eligible-refuses charge-listed))
+          (behind (eligibleRules ed f r) eligible-refuses charge-listed))
 
-eligible-listed : (f : Figures) (r : Rates) → Carries (eligibleAnswer f r) (withFigures f (general f r) (zeroAlone (1 ∷ [])))
-unfolding eligibleAnswerBy eligibleRules
-eligible-listed f r =
+eligible-listed : (ed : Edition) (f : Figures) (r : Rates) → Carries (eligibleAnswer ed f r) (withFigures f (general ed f r) (zeroAlone (1 ∷ [])))
+unfolding eligibleAnswer eligibleRules
+eligible-listed ed f r =
     either (levelOut (r .level)) (leaf refl)
     (either (pricesOut (r .prices)) (leaf refl)
     (either (noWindow f) (leaf refl)
-    (either (shareShort today f r) (leaf refl)
-    (either (moveShort today f) (leaf refl)
+    (either (shareShort ed f r) (leaf refl)
+    (either (moveShort ed f) (leaf refl)
     (leaf refl)))))
 
-charged : (f : Figures) (r : Rates) → Carries (chargeAnswer f r) (yearColumn f r)
-unfolding chargeAnswerBy
-charged f r = either (pricesOut (r .prices)) (leaf refl) (charge-listed f r (yearColumn f r) _ (λ n e. refl) refl)
+charged : (ed : Edition) (f : Figures) (r : Rates) → Carries (chargeAnswer ed f r) (yearColumn ed f r)
+unfolding chargeAnswer
+charged ed f r = either (pricesOut (r .prices)) (leaf refl) (charge-listed ed f r (yearColumn ed f r) _ (λ n e. refl) refl)
 
-judged-listed : (f : Figures) (r : Rates) → Carries (judgeAnswer f r) (yearColumn f r)
-judged-listed f r = judge-listed f r (yearColumn f r) _ (λ n e. refl) refl
+judged-listed : (ed : Edition) (f : Figures) (r : Rates) → Carries (judgeAnswer ed f r) (yearColumn ed f r)
+judged-listed ed f r = judge-listed ed f r (yearColumn ed f r) _ (λ n e. refl) refl
 
 decides :
     (k : Basis) (xs : List ℕ)
-    → Carries (decideAnswer k xs) (withPlace (firstIllegal (basisRun k) customerMost xs) (yearColumn (basisFigures k xs) (basisRates k)))
+    → Carries (decideAnswer k xs) (withPlace (firstIllegal (basisRun k) customerMost xs) (yearColumn (basisEdition k) (basisFigures k xs) (basisRates k)))
 unfolding decideAnswer wholeAnswer
 decides k xs =
     let place = firstIllegal (basisRun k) customerMost xs in
-    let others = yearColumn (basisFigures k xs) (basisRates k) in
+    let others = yearColumn (basisEdition k) (basisFigures k xs) (basisRates k) in
     behind (customerOpenAnswer k) (opens (withPlace place others) refl refl refl refl refl k)
     (behind (seriesAnswer (basisRun k) customerMost xs) (series-listed (basisRun k) customerMost xs others refl)
-    (judge-listed (basisFigures k xs) (basisRates k) (withPlace place others) _ (before place others) refl))
+    (judge-listed (basisEdition k) (basisFigures k xs) (basisRates k) (withPlace place others) _ (before place others) refl))
 
 customer-days :
     (c : Customer) (day : List ℕ)
@@ -252,15 +254,15 @@ customer-days :
 unfolding customerDayAnswer
 customer-days c day = either (overfull c) (leaf refl) (next-listed (Year (c .terms .rates .year)) customerMost (c .seen) day)
 
-customer-closes : (c : Customer) → Carries (customerCloseAnswer c) (yearColumn (c .figures) (c .terms .rates))
+customer-closes : (c : Customer) → Carries (customerCloseAnswer c) (yearColumn (c .terms .edition) (c .figures) (c .terms .rates))
 unfolding customerCloseAnswer
 customer-closes c =
-    either (not (eqb (c .seen) (yearDays (c .terms .rates .year)))) (leaf refl) (judged-listed (c .figures) (c .terms .rates))
+    either (not (eqb (c .seen) (yearDays (c .terms .rates .year)))) (leaf refl) (judged-listed (c .terms .edition) (c .figures) (c .terms .rates))
 
-calendar-listed : (y : ℕ) (hs : List ℕ) (d : ℕ) → Carries (calendarAnswer y hs d) (zeroAlone (kindCode (kindOf y hs d) ∷ []))
+calendar-listed : (ed : Edition) (y : ℕ) (hs : List ℕ) (d : ℕ) → Carries (calendarAnswer ed y hs d) (zeroAlone (kindCode (kindOf y hs d) ∷ []))
 unfolding calendarAnswer
-calendar-listed y hs d =
-    either (yearOut y) (leaf refl) (either (badHolidays y hs) (leaf refl) (either (dayOut y d) (leaf refl) (leaf refl)))
+calendar-listed ed y hs d =
+    either (lacksYear ed y) (leaf refl) (either (badHolidays y hs) (leaf refl) (either (dayOut y d) (leaf refl) (leaf refl)))
 
 -- the place that a column begins with is the first illegal reading's
 record Found (place : Place) (First : ℕ → ℕ → Type 0) : Type 0 where
@@ -299,12 +301,12 @@ found-in run limit xs s =
     }
 
 windows-place :
-    (y level : ℕ) (xs buffer : List ℕ)
-    → windowsAnswer y level xs (length buffer) .number ≡ 5
+    (ed : Edition) (y level : ℕ) (xs buffer : List ℕ)
+    → windowsAnswer ed y level xs (length buffer) .number ≡ 5
     → Found (firstIllegal (Period y) gridMost xs) (FirstIllegalIn (Period y) gridMost xs)
-windows-place y level xs buffer e = go (windows-exactly y level xs buffer 5 .0 e)
+windows-place ed y level xs buffer e = go (windows-exactly ed y level xs buffer 5 .0 e)
   where
-    go : WindowsRow y level xs (length buffer) 5 → Found (firstIllegal (Period y) gridMost xs) (FirstIllegalIn (Period y) gridMost xs)
+    go : WindowsRow ed y level xs (length buffer) 5 → Found (firstIllegal (Period y) gridMost xs) (FirstIllegalIn (Period y) gridMost xs)
     go (five c v) = found-in (Period y) gridMost xs v
 
 -- reading a sheet and opening are never answered 5
@@ -341,35 +343,40 @@ found-today :
     (run : Run) (limit n : ℕ) (day : List ℕ) {k : ℕ}
     → NextRow run limit n day k
     → k ≡ 5
-    → Found (record { day = n + 1; position = firstAbove limit day }) (FirstToday limit n day)
+    → Found (record { day = n + 1; position = firstAbove limit day }) (FirstOfDay limit n day)
 found-today run limit n day (thirteen h) e = absurd (omega arith)
 found-today run limit n day (four h l) e = absurd (omega arith)
 found-today run limit n day (five c v) e =
-    record { on = n; at = firstAbove limit day; is = refl; first = record { today = refl; first = first-illegal limit day (some-illegal limit day .1 v) } }
+    record { on = n; at = firstAbove limit day; is = refl; first = record { on-day = refl; first = first-illegal limit day (some-illegal limit day .1 v) } }
 found-today run limit n day (zero c v) e = absurd (omega arith)
 
 customer-today :
     (c : Customer) (day : List ℕ)
     → customerDayAnswer c day .number ≡ 5
-    → Found (record { day = c .seen + 1; position = firstAbove customerMost day }) (FirstToday customerMost (c .seen) day)
+    → Found (record { day = c .seen + 1; position = firstAbove customerMost day }) (FirstOfDay customerMost (c .seen) day)
 customer-today c day e = go (customer-day-exactly c day 5 .0 e) refl
   where
     go :
         {n : ℕ}
         → CustomerDayRow c day n
         → n ≡ 5
-        → Found (record { day = c .seen + 1; position = firstAbove customerMost day }) (FirstToday customerMost (c .seen) day)
+        → Found (record { day = c .seen + 1; position = firstAbove customerMost day }) (FirstOfDay customerMost (c .seen) day)
     go (over o) e = absurd (omega arith)
     go (next l r) e = found-today (Year (c .terms .rates .year)) customerMost (c .seen) day r e
 
 pub carried : Carried ours
 carried =
     record {
-      calendar = calendar-listed;
-      read = λ b. zero-alone-all (readAnswer b) (reads (zeroAlone []) refl refl refl refl refl b) (read-zero today b);
-      write = writes (zeroAlone []) (λ n e. refl);
-      windows = λ y level xs buffer. placed (windows-listed y level xs (length buffer)) (windows-place y level xs buffer);
-      grid-open = grid-opens (zeroAlone []) (λ n e. refl);
+      load = load-listed;
+      calendar = λ es y. calendar-listed (editionOf es y) y;
+      read =
+          λ es b. let ed = sheetEdition es b in
+          zero-alone-all (readAnswer ed b) (reads (zeroAlone []) refl refl refl refl refl ed b) (read-zero ed b);
+      write = λ es s. writes (zeroAlone []) (λ n e. refl) (editionOf es (s .year)) s;
+      windows =
+          λ es y level xs buffer. let ed = editionOf es y in
+          placed (windows-listed ed y level xs (length buffer)) (windows-place ed y level xs buffer);
+      grid-open = λ es y. grid-opens (zeroAlone []) (λ n e. refl) (editionOf es y) y;
       grid-day =
           λ g day. placed (next-listed (Period (g .year)) gridMost (g .seen) day)
           (λ e. found-today (Period (g .year)) gridMost (g .seen) day (next-exactly (Period (g .year)) gridMost (g .seen) day 5 .0 e) refl);

@@ -3,6 +3,7 @@
 -- Assumes nothing.
 use mathlib.Core.Path.{_≡_, refl}
 use Rattle.ranges.specs.Ranges.{joined, largestOver, sumOver, countOver, anyOver, table, inBase}
+use Rattle.answers.specs.Edition.{today}
 use Rattle.answers.specs.Ruling.{shareOf, lacksYear, levelOut}
 use Rattle.dates.specs.Dates.{leap, leapDay, daysTo, weekdayOf}
 use Rattle.holidays.specs.Holidays.{listed, badHolidays}
@@ -11,18 +12,18 @@ use Rattle.calendar.specs.Answer.{dayOut, calendarAnswer}
 use Rattle.readings.specs.Legal.{highestOf}
 use Rattle.sheet.specs.Windows.{flatWindows}
 use Rattle.sheet.specs.Bytes.{windowByte, bytesOf, sheetBytes}
-use Rattle.windows.specs.Chosen.{aboveLineBy, comesBefore, rank, kept, keptOfBy, chosenOfBy}
+use Rattle.windows.specs.Chosen.{aboveLine, comesBefore, rank, kept, keptOf, chosenOf}
 use Rattle.windows.proofs.Equal.{first-forty}
 use Rattle.grid.specs.Answers.{curveOf, curvesOf, sheetOf}
 use Rattle.tariff.specs.Prices.{rowOut, pricesOut}
-use Rattle.tariff.specs.Charges.{chargeFor, generalBy, reducedBy, floorOf, chargeBy}
-use Rattle.tariff.specs.Decision.{eligibleRules, chargeRules, judgeRules, judgeAnswerBy}
+use Rattle.tariff.specs.Charges.{chargeFor, general, reduced, floorOf, charge}
+use Rattle.tariff.specs.Decision.{eligibleRules, chargeRules, judgeRules, judgeAnswer}
 use Rattle.demands.specs.Cases.{exampleCurves, exampleSheet, AllHold}
 
 -- case 12
-pub example-bytes : sheetBytes (sheetOf 2025 5 exampleCurves) ≡ exampleSheet
+pub example-bytes : sheetBytes (sheetOf today 2025 5 exampleCurves) ≡ exampleSheet
 unfolding
-    joined largestOver sumOver countOver table inBase highestOf flatWindows windowByte bytesOf aboveLineBy comesBefore rank kept keptOfBy chosenOfBy
+    joined largestOver sumOver countOver table inBase highestOf flatWindows windowByte bytesOf aboveLine comesBefore rank kept keptOf chosenOf
     curveOf curvesOf sheetOf
 example-bytes = refl
 
@@ -30,7 +31,7 @@ pub all-hold : AllHold
 unfolding
     joined largestOver sumOver countOver anyOver table inBase shareOf lacksYear levelOut leap leapDay daysTo weekdayOf listed badHolidays
     christmas free candidate bridge kindBy dayOut calendarAnswer
-    highestOf flatWindows windowByte bytesOf aboveLineBy comesBefore rank kept keptOfBy chosenOfBy curveOf curvesOf sheetOf rowOut pricesOut
-    chargeFor generalBy reducedBy floorOf chargeBy eligibleRules chargeRules judgeRules judgeAnswerBy
+    highestOf flatWindows windowByte bytesOf aboveLine comesBefore rank kept keptOf chosenOf curveOf curvesOf sheetOf rowOut pricesOut
+    chargeFor general reduced floorOf charge eligibleRules chargeRules judgeRules judgeAnswer
 all-hold u =
     (refl, (refl, (refl, (refl, (refl, (refl, (refl, (refl, (refl, (refl, (refl, (refl, (refl, (refl, (refl, (refl, (first-forty (u .peak) (u .positive), (refl, (refl, (refl, (refl, (refl, (refl, (refl, (example-bytes, tt)))))))))))))))))))))))))

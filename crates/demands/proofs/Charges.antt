@@ -4,36 +4,36 @@ use mathlib.Core.Path.{_≡_, refl}
 use mathlib.Core.Bool.{true, false}
 use Prim.Native.Nat.{ℕ, _*_}
 use native.Mathlib.Omega.{arith}
-use borrow.Author.Tests.{le-ltb}
-use Rattle.answers.specs.Edition.{today}
+use borrow.Author.Tests.{lt-ltb, le-ltb}
+use Rattle.answers.specs.declared.Edition.{Edition}
 use Rattle.tariff.specs.declared.Row.{Row}
 use Rattle.tariff.specs.declared.Rates.{Rates}
 use Rattle.tariff.specs.declared.Figures.{Figures}
-use Rattle.tariff.specs.Charges.{fewHours, chargeFor, general, generalBy, reduced, reducedBy, floorOf, charge, chargeBy}
-use Rattle.demands.proofs.Forms.{today-forms}
+use Rattle.tariff.specs.Charges.{fewHours, chargeFor, general, reduced, floorOf, charge}
+use Rattle.tariff.proofs.Charges.{floor-least}
 use Rattle.demands.specs.Charges.{Rounded, Few, Many, GeneralIs, ReducedIs, ChargeIs, ToTheCent}
 
 rounded : (power : ℕ) (row : Row) (sum : ℕ) → Rounded power row sum (chargeFor power row sum)
 unfolding chargeFor
 rounded power row sum = record { low = omega arith; high = omega arith }
 
-module _ (f : Figures) (r : Rates) where
-  few : Few f r → fewHours f ≡ true
-  few h = today-forms .hours f .1 h
+module _ (ed : Edition) (f : Figures) (r : Rates) where
+  few : Few ed f r → fewHours ed f ≡ true
+  few h = lt-ltb (f .sum) (4 * ed .hours * f .peak) h
 
-  many : Many f r → fewHours f ≡ false
-  many h = le-ltb (f .sum) (10000 * f .peak) h
+  many : Many ed f r → fewHours ed f ≡ false
+  many h = le-ltb (f .sum) (4 * ed .hours * f .peak) h
 
-  general-is : GeneralIs f r (general f r)
-  unfolding generalBy
+  general-is : GeneralIs ed f r (general ed f r)
+  unfolding general
   general-is =
       record {
         few = λ h. rw (few h) (rounded (f .peak) (r .prices .few) (f .sum));
         many = λ h. rw (many h) (rounded (f .peak) (r .prices .many) (f .sum));
       }
 
-  reduced-is : ReducedIs f r (reduced f r)
-  unfolding reducedBy
+  reduced-is : ReducedIs ed f r (reduced ed f r)
+  unfolding reduced
   reduced-is =
       record {
         few = λ h e. rw (few h, e) (rounded (f .high) (r .prices .few) (f .sum));
@@ -41,15 +41,15 @@ module _ (f : Figures) (r : Rates) where
         many = λ h. rw (many h) (rounded (f .high) (r .prices .many) (f .sum));
       }
 
-  charge-is : ChargeIs f r (general f r) (charge f r)
-  unfolding chargeBy
+  charge-is : ChargeIs ed f r (general ed f r) (charge ed f r)
+  unfolding charge
   charge-is =
       record {
-        reduced = reduced f r;
-        floor = floorOf today (general f r);
+        reduced = reduced ed f r;
+        floor = floorOf ed (general ed f r);
         reduced-is = reduced-is;
-        fifth = today-forms .fifth (general f r);
-        least = today-forms .least (general f r);
+        share = floor-least ed (general ed f r) .0;
+        least = floor-least ed (general ed f r) .1;
         larger = refl;
       }
 

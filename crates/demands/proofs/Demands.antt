@@ -7,6 +7,7 @@ use Rattle.demands.proofs.Refusals.{left-as-before, fixed-state}
 use Rattle.demands.proofs.Carried.{carried}
 use Rattle.demands.proofs.Calendar.{calendar}
 use Rattle.demands.proofs.Numbers.{numbers, dates}
+use Rattle.demands.proofs.Editions.{picking, loadings, same-under}
 use Rattle.demands.proofs.Forms.{today-forms}
 use Rattle.demands.proofs.Charges.{to-the-cent}
 use Rattle.demands.proofs.Fair.{fairness}
@@ -26,6 +27,9 @@ met =
       carried = carried;
       numbers = numbers;
       today-forms = today-forms;
+      picking = picking;
+      loadings = loadings;
+      same-under = same-under;
       dates = dates;
       plain-days = plain-days;
       each-quarter = each-quarter;

@@ -14,8 +14,7 @@ use Rattle.ranges.specs.Ranges.{sumOver}
 use Rattle.ranges.proofs.Largest.{largest-le}
 use Rattle.ranges.proofs.Bools.{both, pair}
 use Rattle.ranges.proofs.Tests.{any-at, any-fails}
-use Rattle.answers.specs.Edition.{today}
-use Rattle.answers.specs.Ruling.{ChargeYear}
+use Rattle.answers.specs.Ruling.{HasYear}
 use Rattle.answers.specs.Said.{only}
 use Rattle.dates.specs.Dates.{seasonOf}
 use Rattle.day_kinds.specs.Kinds.{kindCode, kindOf, carries}
@@ -28,7 +27,7 @@ use Rattle.readings.proofs.Runs.{run-all, year-run}
 use Rattle.readings.proofs.Legal.{reading-le}
 use Rattle.sheet.specs.Windows.{isSet}
 use Rattle.sheet.specs.Bytes.{sheetIn}
-use Rattle.sheet.specs.Answers.{readAnswer, readSheet, readSheetBy}
+use Rattle.sheet.specs.Answers.{readAnswer, readSheet}
 use Rattle.sheet.specs.Rows.{ReadRow}
 use Rattle.sheet.specs.Rows.ReadRow.{malformed, one, two, full, zero}
 use Rattle.sheet.proofs.Exactly.{read-exactly}
@@ -41,7 +40,7 @@ use Rattle.figures.proofs.Sum.{sum-flat}
 use Rattle.figures.proofs.Peak.{first-place, nowhere-in}
 use Rattle.year_figures.specs.Counts.{setOn}
 use Rattle.terms.specs.declared.Terms.{Terms}
-use Rattle.terms.specs.Basis.{Basis, basisYear, basisRates}
+use Rattle.terms.specs.Basis.{Basis, basisYear, basisRates, basisEdition}
 use Rattle.terms.specs.Opening.{termsOf, customerOpenAnswer}
 use Rattle.terms.specs.Rows.{LegalBasis}
 use Rattle.terms.proofs.Exactly.{open-legal}
@@ -76,7 +75,7 @@ module _ (k : Basis) (xs : List ℕ) where
   -- the decision over the figures is 8 exactly when none is
   module _ (l : LegalYear k xs) where
     abbrev Row : ℕ → Type 0
-    Row n = JudgeRow today (basisFigures k xs) (basisRates k) n
+    Row n = JudgeRow (basisEdition k) (basisFigures k xs) (basisRates k) n
 
     eight-none : {n : ℕ} → Row n → n ≡ 8 → basisFigures k xs .any ≡ false
     eight-none (two a) e = absurd (omega arith)
@@ -89,7 +88,7 @@ module _ (k : Basis) (xs : List ℕ) where
 
     told : (n : ℕ) → (decideAnswer k xs .number ≡ n) ↔ Row n
     told n =
-        let j = judge-exactly today (basisFigures k xs) (basisRates k) n in
+        let j = judge-exactly (basisEdition k) (basisFigures k xs) (basisRates k) n in
         (λ e. j .0 (sym (number-is (whole-one k l)) ∙ e), λ r. number-is (whole-one k l) ∙ j .1 r)
 
     eight-when : (decideAnswer k xs .number ≡ 8) ↔ ((d p : ℕ) → d < basisDays k → p < dayLen (basisRun k) d → inWindow k d p ≡ false)
@@ -122,28 +121,30 @@ module _ (k : Basis) (o : customerOpenAnswer k ≡ only 0) where
   legal : LegalBasis k
   legal = open-legal k (number-is o)
 
-  legal-year : {n : ℕ} → ReadRow today (k .sheet) n → n ≡ 0 → ChargeYear (basisYear k)
+  legal-year : {n : ℕ} → ReadRow (basisEdition k) (k .sheet) n → n ≡ 0 → HasYear (basisEdition k) (basisYear k)
   legal-year (malformed f) e = absurd (omega arith)
   legal-year (one f y) e = absurd (omega arith)
   legal-year (two f y l) e = absurd (omega arith)
   legal-year (full f y l w) e = absurd (omega arith)
   legal-year (zero f y l w) e = y
 
-  shown : readSheet (k .sheet) ≡ sheetIn (k .sheet)
-  unfolding readSheetBy
-  shown = handed (readAnswer (k .sheet)) (sheetIn (k .sheet)) _ (read-exactly today (k .sheet) 0 .1 (legal .read))
+  shown : readSheet (basisEdition k) (k .sheet) ≡ sheetIn (k .sheet)
+  unfolding readSheet
+  shown = handed (readAnswer (basisEdition k) (k .sheet)) (sheetIn (k .sheet)) _ (read-exactly (basisEdition k) (k .sheet) 0 .1 (legal .read))
 
   module _ (d p : ℕ) (l : d < basisDays k) where
-    answered : calendarAnswer (basisYear k) hs (d + 1) .number ≡ 0
-    answered = exactly (basisYear k) hs (d + 1) 0 .1 (zero (legal-year (legal .read) refl) (legal .holidays) (record { from = omega arith; to = omega arith }))
+    answered : calendarAnswer (basisEdition k) (basisYear k) hs (d + 1) .number ≡ 0
+    answered =
+        exactly (basisEdition k) (basisYear k) hs (d + 1) 0 .1
+        (zero (legal-year (legal .read) refl) (legal .holidays) (record { from = omega arith; to = omega arith }))
 
-    kind-is : calendarAnswer (basisYear k) hs (d + 1) .figures ≡ kindCode (kindOf (basisYear k) hs (d + 1)) ∷ []
-    kind-is = carried .calendar (basisYear k) hs (d + 1) .listed ∙ simp (eq-eqb _ _ answered)
+    kind-is : calendarAnswer (basisEdition k) (basisYear k) hs (d + 1) .figures ≡ kindCode (kindOf (basisYear k) hs (d + 1)) ∷ []
+    kind-is = carried .calendar (k .editions) (basisYear k) hs (d + 1) .listed ∙ simp (eq-eqb _ _ answered)
 
     by-answers :
         (inWindow k d p ≡ true)
-        ↔ ((calendarAnswer (basisYear k) hs (d + 1) .figures ≡ 1 ∷ [])
-        × (isSet (readSheet (k .sheet) .windows) (seasonOf (basisYear k) (d + 1)) (quarterOf (basisRun k) d p) ≡ true))
+        ↔ ((calendarAnswer (basisEdition k) (basisYear k) hs (d + 1) .figures ≡ 1 ∷ [])
+        × (isSet (readSheet (basisEdition k) (k .sheet) .windows) (seasonOf (basisYear k) (d + 1)) (quarterOf (basisRun k) d p) ≡ true))
     unfolding setOn
     by-answers =
         rw (kind-is, shown) (

@@ -17,7 +17,7 @@ use Rattle.readings.specs.declared.Run.{Run}
 use Rattle.readings.specs.Runs.{runDays, dayLen, dayStart, runReadings, reading}
 use Rattle.readings.specs.Legal.{peakOf}
 use Rattle.readings.specs.Illegal.{LegalSeries}
-use Rattle.readings.specs.Part.{noPart, dayPart}
+use Rattle.readings.specs.Part.{noDay, runPart}
 use Rattle.readings.specs.Days.{offered, daysOf, AsWhole}
 use Rattle.readings.proofs.Runs.{len-some, start-more, start-below, run-all}
 use Rattle.readings.proofs.Legal.{reading-le}
@@ -77,16 +77,16 @@ module _ (run : Run) (many : 1 < runDays run) where
       (omega (arith, ends-last v, reading-le run (ends v) (runDays run) last (dayLen run last - 1) (omega arith) (omega (arith, len-some run last))))
 
   -- the days before the last do not tell them apart
-  part-same : (v w d : ℕ) → d < last → dayPart run (ends v) (d + 1) ≡ dayPart run (ends w) (d + 1)
+  part-same : (v w d : ℕ) → d < last → runPart run (ends v) (d + 1) ≡ runPart run (ends w) (d + 1)
   part-same v w d h =
       ⊎-elim (λ t. sym (part-none run (ends v) (d + 1) t) ∙ part-none run (ends w) (d + 1) t)
-      (λ f. let n = has-day run (d + 1) f in cut n v ∙ sym (cut n w)) (decided (noPart run (d + 1)))
+      (λ f. let n = has-day run (d + 1) f in cut n v ∙ sym (cut n w)) (decided (noDay run (d + 1)))
     where
-      cut : HasDay run (d + 1) → (u : ℕ) → dayPart run (ends u) (d + 1) ≡ take (dayLen run d) (drop (dayStart run d) before)
+      cut : HasDay run (d + 1) → (u : ℕ) → runPart run (ends u) (d + 1) ≡ take (dayLen run d) (drop (dayStart run d) before)
       cut n u =
           let inside : dayStart run d + dayLen run d ≤ length before = omega (arith, before-long, start-below run last d h, end-is, len-some run last) in
           part-of run (ends u) d
-          (record { allowed = n .allowed; on = omega (arith, n .to); inside = omega (arith, length-append before (u ∷ [])) })
+          (record { on = omega (arith, n .to); inside = omega (arith, length-append before (u ∷ [])) })
           ∙ ap (take (dayLen run d)) (drop-append-le (dayStart run d) before (u ∷ []) (omega arith))
           ∙ take-append-le (dayLen run d) (drop (dayStart run d) before) (u ∷ []) (omega (arith, length-drop (dayStart run d) before))
 

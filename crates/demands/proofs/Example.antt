@@ -1,10 +1,11 @@
 -- The sheet of the example of Rule 10.6: that it is read, its year and its share; and with no holidays which of the
 -- first days of 2025 carry windows.
 -- Assumes nothing.
-use mathlib.Core.Path.{_≡_, refl}
+use mathlib.Core.Path.{_≡_, refl, ap, _∙_}
 use mathlib.Core.Bool.{true, false}
 use mathlib.Core.List.{List, []}
 use Prim.Native.Nat.{ℕ, _+_, _<_}
+use native.Mathlib.Omega.{arith}
 use lib.ListN.{getD}
 use Rattle.ranges.specs.Ranges.{joined, sumOver, countOver, anyOver, table, inBase}
 use Rattle.ranges.proofs.Tables.{getD-table}
@@ -15,10 +16,12 @@ use Rattle.dates.specs.Dates.{leap, leapDay, daysTo, monthOf, seasonOf, weekday
 use Rattle.holidays.specs.Holidays.{listed, badHolidays}
 use Rattle.day_kinds.specs.Kinds.{christmas, free, candidate, bridge, kindBy, carries, windowDays}
 use Rattle.readings.specs.Runs.{changeOf, lenBy, quarterIn}
+use Rattle.editions.specs.Editions.{todays, editionOf}
+use Rattle.editions.proofs.Picked.{today-picked}
 use Rattle.sheet.specs.Windows.{isSet, setIn, tooFull}
 use Rattle.encoding.specs.Bytes.{twoAt, otherMark}
 use Rattle.sheet.specs.Bytes.{windowsIn, sheetIn}
-use Rattle.sheet.specs.Answers.{readAnswer, readAnswerBy}
+use Rattle.sheet.specs.Answers.{readAnswer}
 use Rattle.year_figures.specs.Counts.{setOn}
 use Rattle.demands.specs.Cases.{exampleSheet}
 
@@ -26,13 +29,20 @@ use Rattle.demands.specs.Cases.{exampleSheet}
 unfoldable pub example : List ℕ
 example = exampleSheet
 
-pub example-read : readAnswer example ≡ only 0
-unfolding example readAnswerBy otherMark twoAt lacksYear levelOut tooFull setIn windowsIn table inBase anyOver countOver sumOver joined
+pub example-read : readAnswer today example ≡ only 0
+unfolding example readAnswer otherMark twoAt lacksYear levelOut tooFull setIn windowsIn table inBase anyOver countOver sumOver joined
 example-read = refl
 
 pub example-year : sheetIn example .year ≡ 2025
 unfolding example twoAt inBase joined
 example-year = refl
+
+-- under today's list 2025 has today's edition, and so has the example's year
+pub today-2025 : editionOf todays 2025 ≡ today
+today-2025 = today-picked 2025 (record { allowed = record { from = omega arith; to = omega arith }; own = record { from = omega arith; to = omega arith } })
+
+pub example-edition : editionOf todays (sheetIn example .year) ≡ today
+example-edition = ap (editionOf todays) example-year ∙ today-2025
 
 pub example-share : shareOf today (sheetIn example .level) ≡ 20
 unfolding example shareOf

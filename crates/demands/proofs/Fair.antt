@@ -7,7 +7,7 @@ use Prim.Native.Nat.{ℕ}
 use native.Mathlib.Omega.{arith}
 use Rattle.ranges.specs.Limits.{Within}
 use Rattle.answers.specs.declared.Edition.{Edition}
-use Rattle.answers.specs.Edition.{today}
+use Rattle.answers.specs.declared.Edition.{Edition}
 use Rattle.answers.specs.Ruling.{Level}
 use Rattle.answers.specs.Said.{Said, only}
 use Rattle.readings.proofs.Runs.{year-run}
@@ -22,7 +22,7 @@ use Rattle.tariff.specs.Rows.JudgeRow.{two, six, eight, nine, ten, eleven, zero
 use Rattle.tariff.proofs.Answered.{number-is}
 use Rattle.tariff.proofs.Exactly.{judge-exactly}
 use Rattle.tariff.proofs.Demand.{pays-is}
-use Rattle.terms.specs.Basis.{Basis, basisYear, basisRates}
+use Rattle.terms.specs.Basis.{Basis, basisYear, basisRates, basisEdition}
 use Rattle.terms.specs.Opening.{termsOf, customerOpenAnswer}
 use Rattle.terms.proofs.Exactly.{open-legal}
 use Rattle.customer.specs.Answers.{judged, decideAnswer}
@@ -51,12 +51,12 @@ legal-basis k xs l = legal-opening k (l .opens)
 
 -- under a legal level and legal prices figures are answered 0 or 8 to 11
 pub judged-numbers :
-    (f : Figures) (r : Rates)
+    (ed : Edition) (f : Figures) (r : Rates)
     → LegalRates r
-    → (judgeAnswer f r .number ≡ 0) ⊎ Within 8 11 (judgeAnswer f r .number)
-judged-numbers f r l = go (judge-exactly today f r _ .0 refl)
+    → (judgeAnswer ed f r .number ≡ 0) ⊎ Within 8 11 (judgeAnswer ed f r .number)
+judged-numbers ed f r l = go (judge-exactly ed f r _ .0 refl)
   where
-    go : {n : ℕ} → JudgeRow today f r n → (n ≡ 0) ⊎ Within 8 11 n
+    go : {n : ℕ} → JudgeRow ed f r n → (n ≡ 0) ⊎ Within 8 11 n
     go (two a) = absurd (a (l .legal-level))
     go (six a b) = absurd (b (l .legal-prices))
     go (eight h n) = inr (record { from = omega arith; to = omega arith })
@@ -73,19 +73,20 @@ given-one k l (days ds e full) =
     ∙ ap (decideAnswer k) e
     ∙ whole-one k l
 
-fair : (k : Basis) (xs : List ℕ) (a : Said) → LegalYear k xs → Given ours k xs a → a .number ≡ 0 → FairCharge a
+fair : (k : Basis) (xs : List ℕ) (a : Said) → LegalYear k xs → Given ours k xs a → a .number ≡ 0 → FairCharge (basisEdition k) a
 fair k xs a l g z =
     let one = given-one k l g in
+    let ed = basisEdition k in
     let f = basisFigures k xs in
-    let c = chargedOf f (general f (basisRates k)) (charge f (basisRates k)) in
-    let is : a ≡ withCharge c = one ∙ said-is _ (yearColumn f (basisRates k)) 0 (carried .judge f (basisRates k)) (sym (number-is one) ∙ z) in
+    let c = chargedOf f (general ed f (basisRates k)) (charge ed f (basisRates k)) in
+    let is : a ≡ withCharge c = one ∙ said-is _ (yearColumn ed f (basisRates k)) 0 (carried .judge ed f (basisRates k)) (sym (number-is one) ∙ z) in
     let fair = accepted-fair k xs c (sym is ∙ one) in
     record {
       c = c .charge;
       g = c .peaks .plain .general;
       rest = _;
       carried = ap (λ (s : Said). s .figures) is;
-      fifth = omega (arith, fair .floor);
+      share = fair .floor;
       below = fair .reduction;
     }
 
@@ -104,7 +105,7 @@ fairness =
       stays-accepted = λ k xs ys a b t none z.
           number-is (given-one k (t .second) (t .second-given))
           ∙ stays-accepted k (t .alike) none (sym (number-is (given-one k (t .first) (t .first-given))) ∙ z);
-      answered = λ k xs a l g. rw (given-one k l g) (judged-numbers (basisFigures k xs) _ (legal-basis k xs l));
-      pays = λ k xs a l g. rw (given-one k l g) (pays-is today _ (legal-basis k xs l) (basisFigures k xs));
+      answered = λ k xs a l g. rw (given-one k l g) (judged-numbers (basisEdition k) (basisFigures k xs) _ (legal-basis k xs l));
+      pays = λ k xs a l g. rw (given-one k l g) (pays-is (basisEdition k) _ (legal-basis k xs l) (basisFigures k xs));
       accepted-fair = fair;
     }

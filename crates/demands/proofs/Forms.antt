@@ -7,13 +7,13 @@ use borrow.Author.Tests.{lt-ltb, ltb-true}
 use lib.Dec.{ltb}
 use Rattle.ranges.proofs.Bools.{same-order}
 use Rattle.answers.specs.Edition.{wholeShare, today}
-use Rattle.windows.specs.Chosen.{aboveLineBy, aboveLine}
+use Rattle.windows.specs.Chosen.{aboveLine}
 use Rattle.tariff.proofs.Charges.{floor-least}
 use Rattle.demands.specs.Forms.{TodayForms}
 
 -- the test of the line, in twentieths
-pub line-form : (peak value : ℕ) → aboveLine peak value ≡ ltb (19 * peak) (20 * value)
-unfolding aboveLineBy
+pub line-form : (peak value : ℕ) → aboveLine today peak value ≡ ltb (19 * peak) (20 * value)
+unfolding aboveLine
 line-form peak value =
     same-order (today .line * peak) (wholeShare * value) (19 * peak) (20 * value) (λ l. omega arith) (λ l. omega arith)
 

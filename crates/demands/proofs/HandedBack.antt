@@ -9,8 +9,10 @@ use native.Mathlib.Decide.{decLt, ℕ-discrete}
 use native.Mathlib.Omega.{arith}
 use lib.ListN.{length}
 use Rattle.answers.specs.declared.Edition.{Edition}
-use Rattle.answers.specs.Ruling.{ChargeYear, Level}
+use Rattle.answers.specs.Ruling.{HasYear, Level}
 use Rattle.answers.specs.Said.{Said, only}
+use Rattle.editions.specs.declared.Editions.{Editions}
+use Rattle.editions.specs.Editions.{editionOf}
 use Rattle.periods.specs.Period.{periodDays}
 use Rattle.readings.specs.Days.{offered, takenDays, takenReadings}
 use Rattle.readings.proofs.Runs.{period-run, year-run}
@@ -54,47 +56,52 @@ zero-alone-zero : {a : Said} → a .number ≡ 0 → a .figures ≡ zeroAlone []
 zero-alone-zero {a} z l = said-is a (zeroAlone []) 0 (record { listed = l }) z
 
 -- the grid
-module _ (y level : ℕ) (days : List (List ℕ)) where
-  abbrev grid : Grid
-  grid = gridAfter ours y level days
+module _ (es : Editions) (y level : ℕ) (days : List (List ℕ)) where
+  abbrev ed : Edition
+  ed = editionOf es y
 
-  grid-shut : Refused (gridOpenAnswer y level) → grid ≡ shutGrid
+  abbrev grid : Grid
+  grid = gridAfter ours es y level days
+
+  grid-shut : Refused (gridOpenAnswer ed y level) → grid ≡ shutGrid
   grid-shut r =
-      ap (λ (g : Grid). offered dayGrid g days) (fixed-state .grid-open y level r)
+      ap (λ (g : Grid). offered dayGrid g days) (fixed-state .grid-open es y level r)
       ∙ offered-stays dayGrid shutGrid (λ day. left-as-before .grid-day shutGrid day (λ z. omega (arith, number-is (fixed-state .grid-day day)))) days
 
-  module _ (z : gridOpenAnswer y level .number ≡ 0) where
-    grid-holds : Holds (gridMachine y level) (takenReadings gridDayAnswer dayGrid (openGrid y level) days)
-        (length (takenDays gridDayAnswer dayGrid (openGrid y level) days)) grid
-    grid-holds = holds-taken (gridMachine y level) (openGrid y level) (opens-empty y level (zero-alone-zero z (carried .grid-open y level .listed))) days
+  module _ (z : gridOpenAnswer ed y level .number ≡ 0) where
+    grid-holds : Holds (gridMachine ed y level) (takenReadings gridDayAnswer dayGrid (openGrid ed y level) days)
+        (length (takenDays gridDayAnswer dayGrid (openGrid ed y level) days)) grid
+    grid-holds =
+        let opened = zero-alone-zero z (carried .grid-open es y level .listed) in
+        holds-taken (gridMachine ed y level) (openGrid ed y level) (opens-empty ed y level opened) days
 
-    legal-grid : {n : ℕ} → OpenRow y level n → n ≡ 0 → ChargeYear y × Level level
+    legal-grid : {n : ℕ} → OpenRow ed y level n → n ≡ 0 → HasYear ed y × Level level
     legal-grid (one a) e = absurd (omega arith)
     legal-grid (two a b) e = absurd (omega arith)
     legal-grid (zero a b) e = (a, b)
 
-    grid-row : (xs : List ℕ) (k room : ℕ) {n : ℕ} → CloseRow (gridHolding y level xs k) room n → (n ≡ 1 → ⊥) × (n ≡ 2 → ⊥)
+    grid-row : (xs : List ℕ) (k room : ℕ) {n : ℕ} → CloseRow (gridHolding ed y level xs k) room n → (n ≡ 1 → ⊥) × (n ≡ 2 → ⊥)
     grid-row xs k room (fourteen h) = ((λ e. omega arith), (λ e. omega arith))
     grid-row xs k room (early h f) = ((λ e. omega arith), (λ e. omega arith))
     grid-row xs k room (seven c h) = ((λ e. omega arith), (λ e. omega arith))
-    grid-row xs k room (one c h a) = absurd (a (legal-grid (open-exactly y level 0 .0 z) refl .0))
-    grid-row xs k room (two c h a b) = absurd (b (legal-grid (open-exactly y level 0 .0 z) refl .1))
+    grid-row xs k room (one c h a) = absurd (a (legal-grid (open-exactly ed y level 0 .0 z) refl .0))
+    grid-row xs k room (two c h a b) = absurd (b (legal-grid (open-exactly ed y level 0 .0 z) refl .1))
     grid-row xs k room (zero c h a b) = ((λ e. omega arith), (λ e. omega arith))
 
   grid-thirteen :
       (day : List ℕ)
       → gridDayAnswer grid day .number ≡ 13
-      → Refused (gridOpenAnswer y level) ⊎ (length (takenDays gridDayAnswer dayGrid (openGrid y level) days) ≡ periodDays y)
-  grid-thirteen day e = go (ℕ-discrete (gridOpenAnswer y level .number) 0)
+      → Refused (gridOpenAnswer ed y level) ⊎ (length (takenDays gridDayAnswer dayGrid (openGrid ed y level) days) ≡ periodDays y)
+  grid-thirteen day e = go (ℕ-discrete (gridOpenAnswer ed y level .number) 0)
     where
       go :
-          Dec (gridOpenAnswer y level .number ≡ 0)
-          → Refused (gridOpenAnswer y level) ⊎ (length (takenDays gridDayAnswer dayGrid (openGrid y level) days) ≡ periodDays y)
+          Dec (gridOpenAnswer ed y level .number ≡ 0)
+          → Refused (gridOpenAnswer ed y level) ⊎ (length (takenDays gridDayAnswer dayGrid (openGrid ed y level) days) ≡ periodDays y)
       go (no r) = inl r
-      go (yes z) = inr (thirteen-full (gridMachine y level) (grid-holds z) day e ∙ period-run y)
+      go (yes z) = inr (thirteen-full (gridMachine ed y level) (grid-holds z) day e ∙ period-run y)
 
   grid-never : (buffer : List ℕ) → (gridCloseAnswer grid (length buffer) .number ≡ 1 → ⊥) × (gridCloseAnswer grid (length buffer) .number ≡ 2 → ⊥)
-  grid-never buffer = go (ℕ-discrete (gridOpenAnswer y level .number) 0) (decLt (length buffer) sheetSize)
+  grid-never buffer = go (ℕ-discrete (gridOpenAnswer ed y level .number) 0) (decLt (length buffer) sheetSize)
     where
       not-so : {a : Said} {n k : ℕ} → a ≡ only n → (n ≡ k → ⊥) → a .number ≡ k → ⊥
       not-so e d f = d (sym (number-is e) ∙ f)
@@ -103,21 +110,21 @@ module _ (y level : ℕ) (days : List (List ℕ)) where
           {n : ℕ}
           → gridCloseAnswer shutGrid (length buffer) ≡ only n
           → 13 ≤ n
-          → Refused (gridOpenAnswer y level)
+          → Refused (gridOpenAnswer ed y level)
           → (gridCloseAnswer grid (length buffer) .number ≡ 1 → ⊥) × (gridCloseAnswer grid (length buffer) .number ≡ 2 → ⊥)
       shut-not e l r =
           let f = ap (λ (g : Grid). gridCloseAnswer g (length buffer)) (grid-shut r) ∙ e in
           (not-so f (λ k. omega arith), not-so f (λ k. omega arith))
 
       go :
-          Dec (gridOpenAnswer y level .number ≡ 0)
+          Dec (gridOpenAnswer ed y level .number ≡ 0)
           → Dec (length buffer < sheetSize)
           → (gridCloseAnswer grid (length buffer) .number ≡ 1 → ⊥) × (gridCloseAnswer grid (length buffer) .number ≡ 2 → ⊥)
       go (no r) (yes h) = shut-not (fixed-state .grid-short buffer h) (omega arith) r
       go (no r) (no h) = shut-not (fixed-state .grid-close buffer (omega arith)) (omega arith) r
       go (yes z) h =
           let holds = grid-holds z in
-          rw (holds .is) (grid-row z _ _ _ (close-exactly (gridHolding y level _ _) buffer _ .0 refl))
+          rw (holds .is) (grid-row z _ _ _ (close-exactly (gridHolding ed y level _ _) buffer _ .0 refl))
 
 -- a customer's year
 module _ (k : Basis) (days : List (List ℕ)) where

@@ -4,6 +4,7 @@ pub mod Calendar
 pub mod Fair
 pub mod HandedBack
 pub mod Sheets
+pub mod Editions
 pub mod Forms
 pub mod Windows
 pub mod Charges
@@ -22,5 +23,6 @@ pub mod Example
 pub mod WrongYears
 pub mod WrongDays
 pub mod Refusing
+pub mod Ignoring
 pub mod Wrong
 pub mod Cases

@@ -9,6 +9,7 @@ use lib.ListN.{length, getD}
 use Rattle.ranges.specs.Limits.{Within}
 use Rattle.answers.specs.declared.Edition.{Edition}
 use Rattle.answers.specs.Ruling.{gridMost, customerMost, missing}
+use Rattle.editions.specs.Editions.{editionOf}
 use Rattle.periods.specs.Period.{periodDays}
 use Rattle.readings.specs.declared.Run.{Run}
 use Rattle.readings.specs.declared.Run.the-variants.{Year, Period}
@@ -40,12 +41,15 @@ use Rattle.demands.specs.Module.{ours}
 use Rattle.demands.specs.Answers.{NeverLegal}
 
 -- windows
-module _ (y level : ℕ) (xs buffer : List ℕ) (d p : ℕ) (l : d < periodDays y) (h : p < dayLen (Period y) d) (e : reading (Period y) xs d p ≡ missing) where
-  not-done : WindowsRow y level xs (length buffer) 0 → ⊥
-  not-done (zero c low m) = omega (arith, e, low d p (omega (arith, period-run y)) h)
+module _
+    (ed : Edition) (y level : ℕ) (xs buffer : List ℕ) (d p : ℕ)
+    (l : d < periodDays y) (h : p < dayLen (Period y) d) (e : reading (Period y) xs d p ≡ missing)
+  where
+    not-done : WindowsRow ed y level xs (length buffer) 0 → ⊥
+    not-done (zero c low m) = omega (arith, e, low d p (omega (arith, period-run y)) h)
 
-  not-none : WindowsRow y level xs (length buffer) 7 → ⊥
-  not-none (seven c z) = omega (arith, e, z, reading-le (Period y) xs (periodDays y) d p l h)
+    not-none : WindowsRow ed y level xs (length buffer) 7 → ⊥
+    not-none (seven c z) = omega (arith, e, z, reading-le (Period y) xs (periodDays y) d p l h)
 
 -- a day
 next-taken :
@@ -99,9 +103,10 @@ module _ (k : Basis) (xs : List ℕ) (d p : ℕ) (l : d < basisDays k) (h : p < 
 pub never-legal : NeverLegal ours
 never-legal =
     record {
-      grid = λ y level xs buffer d p l h e.
-          ⊎-elim (λ z. not-done y level xs buffer d p l h e (windows-exactly y level xs buffer 0 .0 z))
-          (λ z. not-none y level xs buffer d p l h e (windows-exactly y level xs buffer 7 .0 z));
+      grid = λ es y level xs buffer d p l h e.
+          let ed = editionOf es y in
+          ⊎-elim (λ z. not-done ed y level xs buffer d p l h e (windows-exactly ed y level xs buffer 0 .0 z))
+          (λ z. not-none ed y level xs buffer d p l h e (windows-exactly ed y level xs buffer 7 .0 z));
       grid-day = λ g day p l e z.
           next-taken (Period (g .year)) gridMost (g .seen) day p (omega arith) l e (next-exactly (Period (g .year)) gridMost (g .seen) day 0 .0 z) refl;
       customer = λ k xs d p l h e. decide-other k xs d p l h e (decide-exactly k xs _ .0 refl);

@@ -25,7 +25,18 @@ pub numbers : Numbers
 unfolding shareOf
 numbers =
     record {
-      years = range 2014 2028;
+      edition-years = λ ed y. ((λ h. (h .allowed, h .own)), λ h. record { allowed = h .0; own = h .1 });
+      years = λ y. (
+        (λ h. (h .own .from, h .own .to)),
+        λ h. record { allowed = record { from = h .0; to = omega (arith, h .1) }; own = record { from = h .0; to = h .1 } },
+      );
+      editions-limit = refl;
+      first-year = refl;
+      last-year = refl;
+      percents = refl;
+      move-limit = refl;
+      reduction-limit = refl;
+      hours-limit = refl;
       levels = range 1 7;
       grid-limit = refl;
       customer-limit = refl;
@@ -35,6 +46,9 @@ numbers =
       holidays-limit = refl;
       quarters = refl;
       windows-limit = refl;
+      share-is = λ ed level. refl;
+      move-is = λ ed. refl;
+      reduction-is = λ ed. refl;
       share-1 = refl;
       share-2 = refl;
       share-3 = refl;
@@ -44,6 +58,9 @@ numbers =
       share-7 = refl;
       move = refl;
       reduction = refl;
+      line = refl;
+      floor = refl;
+      hours = refl;
       legal = today-legal;
     }
 

@@ -10,11 +10,12 @@ use native.Mathlib.Omega.{arith}
 use lib.Dec.{eqb}
 use lib.ListN.{getD}
 use Rattle.ranges.specs.Limits.{Within}
+use Rattle.answers.specs.declared.Edition.{Edition}
 use Rattle.answers.specs.Said.{Said}
 use Rattle.tariff.specs.declared.Rates.{Rates}
 use Rattle.tariff.specs.declared.Figures.{Figures}
 use Rattle.tariff.proofs.Answered.{number-is}
-use Rattle.terms.specs.Basis.{Basis, basisRates}
+use Rattle.terms.specs.Basis.{Basis, basisRates, basisEdition}
 use Rattle.customer.specs.Answers.{decideAnswer}
 use Rattle.customer.specs.Demand.{LegalYear, basisFigures}
 use Rattle.demands.specs.Module.{Module, ours}
@@ -41,9 +42,9 @@ by-number P zero eight nine ten eleven n = ⊎-elim (λ e. rw e zero) (λ w. go 
 abbrev pub peakSaid : Said → ℕ
 peakSaid a = getD (a .figures) (cond (eqb (a .number) 0) 2 1) 0
 
-module _ (f : Figures) (r : Rates) where
+module _ (ed : Edition) (f : Figures) (r : Rates) where
   abbrev listed : ℕ → Said
-  listed n = record { number = n; figures = yearColumn f r n }
+  listed n = record { number = n; figures = yearColumn ed f r n }
 
   pub column-said : (n : ℕ) → (n ≡ 0) ⊎ Within 8 11 n → (sumSaid (listed n) ≡ f .sum) × (peakSaid (listed n) ≡ f .peak)
   column-said =
@@ -55,14 +56,14 @@ module _ (m : Module) (d : Demands m) (k : Basis) (xs : List ℕ) (l : LegalYear
   ours-number = fairness .answered k xs (decideAnswer k xs) l whole
 
   -- it is the number with what the column lists
-  pub year-said : m .decide k xs ≡ listed (basisFigures k xs) (basisRates k) (decideAnswer k xs .number)
+  pub year-said : m .decide k xs ≡ listed (basisEdition k) (basisFigures k xs) (basisRates k) (decideAnswer k xs .number)
   year-said =
       let f = basisFigures k xs in
       let judged = given-one k l whole in
-      nothing-else m ours d met .decide k xs ∙ judged ∙ said-is _ _ _ (carried .judge f (basisRates k)) (sym (number-is judged))
+      nothing-else m ours d met .decide k xs ∙ judged ∙ said-is _ _ _ (carried .judge (basisEdition k) f (basisRates k)) (sym (number-is judged))
 
   pub sum-said : sumSaid (m .decide k xs) ≡ basisFigures k xs .sum
-  sum-said = ap sumSaid year-said ∙ column-said (basisFigures k xs) (basisRates k) _ ours-number .0
+  sum-said = ap sumSaid year-said ∙ column-said (basisEdition k) (basisFigures k xs) (basisRates k) _ ours-number .0
 
   pub peak-said : peakSaid (m .decide k xs) ≡ basisFigures k xs .peak
-  peak-said = ap peakSaid year-said ∙ column-said (basisFigures k xs) (basisRates k) _ ours-number .1
+  peak-said = ap peakSaid year-said ∙ column-said (basisEdition k) (basisFigures k xs) (basisRates k) _ ours-number .1

@@ -13,19 +13,22 @@ use Rattle.ranges.specs.Limits.{Within}
 use Rattle.ranges.specs.Ranges.{inBase, joined}
 use Rattle.ranges.proofs.Tables.{getD-table}
 use Rattle.answers.specs.declared.Edition.{Edition}
-use Rattle.answers.specs.Edition.{today}
 use Rattle.answers.specs.Said.{Said, after, only}
+use Rattle.editions.specs.declared.Editions.{Editions}
+use Rattle.editions.specs.Editions.{editionOf}
 use Rattle.encoding.specs.Bytes.{twoAt}
 use Rattle.sheet.specs.declared.Sheet.{Sheet}
 use Rattle.sheet.specs.Windows.{windowPlaces, quarterPlace, isSet}
-use Rattle.sheet.specs.Bytes.{sheetSize, sheetBytes, windowAt, windowsIn, sheetIn}
-use Rattle.sheet.specs.Answers.{ReadSaid, readAnswer, readSheet, readSheetBy, writeAnswer, written, writtenBy}
+use Rattle.sheet.specs.Bytes.{yearAt, sheetSize, sheetBytes, windowAt, windowsIn, sheetIn}
+use Rattle.sheet.specs.Answers.{ReadSaid, readAnswer, readSheet, readOf, writeAnswer, written}
+use Rattle.sheet.proofs.Answered.{read-taken}
 use Rattle.sheet.specs.Rows.{ReadRow}
 use Rattle.sheet.specs.Rows.ReadRow.{malformed, one, two, full, zero}
 use Rattle.sheet.proofs.Windows.{set-at}
 use Rattle.sheet.proofs.Bytes.{length-bytes}
 use Rattle.sheet.proofs.Exactly.{read-exactly}
 use Rattle.sheet.proofs.Back.{buffer-read, same-bytes}
+use Rattle.sheet_read.specs.Editions.{sheetEdition}
 use Rattle.demands.specs.Module.{ours}
 use Rattle.demands.specs.Sheets.{LaidOut, Sheets}
 
@@ -65,34 +68,53 @@ laid-out b (zero f y l w) e =
       windows = bit-there b;
     }
 
-read-so : (b : List ℕ) → readAnswer b .number ≡ 0 → LaidOut b (readSheet b)
-unfolding readSheetBy
-read-so b z = rw (handed (readAnswer b) (sheetIn b) _ z) (laid-out b (read-exactly today b 0 .0 z) refl)
+read-so : (ed : Edition) (b : List ℕ) → readAnswer ed b .number ≡ 0 → LaidOut b (readSheet ed b)
+unfolding readSheet
+read-so ed b z = rw (handed (readAnswer ed b) (sheetIn b) _ z) (laid-out b (read-exactly ed b 0 .0 z) refl)
+
+-- bytes that are read as a sheet by the edition of its year are read so by the list, since that year stands in them
+pub by-list :
+    (es : Editions) (s : Sheet) (b : List ℕ)
+    → readOf (editionOf es (s .year)) b ≡ record { answer = only 0; sheet = s }
+    → readOf (sheetEdition es b) b ≡ record { answer = only 0; sheet = s }
+by-list es s b e =
+    let taken = read-taken (editionOf es (s .year)) b (sym (ap (λ (x : ReadSaid). x .answer) e)) ∙ e in
+    let year : twoAt b yearAt ≡ s .year = ap (λ (x : ReadSaid). x .sheet .year) taken in
+    ap (λ (y : ℕ). readOf (editionOf es y) b) year ∙ e
 
 reads-back :
-    (s : Sheet) (buffer : List ℕ)
+    (es : Editions) (s : Sheet) (buffer : List ℕ)
     → length (s .windows) ≡ windowPlaces
-    → writeAnswer s (length buffer) .number ≡ 0
-    → (readAnswer (take 56 (written s buffer)) ≡ only 0) × (readSheet (take 56 (written s buffer)) ≡ s)
-reads-back s buffer l z =
-    let r = buffer-read today s buffer l z in
+    → ours .write es s (length buffer) .number ≡ 0
+    → (ours .read es (take 56 (ours .written es s buffer)) ≡ only 0) × (ours .sheetRead es (take 56 (ours .written es s buffer)) ≡ s)
+reads-back es s buffer l z =
+    let r = by-list es s _ (buffer-read (editionOf es (s .year)) s buffer l z) in
     (ap (λ (x : ReadSaid). x .answer) r, ap (λ (x : ReadSaid). x .sheet) r)
 
-pub rest-stays : (s : Sheet) (buffer : List ℕ) → writeAnswer s (length buffer) .number ≡ 0 → drop 56 (written s buffer) ≡ drop 56 buffer
-unfolding writtenBy
-rest-stays s buffer z =
-    ap (drop 56) (handed (writeAnswer s (length buffer)) (sheetBytes s ++ drop sheetSize buffer) _ z)
+pub rest-stays :
+    (ed : Edition) (s : Sheet) (buffer : List ℕ)
+    → writeAnswer ed s (length buffer) .number ≡ 0
+    → drop 56 (written ed s buffer) ≡ drop 56 buffer
+unfolding written
+rest-stays ed s buffer z =
+    ap (drop 56) (handed (writeAnswer ed s (length buffer)) (sheetBytes s ++ drop sheetSize buffer) _ z)
     ∙ drop-at (sheetBytes s) (drop sheetSize buffer) sheetSize (length-bytes (s .year) (s .level) (s .windows))
 
 written-so :
-    (s : Sheet) (buffer : List ℕ)
+    (es : Editions) (s : Sheet) (buffer : List ℕ)
     → length (s .windows) ≡ windowPlaces
-    → writeAnswer s (length buffer) .number ≡ 0
-    → LaidOut (take 56 (written s buffer)) s
-written-so s buffer l z =
-    let r = reads-back s buffer l z in
-    rw (r .1) at (read-so (take 56 (written s buffer)) (ap (λ (a : Said). a .number) (r .0)))
+    → ours .write es s (length buffer) .number ≡ 0
+    → LaidOut (take 56 (ours .written es s buffer)) s
+written-so es s buffer l z =
+    let r = reads-back es s buffer l z in
+    rw (r .1) at (read-so _ (take 56 (ours .written es s buffer)) (ap (λ (a : Said). a .number) (r .0)))
 
 pub sheets : Sheets ours
 sheets =
-    record { written-so = written-so; rest-stays = rest-stays; read-so = read-so; reads-back = reads-back; same-bytes = same-bytes today }
+    record {
+      written-so = written-so;
+      rest-stays = λ es s. rest-stays (editionOf es (s .year)) s;
+      read-so = λ es b. read-so (sheetEdition es b) b;
+      reads-back = reads-back;
+      same-bytes = λ es fs b c. same-bytes (sheetEdition es b) (sheetEdition fs c) b c;
+    }

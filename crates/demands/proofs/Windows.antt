@@ -1,6 +1,6 @@
 -- The peak, the curves and the kept quarters of the definitions are those of specs/Windows.
 -- Assumes nothing.
-use mathlib.Core.Path.{_≡_, refl, sym, ap, _∙_}
+use mathlib.Core.Path.{_≡_, refl, sym, ap}
 use mathlib.Core.Bool.{true, cond, _&&_, _||_, or-false}
 use mathlib.Core.Logic.{_↔_}
 use mathlib.Core.List.{List}
@@ -16,7 +16,7 @@ use Rattle.ranges.proofs.Inside.{number-if-low}
 use Rattle.ranges.proofs.Bools.{both, pair}
 use Rattle.ranges.proofs.Largest.{largest-le}
 use Rattle.ranges.proofs.Tests.{count-cong}
-use Rattle.answers.specs.Edition.{today}
+use Rattle.answers.specs.declared.Edition.{Edition}
 use Rattle.periods.specs.Period.{periodDays}
 use Rattle.readings.specs.declared.Run.the-variants.{Period}
 use Rattle.readings.specs.Runs.{dayLen, quarterOf, reading}
@@ -27,7 +27,6 @@ use Rattle.grid_curves.specs.Curves.{inSeason, topOf, curveAt}
 use Rattle.grid.specs.Rows.{periodPeak}
 use Rattle.grid_curves.proofs.Curves.{in-curve}
 use Rattle.demands.specs.Windows.{NoneAboveIn, IsPeak, IsCurve, ahead, Kept}
-use Rattle.demands.proofs.Forms.{line-form}
 
 -- a value that counts where a test passes
 module _ (y : ℕ) (xs : List ℕ) where
@@ -67,9 +66,10 @@ module _ (y : ℕ) (xs : List ℕ) where
   curve-one s c i q m = le-antisymm (i .least q m (curve s q) (curve-plain s .bound q m)) (curve-plain s .least q m (c q) (i .bound q m))
 
 -- kept quarters: the test of the definition, and what specs/Windows says, of values that are the same
-module _ (peak : ℕ) (c : ℕ → ℕ) (values : List ℕ) (same : (q : ℕ) → q < 96 → c q ≡ getD values q 0) where
-  line-same : (p : ℕ) → p < 96 → aboveLine peak (getD values p 0) ≡ ltb (19 * peak) (20 * c p)
-  line-same p l = line-form peak (getD values p 0) ∙ ap (λ (v : ℕ). ltb (19 * peak) (20 * v)) (sym (same p l))
+module _ (ed : Edition) (peak : ℕ) (c : ℕ → ℕ) (values : List ℕ) (same : (q : ℕ) → q < 96 → c q ≡ getD values q 0) where
+  line-same : (p : ℕ) → p < 96 → aboveLine ed peak (getD values p 0) ≡ ltb (ed .line * peak) (100 * c p)
+  unfolding aboveLine
+  line-same p l = ap (λ (v : ℕ). ltb (ed .line * peak) (100 * v)) (sym (same p l))
 
   order : (v w p q : ℕ) → cond (eqb v w) (ltb p q) (ltb w v) ≡ (ltb w v || (eqb v w && ltb p q))
   order v w p q = go (ℕ-discrete v w)
@@ -78,18 +78,18 @@ module _ (peak : ℕ) (c : ℕ → ℕ) (values : List ℕ) (same : (q : ℕ) �
       go (yes e) = simp (eq-eqb v w e, le-ltb w v (omega arith))
       go (no n) = simp (ne-eqb v w n, or-false)
 
-  ahead-same : (q p : ℕ) → q < 96 → p < 96 → (aboveLine peak (getD values p 0) && comesBefore values p q) ≡ ahead peak c q p
+  ahead-same : (q p : ℕ) → q < 96 → p < 96 → (aboveLine ed peak (getD values p 0) && comesBefore values p q) ≡ ahead ed peak c q p
   unfolding comesBefore
   ahead-same q p m l = rw (line-same p l, ← same p l, ← same q m, order (c p) (c q) p q) refl
 
-  rank-same : (q : ℕ) → q < 96 → rank today peak values q ≡ countOver (ahead peak c q) 96
+  rank-same : (q : ℕ) → q < 96 → rank ed peak values q ≡ countOver (ahead ed peak c q) 96
   unfolding rank
-  rank-same q m = count-cong _ (ahead peak c q) 96 (λ p l. ahead-same q p m l)
+  rank-same q m = count-cong _ (ahead ed peak c q) 96 (λ p l. ahead-same q p m l)
 
-  pub kept-plain : (q : ℕ) → q < 96 → (kept today peak values q ≡ true) ↔ Kept peak c q
+  pub kept-plain : (q : ℕ) → q < 96 → (kept ed peak values q ≡ true) ↔ Kept ed peak c q
   unfolding kept
   kept-plain q m =
       rw (line-same q m, rank-same q m) (
-        (λ e. let b = both (ltb (19 * peak) (20 * c q)) _ e in record { above = ltb-true _ _ (b .0); few = ltb-true _ _ (b .1) }),
-        λ k. pair (lt-ltb (19 * peak) (20 * c q) (k .above)) (lt-ltb (countOver (ahead peak c q) 96) 40 (k .few)),
+        (λ e. let b = both (ltb (ed .line * peak) (100 * c q)) _ e in record { above = ltb-true _ _ (b .0); few = ltb-true _ _ (b .1) }),
+        λ k. pair (lt-ltb (ed .line * peak) (100 * c q) (k .above)) (lt-ltb (countOver (ahead ed peak c q) 96) (ed .limit) (k .few)),
       )

@@ -10,11 +10,13 @@ use Rattle.ranges.specs.Ranges.{sumOver}
 use Rattle.ranges.proofs.Sums.{sum-none, sum-suc, sum-above, sum-cong}
 use Rattle.answers.specs.Ruling.{gridMost, customerMost}
 use Rattle.answers.specs.Said.{Said, only}
+use Rattle.editions.specs.declared.Editions.{Editions}
+use Rattle.editions.specs.Editions.{editionOf}
 use Rattle.periods.proofs.Periods.{period-days}
 use Rattle.readings.specs.declared.Run.{Run}
 use Rattle.readings.specs.declared.Run.the-variants.{Period}
 use Rattle.readings.specs.Runs.{runDays, dayLen, reading}
-use Rattle.readings.specs.Part.{dayPart}
+use Rattle.readings.specs.Part.{runPart}
 use Rattle.readings.specs.Days.{daysOf, AsWhole}
 use Rattle.readings.proofs.Runs.{len-some, run-held, period-run, year-run}
 use Rattle.readings.proofs.Part.{Held, length-part, part-at}
@@ -27,7 +29,6 @@ use Rattle.tariff.proofs.Answered.{number-is}
 use Rattle.figures.specs.Figures.{sumOf, figuresOf}
 use Rattle.terms.specs.Basis.{Basis, basisYear}
 use Rattle.terms.specs.Opening.{customerOpenAnswer}
-use Rattle.terms.proofs.Exactly.{open-allowed}
 use Rattle.customer_days.specs.declared.Customer.{Customer}
 use Rattle.customer.specs.Demand.{basisRun, LegalYear}
 use Rattle.demands.specs.Module.{Module, customerAfter}
@@ -45,14 +46,14 @@ use Rattle.demands.proofs.WrongYears.{pricedBasis, xs, legal, opened, s
 
 module _ (m : Module) (d : Demands m) where
   -- the grid, in any year and at any level
-  module _ (y level : ℕ) (o : m .gridOpen y level ≡ only 0) where
+  module _ (es : Editions) (y level : ℕ) (o : m .gridOpen es y level ≡ only 0) where
     abbrev period : Run
     period = Period y
 
     many : 1 < runDays period
     many = omega (arith, period-run y, period-days y _ _ refl refl)
 
-    complete : {n : ℕ} → OpenRow y level n → n ≡ 0 → (v : ℕ) → Complete y level (ends period many v) (length blankBuffer)
+    complete : {n : ℕ} → OpenRow (editionOf es y) y level n → n ≡ 0 → (v : ℕ) → Complete (editionOf es y) y level (ends period many v) (length blankBuffer)
     complete (one a) e v = absurd (omega arith)
     complete (two a b) e v = absurd (omega arith)
     complete (zero a b) e v =
@@ -63,23 +64,23 @@ module _ (m : Module) (d : Demands m) where
           long = ends-legal period many v v (omega arith) .long;
         }
 
-    all-there : (v : ℕ) → Complete y level (ends period many v) (length blankBuffer)
-    all-there = complete (d .exactly-when .grid-open y level 0 .0 (number-is o)) refl
+    all-there : (v : ℕ) → Complete (editionOf es y) y level (ends period many v) (length blankBuffer)
+    all-there = complete (d .exactly-when .grid-open es y level 0 .0 (number-is o)) refl
 
     peak : (v : ℕ) → periodPeak y (ends period many v) ≡ v
     peak v = rw (← period-run y) (ends-peak period many v)
 
-    none : m .windows y level (ends period many 0) (length blankBuffer) .number ≡ 7
-    none = d .exactly-when .windows y level (ends period many 0) blankBuffer 7 .1 (seven (all-there 0) (peak 0))
+    none : m .windows es y level (ends period many 0) (length blankBuffer) .number ≡ 7
+    none = d .exactly-when .windows es y level (ends period many 0) blankBuffer 7 .1 (seven (all-there 0) (peak 0))
 
-    some : m .windows y level (ends period many 1) (length blankBuffer) .number ≡ 0
+    some : m .windows es y level (ends period many 1) (length blankBuffer) .number ≡ 0
     some =
-        d .exactly-when .windows y level (ends period many 1) blankBuffer 0 .1
+        d .exactly-when .windows es y level (ends period many 1) blankBuffer 0 .1
         (zero (all-there 1) (ends-legal period many 1 gridMost (omega arith) .legal) (omega (arith, peak 1)))
 
-    pub wrong-grid-days : WrongDays period gridMost (m .gridNext) (m .gridOpened y level) → ⊥
+    pub wrong-grid-days : WrongDays period gridMost (m .gridNext) (m .gridOpened es y level) → ⊥
     wrong-grid-days wrong =
-        let same = same-whole period many gridMost (omega arith) (d .days-as-whole .grid y level blankBuffer o) wrong in
+        let same = same-whole period many gridMost (omega arith) (d .days-as-whole .grid es y level blankBuffer o) wrong in
         omega (arith, none, some, ap (λ (r : Said × List ℕ). r .0 .number) same)
 
   -- a customer, on any basis
@@ -131,10 +132,9 @@ module _ (m : Module) (d : Demands m) (twice : DayTwice m) where
   day-sum :
       (n : ℕ)
       → n < runDays run
-      → sumOver (λ p. getD (dayPart run series (n + 1)) p 0) (length (dayPart run series (n + 1))) ≡ sumOver (reading run series n) (dayLen run n)
+      → sumOver (λ p. getD (runPart run series (n + 1)) p 0) (length (runPart run series (n + 1))) ≡ sumOver (reading run series n) (dayLen run n)
   day-sum n h =
       let inside : Held run series n = record {
-        allowed = open-allowed k (lawful .opens);
         on = h;
         inside = omega (arith, run-held run n h, lawful .series .long);
       } in
@@ -147,7 +147,7 @@ module _ (m : Module) (d : Demands m) (twice : DayTwice m) where
       let more : n + 1 ≡ suc n = omega arith in
       let before = grows n (omega arith) in
       let step = ap (λ (c : Customer). c .figures .sum) (days-more (m .customerNext) run (m .customerOpened k) series n) in
-      let added = twice (at n) (dayPart run series (n + 1)) (as-whole .every-day series (lawful .series) n (omega arith)) in
+      let added = twice (at n) (runPart run series (n + 1)) (as-whole .every-day series (lawful .series) n (omega arith)) in
       let moved : at (n + 1) .figures .sum ≡ at (suc n) .figures .sum = ap (λ (j : ℕ). at j .figures .sum) more in
       omega (arith, before, step, added, moved, day-sum n (omega arith), sum-suc (λ e. sumOver (reading run series e) (dayLen run e)) n)
 
@@ -173,7 +173,7 @@ module _ (m : Module) (d : Demands m) (twice : DayTwice m) where
       let c = at (runDays run) in
       let figures = said-is (m .customerClose c) _ _ (d .carried .customer-close c) number in
       let answered = d .fairness .answered k series (m .decide k series) lawful whole in
-      let shown = ap sumSaid figures ∙ column-said (c .figures) (c .terms .rates) _ answered .0 in
+      let shown = ap sumSaid figures ∙ column-said (c .terms .edition) (c .figures) (c .terms .rates) _ answered .0 in
       omega (
         arith,
         shown,

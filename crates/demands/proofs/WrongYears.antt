@@ -1,7 +1,7 @@
 -- A module that gives one fixed charge or makes up S does not meet the demands: shown by a year that is accepted at
 -- every legal capacity price of 100 cent or more, and whose charge goes with the price.
 -- Assumes nothing.
-use mathlib.Core.Path.{_≡_, refl, sym, _∙_}
+use mathlib.Core.Path.{_≡_, refl, sym, _∙_, ap}
 use mathlib.Core.Bool.{Bool, true, false}
 use mathlib.Core.List.{List, []}
 use Prim.Native.Nat.{ℕ, _*_, _≤_, _<_}
@@ -9,16 +9,19 @@ use native.Mathlib.Decide.{decLt}
 use native.Mathlib.Omega.{arith}
 use Rattle.ranges.proofs.Bools.{clash, both, pair}
 use Rattle.ranges.proofs.Tests.{any-at}
+use Rattle.answers.specs.declared.Edition.{Edition}
 use Rattle.answers.specs.Edition.{today}
 use Rattle.answers.specs.Ruling.{capacityMost, customerMost}
 use Rattle.answers.specs.Said.{only}
 use Rattle.readings.specs.Runs.{runDays, dayLen}
 use Rattle.readings.proofs.Runs.{len-least, year-run}
 use Rattle.readings.proofs.Illegal.{all-legal-in}
+use Rattle.editions.specs.Editions.{todays}
+use Rattle.sheet.specs.Answers.{readAnswer}
 use Rattle.sheet.specs.Bytes.{sheetIn}
 use Rattle.tariff.specs.declared.Prices.{Prices}
 use Rattle.tariff.specs.Prices.{LegalRow}
-use Rattle.tariff.specs.Charges.{rowOf, chargeFor, general, generalBy, reducedBy, floorOf, charge, chargeBy}
+use Rattle.tariff.specs.Charges.{rowOf, chargeFor, general, reduced, floorOf, charge}
 use Rattle.tariff.specs.Answers.{payable}
 use Rattle.tariff.specs.Rows.{JudgeRow}
 use Rattle.tariff.specs.Rows.JudgeRow.{zero}
@@ -26,7 +29,7 @@ use Rattle.tariff.proofs.Answered.{number-is}
 use Rattle.tariff.proofs.Exactly.{judge-exactly}
 use Rattle.tariff.proofs.Limits.{prices-legal}
 use Rattle.terms.specs.declared.Terms.{Terms}
-use Rattle.terms.specs.Basis.{Basis, basis, basisRates}
+use Rattle.terms.specs.Basis.{Basis, basis, basisRates, basisEdition}
 use Rattle.terms.specs.Opening.{termsOf, customerOpenAnswer}
 use Rattle.terms.proofs.Answered.{open-done}
 use Rattle.customer.specs.Counts.{counts}
@@ -40,7 +43,7 @@ use Rattle.demands.specs.Refusals.{zeroAlone}
 use Rattle.demands.specs.Fair.Given.{whole}
 use Rattle.demands.specs.Demands.{Demands}
 use Rattle.demands.specs.Wrong.{OneCharge, MadeUpSum}
-use Rattle.demands.proofs.Example.{example, example-read, example-year, example-share, no-holidays, carrying, new-year, day-two, set-there}
+use Rattle.demands.proofs.Example.{example-edition, example, example-read, example-year, example-share, no-holidays, carrying, new-year, day-two, set-there}
 use Rattle.demands.proofs.Carried.{said-is}
 use Rattle.demands.proofs.Fair.{legal-basis, given-one}
 use Rattle.demands.proofs.Answers.{exactly-when}
@@ -52,7 +55,7 @@ abbrev pub capacityOnly : ℕ → Prices
 capacityOnly price = record { few = priced price 0; many = priced price 0 }
 
 abbrev pub pricedBasis : ℕ → Basis
-pricedBasis price = basis example [] (capacityOnly price) false
+pricedBasis price = basis todays example [] (capacityOnly price) false
 
 module _ (price : ℕ) (least : 100 ≤ price) (most : price ≤ capacityMost) where
   abbrev k : Basis
@@ -64,7 +67,8 @@ module _ (price : ℕ) (least : 100 ≤ price) (most : price ≤ capacityMost) w
   pub opens : customerOpenAnswer k ≡ only 0
   opens =
       let row : LegalRow (priced price 0) = record { capacity = most; energy = omega arith } in
-      sym (open-done k (sym example-read) no-holidays (prices-legal (capacityOnly price) .1 (record { few = row; many = row })))
+      let read = sym (ap (λ (ed : Edition). readAnswer ed example) example-edition ∙ example-read) in
+      sym (open-done k read no-holidays (prices-legal (capacityOnly price) .1 (record { few = row; many = row })))
 
   pub some-days : 0 < runDays (basisRun k)
   some-days = omega (arith, year-run (sheetIn example .year))
@@ -95,11 +99,11 @@ module _ (price : ℕ) (least : 100 ≤ price) (most : price ≤ capacityMost) w
   any-there =
       any-at _ (basisDays k) 1 (omega arith) (any-at (counts terms 1) (dayLen (basisRun k) 1) 72 (omega (arith, len-least (basisRun k) 1)) there)
 
-  peak-is : basisFigures k xs .peak ≡ 1000000
+  pub peak-is : basisFigures k xs .peak ≡ 1000000
   unfolding figuresOf
   peak-is = rw (← year-run (sheetIn example .year)) (start-peak (basisRun k) 1000000 some-days)
 
-  high-is : basisFigures k xs .high ≡ 0
+  pub high-is : basisFigures k xs .high ≡ 0
   high-is = go (first-place (basisRun k) (counts terms) xs (basisDays k) any-there)
     where
       go : FirstPlace (basisRun k) (counts terms) xs (basisDays k) (basisFigures k xs) → basisFigures k xs .high ≡ 0
@@ -116,21 +120,21 @@ module _ (price : ℕ) (least : 100 ≤ price) (most : price ≤ capacityMost) w
   row-is true = refl
   row-is false = refl
 
-  general-is : general (basisFigures k xs) (basisRates k) ≡ 1000 * price
-  unfolding generalBy chargeFor
-  general-is = rw (row-is _, peak-is) (omega arith)
+  pub general-is : (ed : Edition) → general ed (basisFigures k xs) (basisRates k) ≡ 1000 * price
+  unfolding general chargeFor
+  general-is ed = rw (row-is _, peak-is) (omega arith)
 
-  charge-is : charge (basisFigures k xs) (basisRates k) ≡ 200 * price
-  unfolding chargeBy reducedBy floorOf chargeFor
-  charge-is = rw (general-is, row-is _, high-is) (omega arith)
+  charge-is : charge today (basisFigures k xs) (basisRates k) ≡ 200 * price
+  unfolding charge reduced floorOf chargeFor
+  charge-is = rw (general-is today, row-is _, high-is) (omega arith)
 
-  pub row : JudgeRow today (basisFigures k xs) (basisRates k) 0
+  pub row : JudgeRow (basisEdition k) (basisFigures k xs) (basisRates k) 0
   row =
-      zero (legal-basis k xs legal) (record { some = any-there; share = rw (example-share, peak-is, high-is) (omega arith) })
-      (omega (arith, peak-is, high-is)) (omega (arith, general-is, charge-is))
+      rw example-edition (zero (legal-basis k xs legal) (record { some = any-there; share = rw (example-share, peak-is, high-is) (omega arith) })
+      (omega (arith, peak-is, high-is)) (omega (arith, general-is today, charge-is)))
 
   ours-accepted : decideAnswer k xs .number ≡ 0
-  ours-accepted = number-is (given-one k legal whole) ∙ judge-exactly today (basisFigures k xs) (basisRates k) 0 .1 row
+  ours-accepted = number-is (given-one k legal whole) ∙ judge-exactly (basisEdition k) (basisFigures k xs) (basisRates k) 0 .1 row
 
   -- what a module that meets the demands answers
   module _ (m : Module) (d : Demands m) where
@@ -143,7 +147,7 @@ module _ (price : ℕ) (least : 100 ≤ price) (most : price ≤ capacityMost) w
     accepted = d .exactly-when .decide k xs 0 .1 (exactly-when .decide k xs 0 .0 ours-accepted)
 
     pub pays : payable (m .decide k xs) ≡ 200 * price
-    pays = d .fairness .pays k xs (m .decide k xs) legal whole ∙ rw accepted charge-is
+    pays = d .fairness .pays k xs (m .decide k xs) legal whole ∙ rw (accepted, example-edition) charge-is
 
 -- any module that meets the demands
 module _ (m : Module) (d : Demands m) where
@@ -151,7 +155,7 @@ module _ (m : Module) (d : Demands m) where
   one-charge o = omega (arith, at 100 (omega arith) (omega arith), at 200 (omega arith) (omega arith))
     where
       at : (price : ℕ) → 100 ≤ price → price ≤ capacityMost → 200 * price ≡ o .charge
-      at price least most = sym (pays price least most m d) ∙ o .fixed (pricedBasis price) (xs price least most) (accepted price least most m d)
+      at price least most = sym (pays price least most m d) ∙ o .fixed (pricedBasis price) (xs price least most) refl (accepted price least most m d)
 
   pub made-up-sum : MadeUpSum m → ⊥
   unfolding figuresOf

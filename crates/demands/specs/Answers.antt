@@ -11,9 +11,12 @@ use Prim.Native.Nat.{ℕ, _+_, _≤_, _<_}
 use lib.ListN.{length, getD, take, drop}
 use Rattle.ranges.specs.Limits.{Within}
 use Rattle.ranges.specs.Ranges.{sumOver}
-use Rattle.answers.specs.Edition.{today}
-use Rattle.answers.specs.Ruling.{ChargeYear, dayQuarters, gridMost, customerMost, missing}
+use Rattle.answers.specs.declared.Edition.{Edition}
+use Rattle.answers.specs.Ruling.{HasYear, dayQuarters, gridMost, customerMost, missing}
 use Rattle.answers.specs.Said.{only, badPlace}
+use Rattle.editions.specs.declared.Editions.{Editions}
+use Rattle.editions.specs.Editions.{editionOf}
+use Rattle.editions.specs.Loading.{LoadRow}
 use Rattle.dates.specs.Dates.{seasonOf}
 use Rattle.periods.specs.Period.{periodDays}
 use Rattle.calendar.specs.Answer.{DayRow}
@@ -27,6 +30,7 @@ use Rattle.sheet.specs.declared.Sheet.{Sheet}
 use Rattle.sheet.specs.Windows.{seasons, isSet}
 use Rattle.sheet.specs.Bytes.{sheetSize}
 use Rattle.sheet.specs.Rows.{ReadRow, WriteRow}
+use Rattle.sheet_read.specs.Editions.{sheetEdition}
 use Rattle.grid_days.specs.declared.Grid.{Grid}
 use Rattle.grid.specs.Rows.{OpenRow, WindowsRow}
 use Rattle.grid_days.specs.Rows.{CloseRow}
@@ -43,28 +47,30 @@ use Rattle.customer.specs.Demand.{basisRun, basisDays, inWindow, LegalYear, bas
 use Rattle.demands.specs.Windows.{IsPeak, IsCurve, Kept}
 use Rattle.demands.specs.Module.{Module, gridEnd, gridWhole}
 
--- Rules 8.1 and 8.2: each call gives a number n exactly when the row of n holds. Above each call stand the numbers that
--- it can give.
+-- Rules 8.1 and 8.2: each call gives a number n exactly when the row of n holds, by the edition of its year. Above each
+-- call stand the numbers that it can give.
 pub record ExactlyWhen (m : Module) : Type 0 where
+  -- 0, 22
+  pub load : (es : Editions) (ed : Edition) (n : ℕ) → (m .load es ed .number ≡ n) ↔ LoadRow es ed n
   -- 0, 1, 3, 13; the day d counts from 1
-  pub calendar : (y : ℕ) (hs : List ℕ) (d n : ℕ) → (m .calendar y hs d .number ≡ n) ↔ DayRow y hs d n
+  pub calendar : (es : Editions) (y : ℕ) (hs : List ℕ) (d n : ℕ) → (m .calendar es y hs d .number ≡ n) ↔ DayRow (editionOf es y) y hs d n
   -- 0, 1, 2, 12
-  pub read : (b : List ℕ) (n : ℕ) → (m .read b .number ≡ n) ↔ ReadRow today b n
+  pub read : (es : Editions) (b : List ℕ) (n : ℕ) → (m .read es b .number ≡ n) ↔ ReadRow (sheetEdition es b) b n
   -- 0, 1, 2, 12, 14
-  pub write : (s : Sheet) (room n : ℕ) → (m .write s room .number ≡ n) ↔ WriteRow today s room n
+  pub write : (es : Editions) (s : Sheet) (room n : ℕ) → (m .write es s room .number ≡ n) ↔ WriteRow (editionOf es (s .year)) s room n
   -- 0, 1, 2, 4, 5, 7, 14
   pub windows :
-      (y level : ℕ) (xs buffer : List ℕ) (n : ℕ)
-      → (m .windows y level xs (length buffer) .number ≡ n) ↔ WindowsRow y level xs (length buffer) n
+      (es : Editions) (y level : ℕ) (xs buffer : List ℕ) (n : ℕ)
+      → (m .windows es y level xs (length buffer) .number ≡ n) ↔ WindowsRow (editionOf es y) y level xs (length buffer) n
   -- opening 0, 1, 2; a day 0, 4, 5, 13; closing 0, 7, 13, 14, and 1 or 2 only on a state that no call handed back (Rule
   -- 9.6)
-  pub grid-open : (y level n : ℕ) → (m .gridOpen y level .number ≡ n) ↔ OpenRow y level n
+  pub grid-open : (es : Editions) (y level n : ℕ) → (m .gridOpen es y level .number ≡ n) ↔ OpenRow (editionOf es y) y level n
   pub grid-day : (g : Grid) (day : List ℕ) (n : ℕ) → (m .gridDay g day .number ≡ n) ↔ NextRow (Period (g .year)) gridMost (g .seen) day n
   pub grid-close : (g : Grid) (buffer : List ℕ) (n : ℕ) → (m .gridClose g (length buffer) .number ≡ n) ↔ CloseRow g (length buffer) n
   -- may the customer pay less: 0, 2, 6, 8, 9, 10; what is the charge: 0, 6, 8, 11; both: 0, 2, 6, 8, 9, 10, 11
-  pub eligible : (f : Figures) (r : Rates) (n : ℕ) → (m .eligible f r .number ≡ n) ↔ EligibleRow today f r n
-  pub charge : (f : Figures) (r : Rates) (n : ℕ) → (m .charge f r .number ≡ n) ↔ ChargeRow today f r n
-  pub judge : (f : Figures) (r : Rates) (n : ℕ) → (m .judge f r .number ≡ n) ↔ JudgeRow today f r n
+  pub eligible : (ed : Edition) (f : Figures) (r : Rates) (n : ℕ) → (m .eligible ed f r .number ≡ n) ↔ EligibleRow ed f r n
+  pub charge : (ed : Edition) (f : Figures) (r : Rates) (n : ℕ) → (m .charge ed f r .number ≡ n) ↔ ChargeRow ed f r n
+  pub judge : (ed : Edition) (f : Figures) (r : Rates) (n : ℕ) → (m .judge ed f r .number ≡ n) ↔ JudgeRow ed f r n
   -- 0 to 6, 8 to 12
   pub decide :
       (k : Basis) (xs : List ℕ) (n : ℕ)
@@ -80,11 +86,11 @@ pub record ExactlyWhen (m : Module) : Type 0 where
 -- positions p in a day count from 0.
 pub record NeverLegal (m : Module) : Type 0 where
   pub grid :
-      (y level : ℕ) (xs buffer : List ℕ) (d p : ℕ)
+      (es : Editions) (y level : ℕ) (xs buffer : List ℕ) (d p : ℕ)
       → d < periodDays y
       → p < dayLen (Period y) d
       → reading (Period y) xs d p ≡ missing
-      → (m .windows y level xs (length buffer) .number ≡ 0) ⊎ (m .windows y level xs (length buffer) .number ≡ 7)
+      → (m .windows es y level xs (length buffer) .number ≡ 0) ⊎ (m .windows es y level xs (length buffer) .number ≡ 7)
       → ⊥
   pub grid-day : (g : Grid) (day : List ℕ) (p : ℕ) → p < length day → getD day p 0 ≡ missing → m .gridDay g day .number ≡ 0 → ⊥
   pub customer :
@@ -99,35 +105,39 @@ pub record NeverLegal (m : Module) : Type 0 where
 -- Rule 9.2: of a lent series one day is handed out. In `part` and in `Nothing` days count from 1; d, one less, and the
 -- position p count from 0. How many readings a day has and where it begins says room `readings`; in plain words of
 -- dates it is `PlainDays` there.
-pub record HasWhole (run : Run) (xs : List ℕ) (d : ℕ) : Type 0 where
-  pub year : ChargeYear (runYear run)
+pub record HasWhole (es : Editions) (run : Run) (xs : List ℕ) (d : ℕ) : Type 0 where
+  pub year : HasYear (editionOf es (runYear run)) (runYear run)
   pub on : d < runDays run
   pub inside : dayStart run d + dayLen run d ≤ length xs
 
--- what is empty: a year that would be answered 1, day 0, a day beyond the year or period, and a day of which the series
--- does not have all readings
-pub data Nothing (run : Run) (xs : List ℕ) (day : ℕ) : Type 0 where
-  no-year : (ChargeYear (runYear run) → ⊥) → Nothing run xs day
-  day-0 : day ≡ 0 → Nothing run xs day
-  beyond : runDays run < day → Nothing run xs day
-  not-held : length xs < dayStart run day → Nothing run xs day
+-- what is empty: a year without an edition, which would be answered 1, day 0, a day beyond the year or period, and a
+-- day of which the series does not have all readings
+pub data Nothing (es : Editions) (run : Run) (xs : List ℕ) (day : ℕ) : Type 0 where
+  no-year : (HasYear (editionOf es (runYear run)) (runYear run) → ⊥) → Nothing es run xs day
+  day-0 : day ≡ 0 → Nothing es run xs day
+  beyond : runDays run < day → Nothing es run xs day
+  not-held : length xs < dayStart run day → Nothing es run xs day
 
 pub record HandedOut (m : Module) : Type 0 where
-  pub long : (run : Run) (xs : List ℕ) (d : ℕ) → HasWhole run xs d → length (m .part run xs (d + 1)) ≡ dayLen run d
-  pub each : (run : Run) (xs : List ℕ) (d p : ℕ) → HasWhole run xs d → p < dayLen run d → getD (m .part run xs (d + 1)) p 0 ≡ reading run xs d p
-  pub empty : (run : Run) (xs : List ℕ) (day : ℕ) → Nothing run xs day → m .part run xs day ≡ []
+  pub long : (es : Editions) (run : Run) (xs : List ℕ) (d : ℕ) → HasWhole es run xs d → length (m .part es run xs (d + 1)) ≡ dayLen run d
+  pub each :
+      (es : Editions) (run : Run) (xs : List ℕ) (d p : ℕ)
+      → HasWhole es run xs d
+      → p < dayLen run d
+      → getD (m .part es run xs (d + 1)) p 0 ≡ reading run xs d p
+  pub empty : (es : Editions) (run : Run) (xs : List ℕ) (day : ℕ) → Nothing es run xs day → m .part es run xs day ≡ []
 
 -- The windows, to the quarter. `sheetShown` is the sheet that a reader of the buffer's first 56 bytes has after the
 -- call. It is the one that was asked for: year, level, and quarter q, from 0, of season s, from 1, is a window exactly
 -- when it is kept of the season's curve (`Kept`, specs/Windows). The bytes behind it stay. Rules 4.2 to 4.6 and 8.3.
 module _ (m : Module) where
-  abbrev pub sheetShown : ℕ → ℕ → List ℕ → List ℕ → Sheet
-  sheetShown y level xs buffer = m .sheetRead (take sheetSize (m .windowsLaid y level xs buffer))
+  abbrev pub sheetShown : Editions → ℕ → ℕ → List ℕ → List ℕ → Sheet
+  sheetShown es y level xs buffer = m .sheetRead es (take sheetSize (m .windowsLaid es y level xs buffer))
 
-  pub record SheetLaid (y level : ℕ) (xs buffer : List ℕ) : Type 0 where
-    pub accepted : m .read (take sheetSize (m .windowsLaid y level xs buffer)) ≡ only 0
-    pub year-is : sheetShown y level xs buffer .year ≡ y
-    pub level-is : sheetShown y level xs buffer .level ≡ level
+  pub record SheetLaid (es : Editions) (y level : ℕ) (xs buffer : List ℕ) : Type 0 where
+    pub accepted : m .read es (take sheetSize (m .windowsLaid es y level xs buffer)) ≡ only 0
+    pub year-is : sheetShown es y level xs buffer .year ≡ y
+    pub level-is : sheetShown es y level xs buffer .level ≡ level
     pub windows-are :
         (s q : ℕ)
         → Within 1 seasons s
@@ -135,11 +145,11 @@ module _ (m : Module) where
         → (peak : ℕ) (curve : ℕ → ℕ)
         → IsPeak y xs peak
         → IsCurve y xs s curve
-        → (isSet (sheetShown y level xs buffer .windows) s q ≡ true) ↔ Kept peak curve q
-    pub rest-stays : drop sheetSize (m .windowsLaid y level xs buffer) ≡ drop sheetSize buffer
+        → (isSet (sheetShown es y level xs buffer .windows) s q ≡ true) ↔ Kept (editionOf es y) peak curve q
+    pub rest-stays : drop sheetSize (m .windowsLaid es y level xs buffer) ≡ drop sheetSize buffer
 
   abbrev pub ToTheQuarterHour : Type 0
-  ToTheQuarterHour = (y level : ℕ) (xs buffer : List ℕ) → m .windows y level xs (length buffer) .number ≡ 0 → SheetLaid y level xs buffer
+  ToTheQuarterHour = (es : Editions) (y level : ℕ) (xs buffer : List ℕ) → m .windows es y level xs (length buffer) .number ≡ 0 → SheetLaid es y level xs buffer
 
 -- Rules 6.2 to 6.5, for a complete legal year on an accepted basis (sheet, holidays, prices and option that an opening
 -- takes): it is answered 8 exactly when no quarter is in-window; where one is, H is the highest reading of these
@@ -153,8 +163,8 @@ pub record Eligibility (m : Module) : Type 0 where
       → m .customerOpen k ≡ only 0
       → d < basisDays k
       → (inWindow k d p ≡ true)
-      ↔ ((m .calendar (basisYear k) (k .holidays) (d + 1) .figures ≡ 1 ∷ [])
-      × (isSet (m .sheetRead (k .sheet) .windows) (seasonOf (basisYear k) (d + 1)) (quarterOf (basisRun k) d p) ≡ true))
+      ↔ ((m .calendar (k .editions) (basisYear k) (k .holidays) (d + 1) .figures ≡ 1 ∷ [])
+      × (isSet (m .sheetRead (k .editions) (k .sheet) .windows) (seasonOf (basisYear k) (d + 1)) (quarterOf (basisRun k) d p) ≡ true))
   -- M is at most b exactly when no reading is above b, so it is the highest reading; S is the sum of all readings
   pub peak :
       (k : Basis) (xs : List ℕ) (b : ℕ)
@@ -176,9 +186,9 @@ pub record Eligibility (m : Module) : Type 0 where
 -- readings, specs/Days): answer and buffer for the grid, the answer for a customer.
 pub record DaysAsWhole (m : Module) : Type 0 where
   pub grid :
-      (y level : ℕ) (buffer : List ℕ)
-      → m .gridOpen y level ≡ only 0
-      → AsWhole (Period y) gridMost (m .gridDay) (m .gridNext) (m .gridOpened y level) (gridEnd m buffer) (gridWhole m y level buffer)
+      (es : Editions) (y level : ℕ) (buffer : List ℕ)
+      → m .gridOpen es y level ≡ only 0
+      → AsWhole (Period y) gridMost (m .gridDay) (m .gridNext) (m .gridOpened es y level) (gridEnd m buffer) (gridWhole m es y level buffer)
   pub customer :
       (k : Basis)
       → m .customerOpen k ≡ only 0
@@ -186,9 +196,9 @@ pub record DaysAsWhole (m : Module) : Type 0 where
   -- where the whole series is answered 5, the days before are taken, and that day answers the same place; d and q count
   -- from 0, the answer's day from 1
   pub grid-place :
-      (y level : ℕ) (xs buffer : List ℕ) (d q : ℕ)
-      → m .windows y level xs (length buffer) ≡ badPlace (record { day = d + 1; position = q })
-      → BadThere (Period y) (m .gridDay) (m .gridNext) (m .gridOpened y level) xs d q
+      (es : Editions) (y level : ℕ) (xs buffer : List ℕ) (d q : ℕ)
+      → m .windows es y level xs (length buffer) ≡ badPlace (record { day = d + 1; position = q })
+      → BadThere (Period y) (m .gridDay) (m .gridNext) (m .gridOpened es y level) xs d q
   pub customer-place :
       (k : Basis) (xs : List ℕ) (d q : ℕ)
       → m .customerOpen k ≡ only 0

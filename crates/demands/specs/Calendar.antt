@@ -7,6 +7,7 @@ use mathlib.Core.Logic.{_↔_, _⊎_}
 use mathlib.Core.List.{List, [], _∷_}
 use Prim.Native.Nat.{ℕ, _+_, _-_, _≤_, _<_}
 use Rattle.dates.specs.Dates.{yearDays, weekdayOf}
+use Rattle.editions.specs.declared.Editions.{Editions}
 use Rattle.holidays.specs.Holidays.{listed}
 use Rattle.demands.specs.Module.{Module}
 
@@ -49,4 +50,7 @@ pub data KindRow (y : ℕ) (hs : List ℕ) (d : ℕ) : ℕ → Type 0 where
 
 -- where the calendar answers 0, its figure is a code exactly when the row of that code holds
 pub record Calendar (m : Module) : Type 0 where
-  pub kind : (y : ℕ) (hs : List ℕ) (d code : ℕ) → m .calendar y hs d .number ≡ 0 → (m .calendar y hs d .figures ≡ code ∷ []) ↔ KindRow y hs d code
+  pub kind :
+      (es : Editions) (y : ℕ) (hs : List ℕ) (d code : ℕ)
+      → m .calendar es y hs d .number ≡ 0
+      → (m .calendar es y hs d .figures ≡ code ∷ []) ↔ KindRow y hs d code

@@ -1,10 +1,11 @@
--- The cases with a star, 1 to 12: what the definitions compute is what the case wants. All of them are one list,
--- `cases`, and one statement, `AllHold`. Rule 11.1.
+-- The cases with a star, 1 to 12: what the definitions compute by today's edition is what the case wants. All of them
+-- are one list, `cases`, and one statement, `AllHold`. Rule 11.1.
 use mathlib.Core.Path.{_≡_}
 use mathlib.Core.Bool.{Bool, true, false}
 use mathlib.Core.List.{List, [], _∷_, _++_}
 use Prim.Native.Nat.{ℕ, _<_}
 use lib.ListN.{replicate}
+use Rattle.answers.specs.Edition.{today}
 use Rattle.answers.specs.Ruling.{dayQuarters}
 use Rattle.answers.specs.Said.{Said}
 use Rattle.dates.specs.Dates.{dayOf, weekdayOf, saturday}
@@ -99,10 +100,10 @@ module _ (u : Unsaid) where
 
   -- a year f is answered 0 with g and c; or it is refused with number n and g
   abbrev pub charged : Figures → Rates → ℕ → ℕ → Case
-  charged f r g c = answer (judgeAnswer f r) (withCharge (chargedOf f g c))
+  charged f r g c = answer (judgeAnswer today f r) (withCharge (chargedOf f g c))
 
   abbrev pub refused : Figures → Rates → ℕ → ℕ → Case
-  refused f r n g = answer (judgeAnswer f r) (withPeaks n (peaksOf f g))
+  refused f r n g = answer (judgeAnswer today f r) (withPeaks n (peaksOf f g))
 
   abbrev pub cases : List Case
   cases =
@@ -111,18 +112,18 @@ module _ (u : Unsaid) where
       -- Case 2: one W more in the windows misses the share, 9
       ∷ refused (year 1000000 800001 12000000000) (rates 5 prices (u .option)) 9 12400000
       -- Case 3: with H 0, r is 2,400,000, below a fifth of g, so c is 2,480,000
-      ∷ number (reduced (year 1000000 0 12000000000) (rates 5 prices (u .option))) 2400000
+      ∷ number (reduced today (year 1000000 0 12000000000) (rates 5 prices (u .option))) 2400000
       ∷ charged (year 1000000 0 12000000000) (rates 5 prices (u .option)) 12400000 2480000
       -- Case 4: where S is 10,000 M, the high row, and g 12,000,000; where S is lower by 1, the low row. (Its g is the
       -- same to the cent, so the row is stated.)
-      ∷ row (rowOf prices (fewHours (year 1000000 (u .high) 10000000000))) highRow
-      ∷ number (general (year 1000000 (u .high) 10000000000) (rates (u .level) prices (u .option))) 12000000
-      ∷ row (rowOf prices (fewHours (year 1000000 (u .high) 9999999999))) lowRow
+      ∷ row (rowOf prices (fewHours today (year 1000000 (u .high) 10000000000))) highRow
+      ∷ number (general today (year 1000000 (u .high) 10000000000) (rates (u .level) prices (u .option))) 12000000
+      ∷ row (rowOf prices (fewHours today (year 1000000 (u .high) 9999999999))) lowRow
       -- Case 5: fewer than 2,500 hours of use, without the option and with it
       ∷ charged (year 1000000 100000 4000000000) (rates 5 prices false) 6000000 4200000
       ∷ charged (year 1000000 100000 4000000000) (rates 5 prices true) 6000000 1800000
       -- Case 6: the option makes r 8,800,000, more than g, so 11
-      ∷ number (reduced (year 1000000 800000 4000000000) (rates 5 prices true)) 8800000
+      ∷ number (reduced today (year 1000000 800000 4000000000) (rates 5 prices true)) 8800000
       ∷ refused (year 1000000 800000 4000000000) (rates 5 prices true) 11 6000000
       -- Case 7: a reduction of 50,000 cent passes; with 499 for 500 it is 49,900, so 11
       ∷ charged (year 300000 200000 3600000000) (rates 1 (withHigh (priced 500 800)) (u .option)) 870000 820000
@@ -130,21 +131,21 @@ module _ (u : Unsaid) where
       -- Case 8: a move of 99,999 W, so 10
       ∷ refused (year 300000 200001 3600000000) (rates 1 (withHigh (priced 500 800)) (u .option)) 10 870000
       -- Case 9: 1,900 is on the line of the peak 2,000 and so not above it, 1,901 is above
-      ∷ test (aboveLine 2000 1900) false
-      ∷ test (aboveLine 2000 1901) true
+      ∷ test (aboveLine today 2000 1900) false
+      ∷ test (aboveLine today 2000 1901) true
       -- Case 10: a curve with the peak in every quarter keeps the first 40
-      ∷ quarters (keptOf (u .peak) (replicate dayQuarters (u .peak))) (replicate 40 true ++ replicate 56 false)
+      ∷ quarters (keptOf today (u .peak) (replicate dayQuarters (u .peak))) (replicate 40 true ++ replicate 56 false)
       -- Case 11: the weekdays of 2 March 2024 and of 1 May 2025; if 1 May is listed, it is a holiday (3), 2 May a
       -- bridge day (5) and 3 May on a weekend (2); so is Sunday 1 January 2017, listed or not
       ∷ number (weekdayOf 2024 (dayOf 2024 3 2)) saturday
       ∷ number (weekdayOf 2025 (dayOf 2025 5 1)) thursday
-      ∷ answer (calendarAnswer 2025 (dayOf 2025 5 1 ∷ []) (dayOf 2025 5 1)) (kind 3)
-      ∷ answer (calendarAnswer 2025 (dayOf 2025 5 1 ∷ []) (dayOf 2025 5 2)) (kind 5)
-      ∷ answer (calendarAnswer 2025 (dayOf 2025 5 1 ∷ []) (dayOf 2025 5 3)) (kind 2)
-      ∷ answer (calendarAnswer 2017 [] (dayOf 2017 1 1)) (kind 2)
-      ∷ answer (calendarAnswer 2017 (dayOf 2017 1 1 ∷ []) (dayOf 2017 1 1)) (kind 2)
+      ∷ answer (calendarAnswer today 2025 (dayOf 2025 5 1 ∷ []) (dayOf 2025 5 1)) (kind 3)
+      ∷ answer (calendarAnswer today 2025 (dayOf 2025 5 1 ∷ []) (dayOf 2025 5 2)) (kind 5)
+      ∷ answer (calendarAnswer today 2025 (dayOf 2025 5 1 ∷ []) (dayOf 2025 5 3)) (kind 2)
+      ∷ answer (calendarAnswer today 2017 [] (dayOf 2017 1 1)) (kind 2)
+      ∷ answer (calendarAnswer today 2017 (dayOf 2017 1 1 ∷ []) (dayOf 2017 1 1)) (kind 2)
       -- Case 12: the sheet of the example. Its four curves are 1,000, but 2,000 in season 1 at quarter 72.
-      ∷ bytes (sheetBytes (sheetOf 2025 5 exampleCurves)) exampleSheet
+      ∷ bytes (sheetBytes (sheetOf today 2025 5 exampleCurves)) exampleSheet
       ∷ []
 
 -- whatever the cases leave open, every case of the list holds

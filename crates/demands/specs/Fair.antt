@@ -1,7 +1,7 @@
 -- What two years with the same M and S have in common, and what an accepted customer pays. `Basis` (terms, specs/Basis)
--- is what a year is decided on: sheet, holidays, prices and option. The years that are spoken of, `LegalYear`, `Alike`,
--- `Agree` and `NoneHigher`, stand in customer, specs/Demand; `Agree` and `NoneHigher` compare each in-window quarter of
--- one year with the same quarter of the other. Rule 12.3.
+-- is what a year is decided on: list of editions, sheet, holidays, prices and option. The years that are spoken of,
+-- `LegalYear`, `Alike`, `Agree` and `NoneHigher`, stand in customer, specs/Demand; `Agree` and `NoneHigher` compare
+-- each in-window quarter of one year with the same quarter of the other. Rule 12.3.
 use mathlib.Core.Path.{_≡_}
 use mathlib.Core.Bool.{cond}
 use mathlib.Core.Logic.{_⊎_}
@@ -10,11 +10,13 @@ use Prim.Native.Nat.{ℕ, _+_, _*_, _≤_}
 use lib.Dec.{eqb}
 use lib.ListN.{length}
 use Rattle.ranges.specs.Limits.{Within}
+use Rattle.answers.specs.declared.Edition.{Edition}
+use Rattle.answers.specs.Ruling.{leastReduction}
 use Rattle.answers.specs.Said.{Said}
 use Rattle.readings.specs.Days.{takenDays, takenReadings}
 use Rattle.tariff.specs.Charges.{general, charge}
 use Rattle.tariff.specs.Answers.{payable}
-use Rattle.terms.specs.Basis.{Basis, basisRates}
+use Rattle.terms.specs.Basis.{Basis, basisEdition, basisRates}
 use Rattle.customer.specs.Demand.{basisDays, LegalYear, Alike, Agree, NoneHigher, basisFigures}
 use Rattle.demands.specs.Module.{Module, customerAfter}
 
@@ -38,15 +40,15 @@ module _ (m : Module) where
     pub first-given : Given k xs a
     pub second-given : Given k ys b
 
--- an accepted answer: its figures begin with c and g, five times c are at least g, and g is at least 500 euro, of 100
--- cent each, above c
-pub record FairCharge (a : Said) : Type 0 where
+-- an accepted answer by an edition: its figures begin with c and g, c is at least the edition's percentage of g, and g
+-- is above c by at least its least reduction. By today's these are a fifth, and 500 euro (specs/Forms, Numbers).
+pub record FairCharge (ed : Edition) (a : Said) : Type 0 where
   pub c : ℕ
   pub g : ℕ
   pub rest : List ℕ
   pub carried : a .figures ≡ c ∷ g ∷ rest
-  pub fifth : g ≤ 5 * c
-  pub below : c + 500 * 100 ≤ g
+  pub share : ed .floor * g ≤ 100 * c
+  pub below : c + leastReduction ed ≤ g
 
 pub record Fairness (m : Module) : Type 0 where
   -- equal readings in all in-window quarters: equal answers, number and figures
@@ -66,6 +68,8 @@ pub record Fairness (m : Module) : Type 0 where
       (k : Basis) (xs : List ℕ) (a : Said)
       → LegalYear k xs
       → Given m k xs a
-      → payable a ≡ cond (eqb (a .number) 0) (charge (basisFigures k xs) (basisRates k)) (general (basisFigures k xs) (basisRates k))
-  -- who is accepted pays a fifth of g or more, and at least 500 euro less than g
-  pub accepted-fair : (k : Basis) (xs : List ℕ) (a : Said) → LegalYear k xs → Given m k xs a → a .number ≡ 0 → FairCharge a
+      → payable a
+      ≡ cond (eqb (a .number) 0) (charge (basisEdition k) (basisFigures k xs) (basisRates k)) (general (basisEdition k) (basisFigures k xs) (basisRates k))
+  -- who is accepted pays the floor of g or more, and less than g by the least reduction or more, both of the edition of
+  -- the basis' year
+  pub accepted-fair : (k : Basis) (xs : List ℕ) (a : Said) → LegalYear k xs → Given m k xs a → a .number ≡ 0 → FairCharge (basisEdition k) a

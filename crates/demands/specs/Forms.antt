@@ -12,9 +12,9 @@ use Rattle.tariff.specs.Charges.{fewHours, floorOf}
 
 pub record TodayForms : Type 0 where
   -- a value is above the line where 20 times it is more than 19 times the peak
-  pub line : (peak value : ℕ) → (aboveLine peak value ≡ true) ↔ (19 * peak < 20 * value)
+  pub line : (peak value : ℕ) → (aboveLine today peak value ≡ true) ↔ (19 * peak < 20 * value)
   -- hours of use are fewer than 2,500 where S is less than 10,000 M
-  pub hours : (f : Figures) → (fewHours f ≡ true) ↔ (f .sum < 10000 * f .peak)
+  pub hours : (f : Figures) → (fewHours today f ≡ true) ↔ (f .sum < 10000 * f .peak)
   -- the floor is the least number of whole cents of which five are no less than g
   pub fifth : (g : ℕ) → g ≤ 5 * floorOf today g
   pub least : (g k : ℕ) → k < floorOf today g → 5 * k < g

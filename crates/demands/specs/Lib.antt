@@ -1,4 +1,5 @@
 pub mod Module
+pub mod Editions
 pub mod Refusals
 pub mod Calendar
 pub mod Windows

@@ -1,17 +1,33 @@
 -- The numbers and dates of the rules, written out: the limits and shares that the rows of specs/Answers name, and what
--- a weekday, a season and the reference period are. The line, the hours of use and the floor stand in specs/Forms,
--- Windows and Charges. Rules 1.5, 2.1 to 2.3, 2.6, 3.1, 3.2, 4.1, 4.5 and 7.6.
+-- a weekday, a season and the reference period are. What the line, the hours of use and the floor do stands in
+-- specs/Windows and Charges, their forms by today's edition in specs/Forms. Rules 1.5, 2.1 to 2.3, 2.6, 2.7, 3.1, 3.2,
+-- 4.1, 4.5 and 7.6.
 use mathlib.Core.Path.{_≡_}
 use mathlib.Core.Logic.{_↔_, _⊎_}
 use Prim.Native.Nat.{ℕ, suc, _+_, _-_, _*_, _%_, _≤_, _<_}
+use lib.ListN.{getD}
 use Rattle.ranges.specs.Limits.{Within}
-use Rattle.answers.specs.Edition.{today}
-use Rattle.answers.specs.Ruling.{ChargeYear, Level, gridMost, customerMost, missing, capacityMost, energyMost, holidaysMost, dayQuarters, shareOf, leastMove, leastReduction, LegalEdition}
+use Rattle.answers.specs.declared.Edition.{Edition}
+use Rattle.answers.specs.Edition.{wholeShare, today}
+use Rattle.answers.specs.Ruling.{HasYear, editionsFrom, editionsTo, moveMost, reductionMost, hoursMost, Level, gridMost, customerMost, missing, capacityMost, energyMost, holidaysMost, dayQuarters, shareOf, leastMove, leastReduction, LegalEdition}
+use Rattle.editions.specs.Editions.{editionsMost}
 use Rattle.dates.specs.Dates.{yearDays, monthDays, dayOf, weekdayOf, seasonOf}
 use Rattle.periods.specs.Period.{periodDays, periodDate, periodSeason}
 
 pub record Numbers : Type 0 where
-  pub years : (y : ℕ) → ChargeYear y ↔ ((2014 ≤ y) × (y ≤ 2028))
+  -- an edition holds for the years from its first to its last, as far as they lie in 2014 to 2060; today's ends with
+  -- 2028
+  pub edition-years : (ed : Edition) (y : ℕ) → HasYear ed y ↔ (Within 2014 2060 y × Within (ed .first) (ed .last) y)
+  pub years : (y : ℕ) → HasYear today y ↔ ((2014 ≤ y) × (y ≤ 2028))
+  -- how many editions a list has at most; and the ranges of an edition: years, whole percents, the least move in W, the
+  -- least reduction in cent, and hours of use
+  pub editions-limit : editionsMost ≡ 8
+  pub first-year : editionsFrom ≡ 2014
+  pub last-year : editionsTo ≡ 2060
+  pub percents : wholeShare ≡ 100
+  pub move-limit : moveMost ≡ 1000000000
+  pub reduction-limit : reductionMost ≡ 1000000
+  pub hours-limit : hoursMost ≡ 8784
   pub levels : (l : ℕ) → Level l ↔ ((1 ≤ l) × (l ≤ 7))
   -- the highest legal readings, in kW of the grid and in W of a customer, and what is sent for a lost one
   pub grid-limit : gridMost ≡ 200000000
@@ -24,7 +40,11 @@ pub record Numbers : Type 0 where
   pub holidays-limit : holidaysMost ≡ 40
   pub quarters : dayQuarters ≡ 96
   pub windows-limit : today .limit ≡ 40
-  -- the share of each level, 1 to 7, in percent
+  -- which numbers of an edition are the share of a level, the least move and the least reduction
+  pub share-is : (ed : Edition) (level : ℕ) → shareOf ed level ≡ getD (ed .shares) (level - 1) 0
+  pub move-is : (ed : Edition) → leastMove ed ≡ ed .«least_move»
+  pub reduction-is : (ed : Edition) → leastReduction ed ≡ ed .«least_reduction»
+  -- today's share of each level, 1 to 7, in percent
   pub share-1 : shareOf today 1 ≡ 5
   pub share-2 : shareOf today 2 ≡ 10
   pub share-3 : shareOf today 3 ≡ 10
@@ -32,9 +52,12 @@ pub record Numbers : Type 0 where
   pub share-5 : shareOf today 5 ≡ 20
   pub share-6 : shareOf today 6 ≡ 30
   pub share-7 : shareOf today 7 ≡ 30
-  -- the least move in W: 100 kW; the least reduction in cent: 500 euro
+  -- the least move in W: 100 kW; the least reduction in cent: 500 euro; the line and the floor in percent; the hours
   pub move : leastMove today ≡ 100 * 1000
   pub reduction : leastReduction today ≡ 500 * 100
+  pub line : today .line ≡ 95
+  pub floor : today .floor ≡ 20
+  pub hours : today .hours ≡ 2500
   -- today's edition is a legal one
   pub legal : LegalEdition today
 

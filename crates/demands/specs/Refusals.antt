@@ -12,6 +12,8 @@ use lib.Dec.{eqb}
 use lib.ListN.{length}
 use Rattle.answers.specs.Ruling.{gridMost, customerMost}
 use Rattle.answers.specs.Said.{Said, only}
+use Rattle.answers.specs.declared.Edition.{Edition}
+use Rattle.editions.specs.declared.Editions.{Editions}
 use Rattle.periods.specs.Period.{periodDays}
 use Rattle.day_kinds.specs.Kinds.{kindCode, kindOf}
 use Rattle.readings.specs.declared.Run.the-variants.{Period}
@@ -25,20 +27,21 @@ use Rattle.grid_days.specs.Days.{shutGrid}
 use Rattle.tariff.specs.declared.Rates.{Rates}
 use Rattle.tariff.specs.declared.Figures.{Figures}
 use Rattle.tariff.specs.Charges.{general, charge}
-use Rattle.terms.specs.Basis.{Basis, basisRates}
+use Rattle.terms.specs.Basis.{Basis, basisEdition, basisRates}
 use Rattle.customer_days.specs.declared.Customer.{Customer}
 use Rattle.customer_days.specs.Days.{shutCustomer, sumMost}
 use Rattle.customer.specs.Demand.{basisRun, basisDays, basisFigures}
 use Rattle.demands.specs.Module.{Module, gridAfter, customerAfter, Refused}
 
--- Rule 8.3: a refusal changes no state and no byte of a lent buffer. (A closing has no state beside its answer: it
--- hands back none.)
+-- Rule 8.3: a refusal changes no list, no state and no byte of a lent buffer. (A closing has no state beside its
+-- answer: it hands back none.)
 pub record LeftAsBefore (m : Module) : Type 0 where
-  pub write : (s : Sheet) (buffer : List ℕ) → Refused (m .write s (length buffer)) → m .written s buffer ≡ buffer
+  pub load : (es : Editions) (ed : Edition) → Refused (m .load es ed) → m .loaded es ed ≡ es
+  pub write : (es : Editions) (s : Sheet) (buffer : List ℕ) → Refused (m .write es s (length buffer)) → m .written es s buffer ≡ buffer
   pub windows :
-      (y level : ℕ) (xs buffer : List ℕ)
-      → Refused (m .windows y level xs (length buffer))
-      → m .windowsLaid y level xs buffer ≡ buffer
+      (es : Editions) (y level : ℕ) (xs buffer : List ℕ)
+      → Refused (m .windows es y level xs (length buffer))
+      → m .windowsLaid es y level xs buffer ≡ buffer
   pub grid-day : (g : Grid) (day : List ℕ) → Refused (m .gridDay g day) → m .gridNext g day ≡ g
   pub grid-close : (g : Grid) (buffer : List ℕ) → Refused (m .gridClose g (length buffer)) → m .gridLaid g buffer ≡ buffer
   pub customer-day : (c : Customer) (day : List ℕ) → Refused (m .customerDay c day) → m .customerNext c day ≡ c
@@ -47,8 +50,8 @@ pub record LeftAsBefore (m : Module) : Type 0 where
 -- so is closing, but a short buffer is 14.
 pub record FixedState (m : Module) : Type 0 where
   -- the sheet beside a refused reading is always the same, too
-  pub read : (b : List ℕ) → Refused (m .read b) → m .sheetRead b ≡ blank
-  pub grid-open : (y level : ℕ) → Refused (m .gridOpen y level) → m .gridOpened y level ≡ shutGrid
+  pub read : (es : Editions) (b : List ℕ) → Refused (m .read es b) → m .sheetRead es b ≡ blank
+  pub grid-open : (es : Editions) (y level : ℕ) → Refused (m .gridOpen es y level) → m .gridOpened es y level ≡ shutGrid
   pub grid-day : (day : List ℕ) → m .gridDay shutGrid day ≡ only 13
   pub grid-close : (buffer : List ℕ) → sheetSize ≤ length buffer → m .gridClose shutGrid (length buffer) ≡ only 13
   pub grid-short : (buffer : List ℕ) → length buffer < sheetSize → m .gridClose shutGrid (length buffer) ≡ only 14
@@ -62,12 +65,12 @@ pub record FixedState (m : Module) : Type 0 where
 -- for the grid, 2 or 6 for a customer.
 pub record HandedBack (m : Module) : Type 0 where
   pub grid-thirteen :
-      (y level : ℕ) (days : List (List ℕ)) (day : List ℕ)
-      → m .gridDay (gridAfter m y level days) day .number ≡ 13
-      → Refused (m .gridOpen y level) ⊎ (length (takenDays (m .gridDay) (m .gridNext) (m .gridOpened y level) days) ≡ periodDays y)
+      (es : Editions) (y level : ℕ) (days : List (List ℕ)) (day : List ℕ)
+      → m .gridDay (gridAfter m es y level days) day .number ≡ 13
+      → Refused (m .gridOpen es y level) ⊎ (length (takenDays (m .gridDay) (m .gridNext) (m .gridOpened es y level) days) ≡ periodDays y)
   pub grid-never :
-      (y level : ℕ) (days : List (List ℕ)) (buffer : List ℕ)
-      → let n = m .gridClose (gridAfter m y level days) (length buffer) .number in
+      (es : Editions) (y level : ℕ) (days : List (List ℕ)) (buffer : List ℕ)
+      → let n = m .gridClose (gridAfter m es y level days) (length buffer) .number in
       (n ≡ 1 → ⊥) × (n ≡ 2 → ⊥)
   pub customer-sum : (k : Basis) (days : List (List ℕ)) → customerAfter m k days .figures .sum ≤ sumMost (customerAfter m k days .seen)
   pub customer-thirteen :
@@ -93,9 +96,9 @@ withFigures f g others n =
     (others n))
 
 -- the decision over figures: 0 has c in front of these
-abbrev pub yearColumn : Figures → Rates → ℕ → List ℕ
-yearColumn f r n =
-    withFigures f (general f r) (zeroAlone (charge f r ∷ general f r ∷ f .peak ∷ f .sum ∷ f .high ∷ f .day ∷ f .quarter ∷ [])) n
+abbrev pub yearColumn : Edition → Figures → Rates → ℕ → List ℕ
+yearColumn ed f r n =
+    withFigures f (general ed f r) (zeroAlone (charge ed f r ∷ general ed f r ∷ f .peak ∷ f .sum ∷ f .high ∷ f .day ∷ f .quarter ∷ [])) n
 
 -- the figures of the answer a are those that a column lists for its number
 pub record Carries (a : Said) (column : ℕ → List ℕ) : Type 0 where
@@ -114,27 +117,28 @@ pub record CarriesPlace (a : Said) (First : ℕ → ℕ → Type 0) (column : �
   pub place : a .number ≡ 5 → NamesFirst a First
 
 -- in a day that is given alone where n days are taken: it is day n, from 0
-pub record FirstToday (limit n : ℕ) (day : List ℕ) (d q : ℕ) : Type 0 where
-  pub today : d ≡ n
+pub record FirstOfDay (limit n : ℕ) (day : List ℕ) (d q : ℕ) : Type 0 where
+  pub on-day : d ≡ n
   pub first : FirstIllegal limit day q
 
 -- Rule 8.1, of each call: its number has the figures that the table lists for it
 pub record Carried (m : Module) : Type 0 where
-  pub calendar : (y : ℕ) (hs : List ℕ) (d : ℕ) → Carries (m .calendar y hs d) (zeroAlone (kindCode (kindOf y hs d) ∷ []))
-  pub read : (b : List ℕ) → Carries (m .read b) (zeroAlone [])
-  pub write : (s : Sheet) (room : ℕ) → Carries (m .write s room) (zeroAlone [])
+  pub load : (es : Editions) (ed : Edition) → Carries (m .load es ed) (zeroAlone [])
+  pub calendar : (es : Editions) (y : ℕ) (hs : List ℕ) (d : ℕ) → Carries (m .calendar es y hs d) (zeroAlone (kindCode (kindOf y hs d) ∷ []))
+  pub read : (es : Editions) (b : List ℕ) → Carries (m .read es b) (zeroAlone [])
+  pub write : (es : Editions) (s : Sheet) (room : ℕ) → Carries (m .write es s room) (zeroAlone [])
   pub windows :
-      (y level : ℕ) (xs buffer : List ℕ)
-      → CarriesPlace (m .windows y level xs (length buffer)) (FirstIllegalIn (Period y) gridMost xs) (zeroAlone [])
-  pub grid-open : (y level : ℕ) → Carries (m .gridOpen y level) (zeroAlone [])
-  pub grid-day : (g : Grid) (day : List ℕ) → CarriesPlace (m .gridDay g day) (FirstToday gridMost (g .seen) day) (zeroAlone [])
+      (es : Editions) (y level : ℕ) (xs buffer : List ℕ)
+      → CarriesPlace (m .windows es y level xs (length buffer)) (FirstIllegalIn (Period y) gridMost xs) (zeroAlone [])
+  pub grid-open : (es : Editions) (y level : ℕ) → Carries (m .gridOpen es y level) (zeroAlone [])
+  pub grid-day : (g : Grid) (day : List ℕ) → CarriesPlace (m .gridDay g day) (FirstOfDay gridMost (g .seen) day) (zeroAlone [])
   pub grid-close : (g : Grid) (room : ℕ) → Carries (m .gridClose g room) (zeroAlone [])
-  pub eligible : (f : Figures) (r : Rates) → Carries (m .eligible f r) (withFigures f (general f r) (zeroAlone (1 ∷ [])))
-  pub charge : (f : Figures) (r : Rates) → Carries (m .charge f r) (yearColumn f r)
-  pub judge : (f : Figures) (r : Rates) → Carries (m .judge f r) (yearColumn f r)
+  pub eligible : (ed : Edition) (f : Figures) (r : Rates) → Carries (m .eligible ed f r) (withFigures f (general ed f r) (zeroAlone (1 ∷ [])))
+  pub charge : (ed : Edition) (f : Figures) (r : Rates) → Carries (m .charge ed f r) (yearColumn ed f r)
+  pub judge : (ed : Edition) (f : Figures) (r : Rates) → Carries (m .judge ed f r) (yearColumn ed f r)
   pub decide :
       (k : Basis) (xs : List ℕ)
-      → CarriesPlace (m .decide k xs) (FirstIllegalIn (basisRun k) customerMost xs) (yearColumn (basisFigures k xs) (basisRates k))
+      → CarriesPlace (m .decide k xs) (FirstIllegalIn (basisRun k) customerMost xs) (yearColumn (basisEdition k) (basisFigures k xs) (basisRates k))
   pub customer-open : (k : Basis) → Carries (m .customerOpen k) (zeroAlone [])
-  pub customer-day : (c : Customer) (day : List ℕ) → CarriesPlace (m .customerDay c day) (FirstToday customerMost (c .seen) day) (zeroAlone [])
-  pub customer-close : (c : Customer) → Carries (m .customerClose c) (yearColumn (c .figures) (c .terms .rates))
+  pub customer-day : (c : Customer) (day : List ℕ) → CarriesPlace (m .customerDay c day) (FirstOfDay customerMost (c .seen) day) (zeroAlone [])
+  pub customer-close : (c : Customer) → Carries (m .customerClose c) (yearColumn (c .terms .edition) (c .figures) (c .terms .rates))

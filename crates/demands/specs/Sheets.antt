@@ -8,6 +8,7 @@ use Prim.Native.Nat.{ℕ, _+_, _-_, _*_, _/_, _%_, _^_, _<_}
 use lib.ListN.{length, getD, take, drop}
 use Rattle.ranges.specs.Limits.{Within}
 use Rattle.answers.specs.Said.{only}
+use Rattle.editions.specs.declared.Editions.{Editions}
 use Rattle.sheet.specs.declared.Sheet.{Sheet}
 use Rattle.sheet.specs.Windows.{windowPlaces, isSet}
 use Rattle.sheet.specs.Bytes.{AreBytes}
@@ -35,24 +36,25 @@ pub record LaidOut (b : List ℕ) (s : Sheet) : Type 0 where
 pub record Sheets (m : Module) : Type 0 where
   -- an accepted sheet stands in the first 56 bytes, and the others stay as they were (Rule 8.3)
   pub written-so :
-      (s : Sheet) (buffer : List ℕ)
+      (es : Editions) (s : Sheet) (buffer : List ℕ)
       → length (s .windows) ≡ windowPlaces
-      → m .write s (length buffer) .number ≡ 0
-      → LaidOut (take 56 (m .written s buffer)) s
-  pub rest-stays : (s : Sheet) (buffer : List ℕ) → m .write s (length buffer) .number ≡ 0 → drop 56 (m .written s buffer) ≡ drop 56 buffer
+      → m .write es s (length buffer) .number ≡ 0
+      → LaidOut (take 56 (m .written es s buffer)) s
+  pub rest-stays : (es : Editions) (s : Sheet) (buffer : List ℕ) → m .write es s (length buffer) .number ≡ 0 → drop 56 (m .written es s buffer) ≡ drop 56 buffer
   -- what is read is what stands there
-  pub read-so : (b : List ℕ) → m .read b .number ≡ 0 → LaidOut b (m .sheetRead b)
-  -- so what is written reads back as the same windows, and one meaning has one list of bytes
+  pub read-so : (es : Editions) (b : List ℕ) → m .read es b .number ≡ 0 → LaidOut b (m .sheetRead es b)
+  -- so what is written reads back as the same windows, and one meaning has one list of bytes, whatever the lists of
+  -- editions
   pub reads-back :
-      (s : Sheet) (buffer : List ℕ)
+      (es : Editions) (s : Sheet) (buffer : List ℕ)
       → length (s .windows) ≡ windowPlaces
-      → m .write s (length buffer) .number ≡ 0
-      → (m .read (take 56 (m .written s buffer)) ≡ only 0) × (m .sheetRead (take 56 (m .written s buffer)) ≡ s)
+      → m .write es s (length buffer) .number ≡ 0
+      → (m .read es (take 56 (m .written es s buffer)) ≡ only 0) × (m .sheetRead es (take 56 (m .written es s buffer)) ≡ s)
   pub same-bytes :
-      (b c : List ℕ)
+      (es fs : Editions) (b c : List ℕ)
       → AreBytes b
       → AreBytes c
-      → m .read b .number ≡ 0
-      → m .read c .number ≡ 0
-      → m .sheetRead b ≡ m .sheetRead c
+      → m .read es b .number ≡ 0
+      → m .read fs c .number ≡ 0
+      → m .sheetRead es b ≡ m .sheetRead fs c
       → b ≡ c

@@ -7,6 +7,7 @@ use mathlib.Core.List.{List}
 use Prim.Native.Nat.{ℕ, _+_, _*_, _≤_, _<_}
 use lib.Dec.{ltb, eqb}
 use Rattle.ranges.specs.Ranges.{countOver}
+use Rattle.answers.specs.declared.Edition.{Edition}
 use Rattle.periods.specs.Period.{periodDays, periodSeason}
 use Rattle.readings.specs.declared.Run.the-variants.{Period}
 use Rattle.readings.specs.Runs.{dayLen, quarterOf, reading}
@@ -34,12 +35,13 @@ module _ (y : ℕ) (xs : List ℕ) where
     pub bound : (q : ℕ) → q < 96 → NoneAboveIn s q (curve q)
     pub least : (q : ℕ) → q < 96 → (b : ℕ) → NoneAboveIn s q b → curve q ≤ b
 
--- quarter q is kept (Rules 4.4 and 4.5): it is above the line, and of the quarters above the line fewer than 40 go
--- before it, because they are higher, or equal and earlier. `ahead q p`: quarter p goes before quarter q.
-module _ (peak : ℕ) (curve : ℕ → ℕ) where
+-- quarter q is kept by an edition (Rules 4.4 and 4.5): it is above the line, and of the quarters above the line fewer
+-- than the limit go before it, because they are higher, or equal and earlier. `ahead q p`: quarter p goes before
+-- quarter q.
+module _ (ed : Edition) (peak : ℕ) (curve : ℕ → ℕ) where
   abbrev pub ahead : ℕ → ℕ → Bool
-  ahead q p = ltb (19 * peak) (20 * curve p) && (ltb (curve q) (curve p) || (eqb (curve p) (curve q) && ltb p q))
+  ahead q p = ltb (ed .line * peak) (100 * curve p) && (ltb (curve q) (curve p) || (eqb (curve p) (curve q) && ltb p q))
 
   pub record Kept (q : ℕ) : Type 0 where
-    pub above : 19 * peak < 20 * curve q
-    pub few : countOver (ahead q) 96 < 40
+    pub above : ed .line * peak < 100 * curve q
+    pub few : countOver (ahead q) 96 < ed .limit

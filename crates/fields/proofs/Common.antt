@@ -10,8 +10,10 @@ use native.Mathlib.Omega.{arith}
 use lib.Dec.{eqb}
 use lib.ListN.{getD}
 use Rattle.ranges.specs.Ranges.{numberIf}
-use Rattle.answers.specs.Ruling.{yearOut, levelOut}
+use Rattle.answers.specs.Ruling.{levelOut}
 use Rattle.answers.specs.Said.{Said, only}
+use Rattle.editions.specs.declared.Editions.{Editions}
+use Rattle.editions.specs.Editions.{yearOut}
 use Rattle.encoding.specs.Bytes.{markSize, otherMark, formatVersion, twoAt}
 use Rattle.encoding.proofs.Bytes.{two-same, other-mark-same}
 use Rattle.fields.specs.Layout.{Field}
@@ -32,9 +34,9 @@ pub version-own : Own versionField 2
 unfolding versionField
 version-own b c i h = ap (λ (x : ℕ). numberIf (not (eqb x formatVersion)) 12) (two-same b c i i h)
 
-pub year-own : Own yearField 2
+pub year-own : (es : Editions) → Own (yearField es) 2
 unfolding yearField
-year-own b c i h = ap (λ (x : ℕ). numberIf (yearOut x) 1) (two-same b c i i h)
+year-own es b c i h = ap (λ (x : ℕ). numberIf (yearOut es x) 1) (two-same b c i i h)
 
 pub level-own : Own levelField 1
 unfolding levelField
@@ -50,9 +52,9 @@ module _ (b : List ℕ) (i : ℕ) where
   unfolding versionField
   version-no e = ap (λ (n : ℕ). numberIf (not (eqb n formatVersion)) 12) e
 
-  pub year-no : {n : ℕ} {t : Bool} → n ≡ twoAt b i → t ≡ yearOut n → numberIf t 1 ≡ yearField b .refusedAt i
+  pub year-no : (es : Editions) {n : ℕ} {t : Bool} → n ≡ twoAt b i → t ≡ yearOut es n → numberIf t 1 ≡ yearField es b .refusedAt i
   unfolding yearField
-  year-no e f = ap (λ (t : Bool). numberIf t 1) (f ∙ ap yearOut e)
+  year-no es e f = ap (λ (t : Bool). numberIf t 1) (f ∙ ap (yearOut es) e)
 
   pub level-no : {t : Bool} → t ≡ levelOut (getD b i 0) → numberIf t 2 ≡ levelField b .refusedAt i
   unfolding levelField

@@ -86,16 +86,16 @@ module _ {S : Type 0} (r : Reader S) (s : S) where
         g ∙ laid-whole (r .head s) at b size room has ∙ (λ i. paste (r .head s) (e i) b (f i))
 
     module _ {next : List ℕ} (l : fieldSize r s ≤ length b) (e : next ≡ headWith r s b) where
-      pub field-refused : {n : ℕ} → n ≡ r .layout next .refusal (r .field s) → (n ≡ 0 → ⊥) → r .ended s (Refused n) ≡ fieldFed r s b
+      pub field-refused : {n : ℕ} → n ≡ r .layout s next .refusal (r .field s) → (n ≡ 0 → ⊥) → r .ended s (Refused n) ≡ fieldFed r s b
       unfolding fieldFed
       field-refused {n} k z =
-          let m : n ≡ numberWith r s b = k ∙ ap (λ (d : List ℕ). r .layout d .refusal (r .field s)) e in
+          let m : n ≡ numberWith r s b = k ∙ ap (λ (d : List ℕ). r .layout s d .refusal (r .field s)) e in
           simp (le-ltb (length b) (fieldSize r s) l, ← m, ne-eqb n 0 z)
 
-      pub field-taken : r .layout next .refusal (r .field s) ≡ 0 → r .headed s next ≡ fieldFed r s b
+      pub field-taken : r .layout s next .refusal (r .field s) ≡ 0 → r .headed s next ≡ fieldFed r s b
       unfolding fieldFed
       field-taken z =
-          let m : numberWith r s b ≡ 0 = ap (λ (d : List ℕ). r .layout d .refusal (r .field s)) (sym e) ∙ z in
+          let m : numberWith r s b ≡ 0 = ap (λ (d : List ℕ). r .layout s d .refusal (r .field s)) (sym e) ∙ z in
           simp (le-ltb (length b) (fieldSize r s) l, eq-eqb _ 0 m) (ap (r .headed s) e)
 
     -- a day; its readings are the first in the bytes, as many as the code asks for

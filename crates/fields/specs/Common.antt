@@ -5,7 +5,9 @@ use mathlib.Core.List.{List}
 use Prim.Native.Nat.{ℕ}
 use lib.ListN.{getD}
 use Rattle.ranges.specs.Ranges.{numberIf}
-use Rattle.answers.specs.Ruling.{yearOut, levelOut}
+use Rattle.answers.specs.Ruling.{levelOut}
+use Rattle.editions.specs.declared.Editions.{Editions}
+use Rattle.editions.specs.Editions.{yearOut}
 use Rattle.encoding.specs.Bytes.{markSize, versionSize, yearSize, levelSize, otherMark, twoAt, versionOut}
 use Rattle.fields.specs.Layout.{Field}
 
@@ -17,8 +19,8 @@ markField mark b = record { width = markSize; refusedAt = λ i. numberIf (otherM
 unfoldable pub versionField : List ℕ → Field
 versionField b = record { width = versionSize; refusedAt = λ i. numberIf (versionOut b i) 12 }
 
-unfoldable pub yearField : List ℕ → Field
-yearField b = record { width = yearSize; refusedAt = λ i. numberIf (yearOut (twoAt b i)) 1 }
+unfoldable pub yearField : Editions → List ℕ → Field
+yearField es b = record { width = yearSize; refusedAt = λ i. numberIf (yearOut es (twoAt b i)) 1 }
 
 unfoldable pub levelField : List ℕ → Field
 levelField b = record { width = levelSize; refusedAt = λ i. numberIf (levelOut (getD b i 0)) 2 }

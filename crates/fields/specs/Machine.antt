@@ -23,8 +23,9 @@ pub record Reader (S : Type 0) : Type 0 where
   pub seen : S → ℕ
   pub head : S → List ℕ
   pub stage : S → Stage
-  -- its file: the header's layout, which goes by the header's bytes; the run of the days, and how many there are
-  pub layout : List ℕ → Layout
+  -- its file: the header's layout, which goes by the header's bytes and by what the machine keeps beside them; the run
+  -- of the days, and how many there are
+  pub layout : S → List ℕ → Layout
   pub run : S → Run
   pub days : S → ℕ
   -- the state that has ended at a stage, and the state with one field more, whose header bytes are these
@@ -37,7 +38,7 @@ pub record Reader (S : Type 0) : Type 0 where
 module _ {S : Type 0} (r : Reader S) where
   -- the layout that the header's bytes give, how many bytes the next field has, and how many the next day
   abbrev pub layoutIn : S → Layout
-  layoutIn s = r .layout (r .head s)
+  layoutIn s = r .layout s (r .head s)
 
   abbrev pub fieldSize : S → ℕ
   fieldSize s = layoutIn s .width (r .field s)
@@ -60,7 +61,7 @@ module _ {S : Type 0} (r : Reader S) where
   headWith s b = paste (r .head s) (startOf (layoutIn s) (r .field s)) b (fieldSize s)
 
   abbrev pub numberWith : S → List ℕ → ℕ
-  numberWith s b = r .layout (headWith s b) .refusal (r .field s)
+  numberWith s b = r .layout s (headWith s b) .refusal (r .field s)
 
   unfoldable pub fieldFed : S → List ℕ → S
   fieldFed s b =

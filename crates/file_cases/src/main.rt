@@ -1,10 +1,18 @@
 // Reads each file that the arguments name as the two programs read their input, and prints its name in a line and then
-// its text. A file whose name begins with g goes to the window program's machine, any other one to the statement
-// program's; nothing here is decided or proved of them. What they print is specified in grid_text and customer_text,
-// specs/Text.
+// its text; nothing here is decided or proved of them. By the first letter of its name a file is
+//   g  a grid file, under today's list of editions;
+//   e  a file of either kind, under a list of its own. The kind (a byte: G a grid file, any other a customer's) and the
+//      list (src/lists.rt) stand before it;
+// and with any other letter a customer's file, under today's list. Without an argument standard input is read as such
+// an e file, and only its text is printed: so tests/compare gives it many.
+// What is printed is specified in grid_text and customer_text, specs/Text.
 // tests/file_cases.py makes the files, and what must come of them by docs/RULES.md.
+mod lists;
+
 use customer_file::CustomerFile;
+use editions::Editions;
 use grid_file::GridFile;
+use libc::STDIN_FILENO;
 use libc::STDOUT_FILENO;
 
 // No field and no day has more bytes.
@@ -25,8 +33,8 @@ fn next_grid(fd: i32, file: GridFile) -> GridFile {
     feed_grid(fd, file, &mut part[..want])
 }
 
-fn run_grid(fd: i32) -> GridFile {
-    let mut file = GridFile::start();
+fn run_grid(fd: i32, editions: Editions) -> GridFile {
+    let mut file = GridFile::start(editions);
     let mut left = PARTS;
     while left > 0 {
         if file.want() == 0 {
@@ -38,9 +46,9 @@ fn run_grid(fd: i32) -> GridFile {
     file
 }
 
-fn print_windows(fd: i32) {
+fn print_windows(fd: i32, editions: Editions) {
     let mut text = [0u8; texts::TEXT_MOST];
-    let n = grid_text::text(run_grid(fd), &mut text);
+    let n = grid_text::text(run_grid(fd, editions), &mut text);
     io::write_all(STDOUT_FILENO, &text[0..n]);
 }
 
@@ -55,8 +63,8 @@ fn next_customer(fd: i32, file: CustomerFile) -> CustomerFile {
     feed_customer(fd, file, &mut part[..want])
 }
 
-fn run_customer(fd: i32) -> CustomerFile {
-    let mut file = CustomerFile::start();
+fn run_customer(fd: i32, editions: Editions) -> CustomerFile {
+    let mut file = CustomerFile::start(editions);
     let mut left = PARTS;
     while left > 0 {
         if file.want() == 0 {
@@ -68,17 +76,30 @@ fn run_customer(fd: i32) -> CustomerFile {
     file
 }
 
-fn print_statement(fd: i32) {
+fn print_statement(fd: i32, editions: Editions) {
     let mut text = [0u8; texts::TEXT_MOST];
-    let n = customer_text::text(run_customer(fd), &mut text);
+    let n = customer_text::text(run_customer(fd, editions), &mut text);
     io::write_all(STDOUT_FILENO, &text[0..n]);
 }
 
-fn print_file(kind: u8, fd: i32) {
-    if kind == b'g' {
-        print_windows(fd);
+fn print_text(grid: bool, fd: i32, editions: Editions) {
+    if grid {
+        print_windows(fd, editions);
     } else {
-        print_statement(fd);
+        print_statement(fd, editions);
+    }
+}
+
+fn print_listed(fd: i32) {
+    let kind = lists::byte(fd);
+    print_text(kind == b'G', fd, lists::list(fd));
+}
+
+fn print_file(letter: u8, fd: i32) {
+    if letter == b'e' {
+        print_listed(fd);
+    } else {
+        print_text(letter == b'g', fd, editions::todays());
     }
 }
 
@@ -98,7 +119,11 @@ fn one(i: usize) {
 }
 
 fn main() {
+    // the first word is the program's own name
     let count = os::arg_count();
+    if count < 2 {
+        print_listed(STDIN_FILENO);
+    }
     for i in 1..count {
         one(i);
     }

@@ -6,11 +6,14 @@ ghost use mathlib.Core.List.{List};
 ghost use Prim.Native.Nat.{ℕ, _<_};
 ghost use lib.ListN.{length};
 ghost use Rattle.answers.specs.Ruling.{dayQuarters};
+ghost use Rattle.editions.specs.Editions.{editionOf};
 ghost use Rattle.readings.specs.Legal.{highestOf};
 ghost use Rattle.sheet.specs.Answers.{saidOfSheet};
 ghost use Rattle.sheet.specs.Windows.{seasons, flatWindows};
 ghost use Rattle.grid.specs.Answers.{saidOfGrid, Gives, curveOf, curvesOf, finishAnswer, finished, windowsAnswer, windowsBuffer};
+use answers::Edition;
 use answers::Place;
+use editions::Editions;
 use readings::Run;
 use sheet::Sheet;
 use sheet::SheetAnswer;
@@ -79,6 +82,7 @@ fn flat_windows(
 // What four curves are answered whose highest value is known: 7 for a peak of zero, else the windows are chosen and
 // their sheet is written.
 fn finish_by(
+    edition: Edition,
     year: u16,
     level: u8,
     curves: &[[u32; answers::DAY_QUARTERS]; sheet::SEASONS],
@@ -86,14 +90,15 @@ fn finish_by(
     out: &mut [u8],
 ) -> GridAnswer
     ensures { λ r. ⌜ ((flat : List ℕ) → now (curves .entry) ≡ curvesOf flat → peak ≡ highestOf flat
-        → Gives r (finishAnswer year level flat (length (now (out .entry))))
-        (now (out .exit)) (finished year level flat (now (out .entry)))) ⌝ }
+        → Gives r (finishAnswer edition year level flat (length (now (out .entry))))
+        (now (out .exit)) (finished edition year level flat (now (out .entry)))) ⌝ }
 {
     if peak == 0 {
         return GridAnswer::NoPeak;
     }
-    let windows = flat_windows(windows::chosen(peak, curves));
-    as_grid_answer(sheet_write::write(
+    let windows = flat_windows(windows::chosen(edition, peak, curves));
+    as_grid_answer(sheet_write::write_by(
+        edition,
         Sheet {
             year,
             level,
@@ -103,31 +108,32 @@ fn finish_by(
     ))
 }
 
-// What flat curves are answered once all days are in: 7 for a peak of zero, else the sheet of their windows in a lent
-// buffer. Any curves have an answer.
+// What flat curves are answered by an edition once all days are in: 7 for a peak of zero, else the sheet of their
+// windows in a lent buffer. Any edition and any curves have an answer.
 pub fn finish(
+    edition: Edition,
     year: u16,
     level: u8,
     curves: &[u32; sheet::WINDOW_PLACES],
     out: &mut [u8],
 ) -> GridAnswer
-    ensures { λ r. ⌜ Gives r (finishAnswer year level (now (curves .entry)) (length (now (out .entry))))
-        (now (out .exit)) (finished year level (now (curves .entry)) (now (out .entry))) ⌝ }
+    ensures { λ r. ⌜ Gives r (finishAnswer edition year level (now (curves .entry)) (length (now (out .entry))))
+        (now (out .exit)) (finished edition year level (now (curves .entry)) (now (out .entry))) ⌝ }
 {
     let seasons = by_season(curves);
-    finish_by(year, level, &seasons, peaks::highest(curves), out)
+    finish_by(edition, year, level, &seasons, peaks::highest(curves), out)
 }
 
-// The windows of a whole series, as a sheet in a lent buffer. Refuses 14, 1, 2, 4, 5, 7 in this order, and then changes
-// no byte.
-pub fn windows(year: u16, level: u8, series: &[u32], out: &mut [u8]) -> GridAnswer
-    ensures { λ r. ⌜ Gives r (windowsAnswer year level (now (series .entry)) (length (now (out .entry))))
-        (now (out .exit)) (windowsBuffer year level (now (series .entry)) (now (out .entry))) ⌝ }
+// The windows of a whole series by an edition, as a sheet in a lent buffer. Refuses 14, 1, 2, 4, 5, 7 in this order,
+// and then changes no byte.
+fn windows_by(edition: Edition, year: u16, level: u8, series: &[u32], out: &mut [u8]) -> GridAnswer
+    ensures { λ r. ⌜ Gives r (windowsAnswer edition year level (now (series .entry)) (length (now (out .entry))))
+        (now (out .exit)) (windowsBuffer edition year level (now (series .entry)) (now (out .entry))) ⌝ }
 {
     if out.len() < sheet::SHEET_SIZE {
         return GridAnswer::Short;
     }
-    if answers::year_out(year) {
+    if answers::lacks_year(edition, year) {
         return GridAnswer::YearOut;
     }
     if answers::level_out(level) {
@@ -147,5 +153,20 @@ pub fn windows(year: u16, level: u8, series: &[u32], out: &mut [u8]) -> GridAnsw
         ));
     }
     let seasons = by_season(&curves);
-    finish_by(year, level, &seasons, peak, out)
+    finish_by(edition, year, level, &seasons, peak, out)
+}
+
+// The windows of a whole series by the edition of its year, as a sheet in a lent buffer. Refuses 14, 1, 2, 4, 5, 7 in
+// this order, and then changes no byte.
+pub fn windows(
+    editions: Editions,
+    year: u16,
+    level: u8,
+    series: &[u32],
+    out: &mut [u8],
+) -> GridAnswer
+    ensures { λ r. ⌜ Gives r (windowsAnswer (editionOf editions year) year level (now (series .entry)) (length (now (out .entry))))
+        (now (out .exit)) (windowsBuffer (editionOf editions year) year level (now (series .entry)) (now (out .entry))) ⌝ }
+{
+    windows_by(editions::pick(editions, year), year, level, series, out)
 }

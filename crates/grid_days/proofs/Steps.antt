@@ -8,7 +8,8 @@ use Prim.Native.Nat.{ℕ, _≤_, _<_}
 use borrow.Author.Tests.{lt-ltb, le-ltb, eq-eqb, ne-eqb}
 use lib.Dec.{eqb}
 use lib.ListN.{length}
-use Rattle.answers.specs.Ruling.{gridMost, yearOut, levelOut}
+use Rattle.answers.specs.declared.Edition.{Edition}
+use Rattle.answers.specs.Ruling.{gridMost, lacksYear, levelOut}
 use Rattle.answers.specs.Said.{Said, only, after}
 use Rattle.answers.proofs.Laws.{refusal-keeps, done-hands}
 use Rattle.periods.specs.Period.{periodDays}
@@ -29,16 +30,16 @@ use Rattle.grid_days.specs.Days.{freshGrid, shutGrid, openGrid, gridDayA
 use Rattle.grid.proofs.Answered.{open-year, open-level, open-done, finished-again}
 
 -- opening
-module _ (y level : ℕ) where
-  pub opened-year : yearOut y ≡ true → (only 1 ≡ gridOpenAnswer y level) × (shutGrid ≡ openGrid y level)
-  opened-year e = refusal-keeps (only 1) (freshGrid y level) shutGrid (open-year y level e) refl
+module _ (ed : Edition) (y level : ℕ) where
+  pub opened-year : lacksYear ed y ≡ true → (only 1 ≡ gridOpenAnswer ed y level) × (shutGrid ≡ openGrid ed y level)
+  opened-year e = refusal-keeps (only 1) (freshGrid ed y level) shutGrid (open-year ed y level e) refl
 
-  module _ (a : yearOut y ≡ false) where
-    pub opened-level : levelOut level ≡ true → (only 2 ≡ gridOpenAnswer y level) × (shutGrid ≡ openGrid y level)
-    opened-level e = refusal-keeps (only 2) (freshGrid y level) shutGrid (open-level y level a e) refl
+  module _ (a : lacksYear ed y ≡ false) where
+    pub opened-level : levelOut level ≡ true → (only 2 ≡ gridOpenAnswer ed y level) × (shutGrid ≡ openGrid ed y level)
+    opened-level e = refusal-keeps (only 2) (freshGrid ed y level) shutGrid (open-level ed y level a e) refl
 
-    pub opened-done : levelOut level ≡ false → (only 0 ≡ gridOpenAnswer y level) × (freshGrid y level ≡ openGrid y level)
-    opened-done e = done-hands (only 0) (freshGrid y level) shutGrid (open-done y level a e) refl
+    pub opened-done : levelOut level ≡ false → (only 0 ≡ gridOpenAnswer ed y level) × (freshGrid ed y level ≡ openGrid ed y level)
+    opened-done e = done-hands (only 0) (freshGrid ed y level) shutGrid (open-done ed y level a e) refl
 
 -- every answer but `Done` is a refusal, and of the others' places in the enum none is `Done`'s
 pub refuses : (a : GridAnswer) → (a ≡ Done → ⊥) → eqb (saidOfGrid a .number) 0 ≡ false
@@ -94,7 +95,7 @@ module _ (g : Grid) (out : List ℕ) where
       → a ≡ gridCloseAnswer g (length out)
       → (a ≡ gridCloseAnswer g (length out)) × (out ≡ gridCloseBuffer g out)
   unfolding gridCloseBuffer
-  close-refused a z e = refusal-keeps a (finished (g .year) (g .level) (g .curves) out) out e z
+  close-refused a z e = refusal-keeps a (finished (g .edition) (g .year) (g .level) (g .curves) out) out e z
 
   pub close-short : length out < sheetSize → (only 14 ≡ gridCloseAnswer g (length out)) × (out ≡ gridCloseBuffer g out)
   unfolding gridCloseAnswer
@@ -108,12 +109,13 @@ module _ (g : Grid) (out : List ℕ) where
     pub close-finish :
         {s : Said} {next : List ℕ}
         → g .seen ≡ periodDays (g .year)
-        → (s ≡ finishAnswer (g .year) (g .level) (g .curves) (length out)) × (next ≡ finished (g .year) (g .level) (g .curves) out)
+        → (s ≡ finishAnswer (g .edition) (g .year) (g .level) (g .curves) (length out)) × (next ≡ finished (g .edition) (g .year) (g .level) (g .curves) out)
         → (s ≡ gridCloseAnswer g (length out)) × (next ≡ gridCloseBuffer g out)
     unfolding gridCloseAnswer gridCloseBuffer
     close-finish e f =
-        let same : finishAnswer (g .year) (g .level) (g .curves) (length out) ≡ gridCloseAnswer g (length out) = simp (le-ltb _ _ h, eq-eqb _ _ e) in (
+        let same : finishAnswer (g .edition) (g .year) (g .level) (g .curves) (length out) ≡ gridCloseAnswer g (length out) =
+        simp (le-ltb _ _ h, eq-eqb _ _ e) in (
           f .0 ∙ same,
-          f .1 ∙ sym (finished-again (g .year) (g .level) (g .curves) out)
-              ∙ ap (λ (x : Said). after x (finished (g .year) (g .level) (g .curves) out) out) same,
+          f .1 ∙ sym (finished-again (g .edition) (g .year) (g .level) (g .curves) out)
+              ∙ ap (λ (x : Said). after x (finished (g .edition) (g .year) (g .level) (g .curves) out) out) same,
         )

@@ -3,7 +3,7 @@
 -- its run (readings, Rows).
 use mathlib.Core.Path.{_≡_}
 use Prim.Native.Nat.{ℕ, _≤_, _<_}
-use Rattle.answers.specs.Ruling.{ChargeYear, Level}
+use Rattle.answers.specs.Ruling.{HasYear, Level}
 use Rattle.periods.specs.Period.{periodDays}
 use Rattle.readings.specs.Legal.{highestOf}
 use Rattle.sheet.specs.Bytes.{sheetSize}
@@ -19,6 +19,6 @@ pub data CloseRow (g : Grid) (room : ℕ) : ℕ → Type 0 where
   fourteen : room < sheetSize → CloseRow g room 14
   early : sheetSize ≤ room → (g .seen ≡ periodDays (g .year) → ⊥) → CloseRow g room 13
   seven : Closes g room → highestOf (g .curves) ≡ 0 → CloseRow g room 7
-  one : Closes g room → 0 < highestOf (g .curves) → (ChargeYear (g .year) → ⊥) → CloseRow g room 1
-  two : Closes g room → 0 < highestOf (g .curves) → ChargeYear (g .year) → (Level (g .level) → ⊥) → CloseRow g room 2
-  zero : Closes g room → 0 < highestOf (g .curves) → ChargeYear (g .year) → Level (g .level) → CloseRow g room 0
+  one : Closes g room → 0 < highestOf (g .curves) → (HasYear (g .edition) (g .year) → ⊥) → CloseRow g room 1
+  two : Closes g room → 0 < highestOf (g .curves) → HasYear (g .edition) (g .year) → (Level (g .level) → ⊥) → CloseRow g room 2
+  zero : Closes g room → 0 < highestOf (g .curves) → HasYear (g .edition) (g .year) → Level (g .level) → CloseRow g room 0

@@ -5,16 +5,21 @@
 ghost use mathlib.Core.Path.{_≡_};
 ghost use lib.ListN.{length};
 ghost use Rattle.answers.specs.Ruling.{gridMost};
+ghost use Rattle.editions.specs.Editions.{editionOf};
 ghost use Rattle.readings.specs.declared.Run.the-variants.{Period};
 ghost use Rattle.readings.specs.Days.{nextAnswer};
 ghost use Rattle.grid.specs.Answers.{saidOfGrid, Gives, gridOpenAnswer};
 ghost use Rattle.grid_days.specs.Days.{openGrid, shutGrid, gridDayAnswer, dayGrid, dayCurves, gridCloseAnswer, gridCloseBuffer};
+use answers::Edition;
 use answers::Place;
+use editions::Editions;
 use grid::GridAnswer;
 use readings::Run;
 
-// A series that is given day by day: the days taken so far, and the curves of their readings, flat.
+// A series that is given day by day: the edition of its year, the days taken so far, and the curves of their readings,
+// flat.
 pub struct Grid {
+    pub edition: Edition,
     pub year: u16,
     pub level: u8,
     pub seen: u16,
@@ -67,12 +72,12 @@ pub fn take_day(
 }
 
 impl Grid {
-    // Opens a series that comes day by day. Refuses 1, 2; beside a refusal stands one fixed state, which takes no day
-    // and never closes (Rule 9.5).
-    pub fn open(year: u16, level: u8) -> Stepped
-        ensures { λ r. ⌜ Gives (r .answer) (gridOpenAnswer year level) (r .grid) (openGrid year level) ⌝ }
+    // Opens a series by an edition. Refuses 1, 2; beside a refusal stands one fixed state, which takes no day and never
+    // closes (Rule 9.5).
+    fn open_by(edition: Edition, year: u16, level: u8) -> Stepped
+        ensures { λ r. ⌜ Gives (r .answer) (gridOpenAnswer edition year level) (r .grid) (openGrid edition year level) ⌝ }
     {
-        if answers::year_out(year) {
+        if answers::lacks_year(edition, year) {
             return Stepped {
                 answer: GridAnswer::YearOut,
                 grid: Grid::shut(),
@@ -87,6 +92,7 @@ impl Grid {
         Stepped {
             answer: GridAnswer::Done,
             grid: Grid {
+                edition,
                 year,
                 level,
                 seen: 0,
@@ -95,10 +101,19 @@ impl Grid {
         }
     }
 
+    // Opens a series that comes day by day; the state keeps the edition of its year. Refuses 1, 2; beside a refusal
+    // stands one fixed state.
+    pub fn open(editions: Editions, year: u16, level: u8) -> Stepped
+        ensures { λ r. ⌜ (let ed = editionOf editions year in Gives (r .answer) (gridOpenAnswer ed year level) (r .grid) (openGrid ed year level)) ⌝ }
+    {
+        Grid::open_by(editions::pick(editions, year), year, level)
+    }
+
     fn shut() -> Grid
         ensures { λ r. ⌜ r ≡ shutGrid ⌝ }
     {
         Grid {
+            edition: answers::NO_EDITION,
             year: 0,
             level: 0,
             seen: readings::SHUT_DAYS,
@@ -128,6 +143,7 @@ impl Grid {
         ensures { λ r. ⌜ Gives r (gridCloseAnswer self (length (now (out .entry))))
             (now (out .exit)) (gridCloseBuffer self (now (out .entry))) ⌝ }
     {
+        let edition = self.edition;
         let curves = self.curves;
         if out.len() < sheet::SHEET_SIZE {
             return GridAnswer::Short;
@@ -135,6 +151,6 @@ impl Grid {
         if self.seen != periods::period_days(self.year) {
             return GridAnswer::DayOut;
         }
-        grid::finish(self.year, self.level, &curves, out)
+        grid::finish(edition, self.year, self.level, &curves, out)
     }
 }

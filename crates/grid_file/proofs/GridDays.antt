@@ -26,7 +26,7 @@ module _ (s : GridFile) (day : List ℕ) where
   said = gridDayAnswer (s .grid) day
 
   abbrev with : Grid → Stage → GridFile
-  with g stage = record { field = s .field; head = s .head; grid = g; stage = stage }
+  with g stage = record { editions = s .editions; field = s .field; head = s .head; grid = g; stage = stage }
 
   kept : eqb (said .number) 0 ≡ false → dayGrid (s .grid) day ≡ s .grid
   unfolding dayGrid

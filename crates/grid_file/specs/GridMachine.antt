@@ -4,6 +4,7 @@ use mathlib.Core.List.{List}
 use Prim.Native.Nat.{ℕ, _+_}
 use lib.ListN.{replicate}
 use Rattle.answers.specs.Said.{Said}
+use Rattle.editions.specs.declared.Editions.{Editions}
 use Rattle.periods.specs.Period.{periodDays}
 use Rattle.readings.specs.declared.Run.the-variants.{Period}
 use Rattle.sheet.specs.Bytes.{sheetSize}
@@ -16,16 +17,17 @@ use Rattle.grid_file.specs.declared.GridFile.{GridFile}
 use Rattle.grid_head.specs.Header.{gridLayout, gridHeadMost, openedGrid}
 use Rattle.grid_file.specs.Grid.{blankSheet, withSheet}
 
--- the state in the header: k fields are taken, and these are the header's bytes; and the state before the first byte
-abbrev pub gridHead : ℕ → List ℕ → GridFile
-gridHead k head = record { field = k; head = head; grid = openedGrid head; stage = Going }
+-- the state in the header: es is the list of editions, k fields are taken, and these are the header's bytes; and the
+-- state before the first byte
+abbrev pub gridHead : Editions → ℕ → List ℕ → GridFile
+gridHead es k head = record { editions = es; field = k; head = head; grid = openedGrid es head; stage = Going }
 
-abbrev pub gridStart : GridFile
-gridStart = gridHead 0 (replicate gridHeadMost 0)
+abbrev pub gridStart : Editions → GridFile
+gridStart es = gridHead es 0 (replicate gridHeadMost 0)
 
 -- the state that has ended at a stage
 abbrev pub gridEnded : GridFile → Stage → GridFile
-gridEnded s stage = record { field = s .field; head = s .head; grid = s .grid; stage = stage }
+gridEnded s stage = record { editions = s .editions; field = s .field; head = s .head; grid = s .grid; stage = stage }
 
 -- its days are those of the reference period, and the grid's series takes them in; `seen` is how many are taken
 abbrev pub gridReader : Reader GridFile
@@ -35,13 +37,13 @@ gridReader =
       seen = λ s. s .grid .seen;
       head = λ s. s .head;
       stage = λ s. s .stage;
-      layout = gridLayout;
+      layout = λ s. gridLayout (s .editions);
       run = λ s. Period (s .grid .year);
       days = λ s. periodDays (s .grid .year);
       ended = gridEnded;
-      headed = λ s head. gridHead (s .field + 1) head;
+      headed = λ s head. gridHead (s .editions) (s .field + 1) head;
       said = λ s day. gridDayAnswer (s .grid) day;
-      added = λ s day. record { field = s .field; head = s .head; grid = dayGrid (s .grid) day; stage = Going };
+      added = λ s day. record { editions = s .editions; field = s .field; head = s .head; grid = dayGrid (s .grid) day; stage = Going };
     }
 
 -- how many bytes it wants, and what it does with those that came

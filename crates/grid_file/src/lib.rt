@@ -12,15 +12,17 @@ ghost use Rattle.grid_head.specs.Header.{gridLayout};
 ghost use Rattle.fields.specs.Stages.{dayStage};
 ghost use Rattle.fields.specs.Machine.{fieldFed, dayFed, endFed};
 ghost use Rattle.grid_file.specs.GridMachine.{gridStart, gridEnded, gridReader, gridWants, gridFed};
+use editions::Editions;
 use fields::Span;
 use fields::Stage;
 use grid::GridAnswer;
 use grid_days::Grid;
 use readings::Run;
 
-// A grid file that is being read: how many fields are taken, the header's bytes, the grid's series with the days taken,
-// and where the machine stands.
+// A grid file that is being read: the list of editions that it is read by, how many fields are taken, the header's
+// bytes, the grid's series with the days taken, and where the machine stands.
 pub struct GridFile {
+    pub editions: Editions,
     pub field: usize,
     pub head: [u8; grid_head::GRID_HEAD_MOST],
     pub grid: Grid,
@@ -43,14 +45,15 @@ fn stage_of(answer: GridAnswer) -> Stage
 
 impl GridFile {
     // The state before the first byte: a header of zeros opens no series.
-    pub fn start() -> GridFile
-        ensures { λ r. ⌜ r ≡ gridStart ⌝ }
+    pub fn start(editions: Editions) -> GridFile
+        ensures { λ r. ⌜ r ≡ gridStart editions ⌝ }
     {
         let head = [0; grid_head::GRID_HEAD_MOST];
         GridFile {
+            editions,
             field: 0,
             head,
-            grid: grid_head::opened(&head),
+            grid: grid_head::opened(editions, &head),
             stage: Stage::Going,
         }
     }
@@ -59,9 +62,11 @@ impl GridFile {
     fn ended(self, stage: Stage) -> GridFile
         ensures { λ r. ⌜ r ≡ gridEnded self stage ⌝ }
     {
+        let editions = self.editions;
         let head = self.head;
         let grid = self.grid;
         GridFile {
+            editions,
             field: self.field,
             head,
             grid,
@@ -93,23 +98,25 @@ impl GridFile {
 
     // Takes the next field, which stands at this span of the header: 12 where the file ends before it is complete.
     fn take_field(self, span: Span, b: &[u8]) -> GridFile
-        requires { ⌜ (span ≡ fieldSpan (gridLayout (self .head)) (self .field)) × (0 < span .width) ⌝ }
+        requires { ⌜ (span ≡ fieldSpan (gridLayout (self .editions) (self .head)) (self .field)) × (0 < span .width) ⌝ }
         ensures { λ r. ⌜ r ≡ fieldFed gridReader self (now (b .entry)) ⌝ }
     {
         if b.len() < span.width {
             return self.ended(Stage::Refused(12));
         }
+        let editions = self.editions;
         let k = self.field;
         let mut head = self.head;
         buffers::lay(&mut head, span.start, &b[..span.width]);
-        let number = grid_head::refusal(&head, k);
+        let number = grid_head::refusal(editions, &head, k);
         if number != 0 {
             return self.ended(Stage::Refused(number));
         }
         GridFile {
+            editions,
             field: k + 1,
             head,
-            grid: grid_head::opened(&head),
+            grid: grid_head::opened(editions, &head),
             stage: Stage::Going,
         }
     }
@@ -126,9 +133,11 @@ impl GridFile {
         let readings = field_steps::readings_in(b);
         let step = self.grid.day(&readings[..n]);
         let answer = step.answer;
+        let editions = self.editions;
         let head = self.head;
         let grid = step.grid;
         GridFile {
+            editions,
             field: self.field,
             head,
             grid,

@@ -3,7 +3,7 @@
 -- Assumes nothing.
 use mathlib.Core.Path.{_≡_, refl, sym, ap, _∙_}
 use mathlib.Core.List.{List, [], _∷_}
-use Prim.Native.Nat.{ℕ, zero, suc, _+_, _≤_, _<_}
+use Prim.Native.Nat.{ℕ, zero, suc, _≤_, _<_}
 use native.Mathlib.Decide.{decLt}
 use native.Mathlib.Omega.{arith}
 use borrow.Author.Tests.{eqb-true}
@@ -11,6 +11,7 @@ use lib.Dec.{eqb}
 use lib.ListN.{getD, List·getD-eq-default}
 use Rattle.ranges.specs.Ranges.{joined, sumOver, allOver}
 use Rattle.ranges.proofs.Tests.{all-at}
+use Rattle.editions.specs.declared.Editions.{Editions}
 use Rattle.fields.specs.Layout.{Field, noField, fieldAt, widthAt, layoutOf, startOf}
 use Rattle.fields.specs.Common.{markField, versionField, yearField, levelField}
 use Rattle.fields.proofs.Header.{field-past, Fits, Tabled, tabled, fits-by}
@@ -27,25 +28,25 @@ in-table : (k : ℕ) → k < 4 → Tabled gridWidths gridStarts 3 gridHeadMost k
 unfolding allOver joined
 in-table k l = tabled gridWidths gridStarts 3 gridHeadMost 4 refl k l
 
-module _ (b : List ℕ) where
-  pub grid-count : gridLayout b .count ≡ 4
+module _ (es : Editions) (b : List ℕ) where
+  pub grid-count : gridLayout es b .count ≡ 4
   unfolding gridLayout layoutOf
   grid-count = refl
 
-  pub grid-width : (k : ℕ) → k < 4 → getD gridWidths k 0 ≡ gridLayout b .width k
+  pub grid-width : (k : ℕ) → k < 4 → getD gridWidths k 0 ≡ gridLayout es b .width k
   unfolding gridLayout layoutOf markField versionField yearField levelField allOver joined
-  grid-width k l = eqb-true _ _ (all-at (λ i. eqb (getD gridWidths i 0) (gridLayout b .width i)) 4 refl k l)
+  grid-width k l = eqb-true _ _ (all-at (λ i. eqb (getD gridWidths i 0) (gridLayout es b .width i)) 4 refl k l)
 
-  pub grid-start : (k : ℕ) → k < 4 → getD gridStarts k 0 ≡ startOf (gridLayout b) k
+  pub grid-start : (k : ℕ) → k < 4 → getD gridStarts k 0 ≡ startOf (gridLayout es b) k
   unfolding gridLayout layoutOf markField versionField yearField levelField startOf sumOver allOver joined
-  grid-start k l = eqb-true _ _ (all-at (λ i. eqb (getD gridStarts i 0) (startOf (gridLayout b) i)) 4 refl k l)
+  grid-start k l = eqb-true _ _ (all-at (λ i. eqb (getD gridStarts i 0) (startOf (gridLayout es b) i)) 4 refl k l)
 
-  pub grid-size : startOf (gridLayout b) 4 ≡ 8
+  pub grid-size : startOf (gridLayout es b) 4 ≡ 8
   unfolding gridLayout layoutOf markField versionField yearField levelField startOf sumOver joined
   grid-size = refl
 
   -- what refuses a field
-  pub grid-refusal : (k : ℕ) → k < 4 → fieldAt (gridFields b) k .refusedAt (getD gridStarts k 0) ≡ gridLayout b .refusal k
+  pub grid-refusal : (k : ℕ) → k < 4 → fieldAt (gridFields es b) k .refusedAt (getD gridStarts k 0) ≡ gridLayout es b .refusal k
   unfolding gridLayout layoutOf markField versionField yearField levelField sumOver joined
   grid-refusal zero l = refl
   grid-refusal (suc zero) l = refl
@@ -55,22 +56,22 @@ module _ (b : List ℕ) where
 
   -- behind the last field: no byte, at the header's end, and no number
   module _ (k : ℕ) (m : 4 ≤ k) where
-    pub width-none : 0 ≡ gridLayout b .width k
+    pub width-none : 0 ≡ gridLayout es b .width k
     unfolding gridLayout layoutOf
-    width-none = sym (ap (λ (f : Field). f .width) (List·getD-eq-default (gridFields b) noField {n = k} m))
+    width-none = sym (ap (λ (f : Field). f .width) (List·getD-eq-default (gridFields es b) noField {n = k} m))
 
-    pub refusal-none : 0 ≡ gridLayout b .refusal k
+    pub refusal-none : 0 ≡ gridLayout es b .refusal k
     unfolding gridLayout layoutOf
     refusal-none =
-        sym (ap (λ (f : Field). f .refusedAt (sumOver (widthAt (gridFields b)) k)) (List·getD-eq-default (gridFields b) noField {n = k} m))
+        sym (ap (λ (f : Field). f .refusedAt (sumOver (widthAt (gridFields es b)) k)) (List·getD-eq-default (gridFields es b) noField {n = k} m))
 
-  pub start-none : (k : ℕ) → 4 ≤ k → 8 ≡ startOf (gridLayout b) k
-  start-none k m = sym grid-size ∙ field-past (gridLayout b) 4 width-none k m
+  pub start-none : (k : ℕ) → 4 ≤ k → 8 ≡ startOf (gridLayout es b) k
+  start-none k m = sym grid-size ∙ field-past (gridLayout es b) 4 width-none k m
 
-  pub grid-fits : (k : ℕ) → Fits (gridLayout b) 3 gridHeadMost k
+  pub grid-fits : (k : ℕ) → Fits (gridLayout es b) 3 gridHeadMost k
   grid-fits k = go (decLt k 4)
     where
-      go : Dec (k < 4) → Fits (gridLayout b) 3 gridHeadMost k
+      go : Dec (k < 4) → Fits (gridLayout es b) 3 gridHeadMost k
       go (yes l) =
           fits-by grid-count (grid-start k l) (grid-width k l) (in-table k l .few) (in-table k l .room)
           (λ z. l) (λ z. absurd (omega (arith, in-table k l .some)))
@@ -79,5 +80,9 @@ module _ (b : List ℕ) where
           (λ z. absurd (omega arith)) (λ z. omega arith)
 
 -- the number that refuses field k, where k is i
-pub refusal-at : (b : List ℕ) (i : ℕ) {k : ℕ} → k ≡ i → i < 4 → fieldAt (gridFields b) i .refusedAt (getD gridStarts i 0) ≡ gridLayout b .refusal k
-refusal-at b i e l = grid-refusal b i l ∙ ap (gridLayout b .refusal) (sym e)
+pub refusal-at :
+    (es : Editions) (b : List ℕ) (i : ℕ) {k : ℕ}
+    → k ≡ i
+    → i < 4
+    → fieldAt (gridFields es b) i .refusedAt (getD gridStarts i 0) ≡ gridLayout es b .refusal k
+refusal-at es b i e l = grid-refusal es b i l ∙ ap (gridLayout es b .refusal) (sym e)

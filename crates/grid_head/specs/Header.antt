@@ -1,8 +1,10 @@
 -- The header of a grid file, by the file's bytes b: mark, version, year and level, each as wide as in a window sheet.
--- Places count from 0. Rule 10.2.
+-- es is the list of editions. Places count from 0. Rule 10.2.
 use mathlib.Core.List.{List, [], _∷_}
 use Prim.Native.Nat.{ℕ, _+_}
 use lib.ListN.{getD}
+use Rattle.editions.specs.declared.Editions.{Editions}
+use Rattle.editions.specs.Editions.{editionOf}
 use Rattle.encoding.specs.Bytes.{ascii, twoAt, markSize, versionSize, yearSize}
 use Rattle.grid_days.specs.declared.Grid.{Grid}
 use Rattle.grid_days.specs.Days.{openGrid}
@@ -14,11 +16,11 @@ abbrev pub gridMark : List ℕ
 gridMark = ascii "GRD"
 
 -- the fields of the header, in order, the first being field 0
-abbrev pub gridFields : List ℕ → List Field
-gridFields b = markField gridMark b ∷ versionField b ∷ yearField b ∷ levelField b ∷ []
+abbrev pub gridFields : Editions → List ℕ → List Field
+gridFields es b = markField gridMark b ∷ versionField b ∷ yearField es b ∷ levelField b ∷ []
 
-unfoldable pub gridLayout : List ℕ → Layout
-gridLayout b = layoutOf (gridFields b)
+unfoldable pub gridLayout : Editions → List ℕ → Layout
+gridLayout es b = layoutOf (gridFields es b)
 
 -- the year, and the level behind it (a code from 1)
 abbrev pub gridYear : List ℕ → ℕ
@@ -32,5 +34,5 @@ abbrev pub gridHeadMost : ℕ
 gridHeadMost = 8
 
 -- the grid's series that the header opens
-abbrev pub openedGrid : List ℕ → Grid
-openedGrid b = openGrid (gridYear b) (gridLevel b)
+abbrev pub openedGrid : Editions → List ℕ → Grid
+openedGrid es b = openGrid (editionOf es (gridYear b)) (gridYear b) (gridLevel b)

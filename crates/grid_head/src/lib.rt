@@ -2,8 +2,10 @@
 // header's bytes. It meets specs/Header, and `fields`, specs/Layout. Fields and places count from 0. Behind the last
 // byte there is 0, so that every call answers for any bytes. Rules 10.2 and 10.4.
 ghost use mathlib.Core.Path.{_≡_};
+ghost use Rattle.editions.specs.declared.Editions.{Editions};
 ghost use Rattle.fields.specs.Layout.{fieldSpan};
 ghost use Rattle.grid_head.specs.Header.{gridLayout, openedGrid};
+use editions::Editions;
 use fields::Span;
 use grid_days::Grid;
 
@@ -24,9 +26,10 @@ const YEAR_AT: usize = 5;
 
 const LEVEL_AT: usize = 7;
 
-// Where field k, from 0, stands; behind the last field this is no byte, at the header's end.
+// Where field k, from 0, stands, whatever the list of editions; behind the last field this is no byte, at the header's
+// end.
 pub fn span_of(head: &[u8], k: usize) -> Span
-    ensures { λ r. ⌜ r ≡ fieldSpan (gridLayout (now (head .entry))) k ⌝ }
+    ensures { λ r. ⌜ ((es : Editions) → r ≡ fieldSpan (gridLayout es (now (head .entry))) k) ⌝ }
 {
     if k < FIELDS {
         return Span {
@@ -41,8 +44,8 @@ pub fn span_of(head: &[u8], k: usize) -> Span
 }
 
 // The number that refuses field k, from 0; 0 where it passes, and where there is no such field.
-pub fn refusal(head: &[u8], k: usize) -> u8
-    ensures { λ r. ⌜ r ≡ gridLayout (now (head .entry)) .refusal k ⌝ }
+pub fn refusal(editions: Editions, head: &[u8], k: usize) -> u8
+    ensures { λ r. ⌜ r ≡ gridLayout editions (now (head .entry)) .refusal k ⌝ }
 {
     if k < 1 {
         return field_steps::number_if(encoding::other_mark(head, 0, b"GRD"), 12);
@@ -54,7 +57,10 @@ pub fn refusal(head: &[u8], k: usize) -> u8
         );
     }
     if k < 3 {
-        return field_steps::number_if(answers::year_out(encoding::two_at(head, YEAR_AT)), 1);
+        return field_steps::number_if(
+            editions::year_out(editions, encoding::two_at(head, YEAR_AT)),
+            1,
+        );
     }
     if k < 4 {
         return field_steps::number_if(answers::level_out(encoding::byte_at(head, LEVEL_AT, 0)), 2);
@@ -63,10 +69,11 @@ pub fn refusal(head: &[u8], k: usize) -> u8
 }
 
 // The series that the header opens; where year or level is refused, the fixed state of a refused opening (Rule 9.5).
-pub fn opened(head: &[u8]) -> Grid
-    ensures { λ r. ⌜ r ≡ openedGrid (now (head .entry)) ⌝ }
+pub fn opened(editions: Editions, head: &[u8]) -> Grid
+    ensures { λ r. ⌜ r ≡ openedGrid editions (now (head .entry)) ⌝ }
 {
     let step = Grid::open(
+        editions,
         encoding::two_at(head, YEAR_AT),
         encoding::byte_at(head, LEVEL_AT, 0),
     );

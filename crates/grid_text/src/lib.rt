@@ -29,14 +29,15 @@ fn refused_at(place: Place, out: &mut [u8]) -> usize
 
 // What is printed once all days are in: the lines of the windows, or what closing refuses.
 fn closed(grid: Grid, out: &mut [u8]) -> usize
-    ensures { λ r. ⌜ Put 0 (windowLines (closedGrid grid)) (now (out .entry)) (now (out .exit)) r ⌝ }
+    ensures { λ r. ⌜ Put 0 (windowLines (grid .edition) (closedGrid grid)) (now (out .entry)) (now (out .exit)) r ⌝ }
 {
+    let edition = grid.edition;
     let mut bytes = [0u8; sheet::SHEET_SIZE];
     let number = grid_numbers::of_answer(grid.close(&mut bytes)).number;
     if number != 0 {
         return refused(number, out);
     }
-    let meaning = sheet_read::read(&bytes).sheet;
+    let meaning = sheet_read::read_by(edition, &bytes).sheet;
     let windows = meaning.windows;
     window_lines::windows_text(meaning.year, meaning.level, &windows, out)
 }

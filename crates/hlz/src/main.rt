@@ -28,7 +28,7 @@ fn next(file: GridFile) -> GridFile {
 // Part after part. A machine that has ended wants nothing, so its answer is printed at once, whatever the input still
 // has.
 fn run() -> GridFile {
-    let mut file = GridFile::start();
+    let mut file = GridFile::start(editions::todays());
     let mut left = PARTS;
     while left > 0 {
         if file.want() == 0 {

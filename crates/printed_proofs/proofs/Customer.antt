@@ -9,6 +9,7 @@ use native.Mathlib.Omega.{arith}
 use borrow.Author.Tests.{eq-eqb, lt-ltb, le-ltb, ltb-false}
 use lib.ListN.{length, take, drop, replicate, length-append}
 use lib.Seq.{take-all, length-take-le}
+use Rattle.editions.specs.declared.Editions.{Editions}
 use Rattle.ranges.proofs.Tests.{Passed, passed-all}
 use Rattle.answers.specs.Ruling.{customerMost}
 use Rattle.answers.specs.Said.{Said}
@@ -68,38 +69,38 @@ unfolding stageOf
 day-ends closing = day-cases (Ends closing) (refl, refl) (refl, refl) (λ place. (refl, refl)) (refl, refl)
 
 -- the year is not opened before the header's end
-unopened : (head : List ℕ) (k : ℕ) → k < customerLayout head .count → openedWith shutCustomer head k ≡ shutCustomer
+unopened : (es : Editions) (head : List ℕ) (k : ℕ) → k < customerLayout es head .count → openedWith es shutCustomer head k ≡ shutCustomer
 unfolding openedWith
-unopened head k l = rw (lt-ltb k (customerLayout head .count) l)
+unopened es head k l = rw (lt-ltb k (customerLayout es head .count) l)
 
-open-now : (head : List ℕ) (k : ℕ) → customerLayout head .count ≤ k → openedWith shutCustomer head k ≡ openedIn head
+open-now : (es : Editions) (head : List ℕ) (k : ℕ) → customerLayout es head .count ≤ k → openedWith es shutCustomer head k ≡ openedIn es head
 unfolding openedWith
-open-now head k l = rw (le-ltb k (customerLayout head .count) l)
+open-now es head k l = rw (le-ltb k (customerLayout es head .count) l)
 
 -- a field
 feeds-head :
-    (k : ℕ) (buffer : List ℕ)
-    → k < customerLayout buffer .count
-    → FeedsField customerWants customerFed customerText statementLine customerLayout (customerHead shutCustomer) k buffer
-feeds-head k buffer l =
+    (es : Editions) (k : ℕ) (buffer : List ℕ)
+    → k < customerLayout es buffer .count
+    → FeedsField customerWants customerFed customerText statementLine (customerLayout es) (customerHead es shutCustomer) k buffer
+feeds-head es k buffer l =
     record {
       size = sym (wants-field customerReader s refl l);
       cut = λ b m. halted (customerEnded s (Refused 12)) (field-cut customerReader s b m ∙ fed-field customerReader s refl l b) refl refl;
       refused = λ b next m e z.
-          halted (customerEnded s (Refused (customerLayout next .refusal k)))
+          halted (customerEnded s (Refused (customerLayout es next .refusal k)))
           (field-refused customerReader s b (omega arith) e refl z ∙ fed-field customerReader s refl l b)
           refl refl;
       taken = λ b next m e z.
           sym (field-taken customerReader s b (omega arith) e z ∙ fed-field customerReader s refl l b)
-          ∙ ap (λ (c : Customer). customerHead c (k + 1) next) (unopened buffer k l);
+          ∙ ap (λ (c : Customer). customerHead es c (k + 1) next) (unopened es buffer k l);
     }
   where
     s : CustomerFile
-    s = customerHead shutCustomer k buffer
+    s = customerHead es shutCustomer k buffer
 
-module _ (bytes : List ℕ) where
+module _ (es : Editions) (bytes : List ℕ) where
   abbrev l : Layout
-  l = customerLayout bytes
+  l = customerLayout es bytes
 
   abbrev h : ℕ
   h = headSize l
@@ -114,38 +115,41 @@ module _ (bytes : List ℕ) where
   xs = seriesIn bytes h
 
   abbrev terms : Terms
-  terms = termsOf (basisIn bytes)
+  terms = termsOf (basisIn es bytes)
 
   abbrev run : Run
   run = Year (terms .rates .year)
 
   abbrev done : Said
-  done = decideAnswer (basisIn bytes) xs
+  done = decideAnswer (basisIn es bytes) xs
 
   abbrev inHead : ℕ → CustomerFile
-  inHead k = customerHead shutCustomer k (held k)
+  inHead k = customerHead es shutCustomer k (held k)
 
   -- the machine stands behind the header, with a state of the machine of days
   abbrev inside : Customer → CustomerFile
-  inside c = record { field = l .count; head = held (l .count); customer = c; stage = Going }
+  inside c = record { editions = es; field = l .count; head = held (l .count); customer = c; stage = Going }
 
   abbrev inDays : ℕ → CustomerFile
   inDays d = inside (heldAfter run (holding terms) h bytes d)
 
   -- before the first byte
-  starts : customerStart ≡ inHead 0
+  starts : customerStart es ≡ inHead 0
   starts =
-      ap (λ (c : Customer). record { field = 0; head = blank; customer = c; stage = Going }) (sym (unopened blank 0 (omega (arith, count-is blank))))
-      ∙ ap (λ (n : ℕ). customerHead shutCustomer 0 (heldIn blank bytes n)) (sym (field-none l))
+      ap (λ (c : Customer). record { editions = es; field = 0; head = blank; customer = c; stage = Going })
+      (sym (unopened es blank 0 (omega (arith, count-is es blank))))
+      ∙ ap (λ (n : ℕ). customerHead es shutCustomer 0 (heldIn blank bytes n)) (sym (field-none l))
 
   module _ (passed : Passed (stops l bytes) (l .count)) where
-    over : customerLayout (held (l .count)) .count ≤ l .count
-    over = head-over customerWants customerFed customerText statementLine customerLayout (customerHead shutCustomer) blank bytes (looks-back bytes) passed
+    over : customerLayout es (held (l .count)) .count ≤ l .count
+    over =
+        head-over customerWants customerFed customerText statementLine (customerLayout es) (customerHead es shutCustomer)
+        blank bytes (looks-back es bytes) passed
 
     -- the header's end opens the year
-    year-opened : openedIn bytes ≡ freshCustomer terms
+    year-opened : openedIn es bytes ≡ freshCustomer terms
     unfolding openedIn
-    year-opened = sym (opened-state (basisIn bytes) (sym (opens bytes passed)))
+    year-opened = sym (opened-state (basisIn es bytes) (sym (opens es bytes passed)))
 
     inside-file : h ≤ length bytes
     inside-file = fields-held l bytes (l .count) passed
@@ -156,8 +160,8 @@ module _ (bytes : List ℕ) where
     opens-days : inHead (l .count) ≡ inDays 0
     opens-days =
         ap inside
-        (open-now (held (l .count)) (l .count) over
-        ∙ opened-same (held (l .count)) bytes (buffer-same blank bytes h inside-file) inside-buffer inside-file
+        (open-now es (held (l .count)) (l .count) over
+        ∙ opened-same es (held (l .count)) bytes (buffer-same blank bytes h inside-file) inside-buffer inside-file
         ∙ year-opened
         ∙ opens-holding terms
         ∙ ap (λ (n : ℕ). holding terms (take n xs) 0) (sym (start-none run)))
@@ -200,7 +204,7 @@ module _ (bytes : List ℕ) where
         ∙ closes-holding terms xs
         (series-legal run customerMost xs (series-long run h bytes z)
         (ltb-false _ _ (sym (bad-run run customerMost xs) ∙ passed-all (badIn run customerMost xs) (runDays run) c)))
-        ∙ decide-whole (basisIn bytes) xs (sym (opens bytes passed))
+        ∙ decide-whole (basisIn es bytes) xs (sym (opens es bytes passed))
 
     takes-end :
         Passed (badIn run customerMost xs) (runDays run)
@@ -229,20 +233,20 @@ module _ (bytes : List ℕ) where
   file =
       record {
         fields = λ k c p.
-            feeds-field customerWants customerFed customerText statementLine customerLayout (customerHead shutCustomer)
-            blank bytes (looks-back bytes) k c p (feeds-head k (held k));
+            feeds-field customerWants customerFed customerText statementLine (customerLayout es) (customerHead es shutCustomer)
+            blank bytes (looks-back es bytes) k c p (feeds-head es k (held k));
         opened = opens-days;
         days = λ p d m w c. feeds-takes customerWants customerFed customerText statementLine (machine terms) inside h bytes d w c (feeds-day p d m);
         last = λ p w c. takes-end p c;
       }
 
-  answer-is : fileAnswer l run customerMost done bytes ≡ customerAnswer bytes
+  answer-is : fileAnswer l run customerMost done bytes ≡ customerAnswer es bytes
   unfolding customerAnswer
-  answer-is = ap (λ (y : ℕ). fileAnswer l (Year y) customerMost done bytes) (year-is bytes)
+  answer-is = ap (λ (y : ℕ). fileAnswer l (Year y) customerMost done bytes) (year-is es bytes)
 
 -- 423 turns are enough for every file: at most 56 fields, 366 days, and one for what comes after them
 pub statement-printed : StatementPrinted
-statement-printed bytes turns t =
-    ap (λ (s : CustomerFile). customerText (driven customerWants customerFed turns s bytes)) (starts bytes)
-    ∙ file-driven (file bytes) turns (omega (arith, count-is bytes, count-few bytes, days-most (run bytes)))
-    ∙ ap statementLine (answer-is bytes)
+statement-printed es bytes turns t =
+    ap (λ (s : CustomerFile). customerText (driven customerWants customerFed turns s bytes)) (starts es bytes)
+    ∙ file-driven (file es bytes) turns (omega (arith, count-is es bytes, count-few es bytes, days-most (run es bytes)))
+    ∙ ap statementLine (answer-is es bytes)

@@ -13,7 +13,9 @@ use lib.ListN.{length, getD}
 use lib.Seq.{ext-getD}
 use Rattle.ranges.specs.Ranges.{numberIf, table}
 use Rattle.ranges.proofs.Tables.{table-cong}
-use Rattle.answers.specs.Edition.{today}
+use Rattle.answers.specs.declared.Edition.{Edition}
+use Rattle.editions.specs.declared.Editions.{Editions}
+use Rattle.editions.specs.Editions.{editionOf}
 use Rattle.answers.specs.Ruling.{holidaysMost, capacityOut, energyOut}
 use Rattle.encoding.specs.Bytes.{twoAt, fourAt}
 use Rattle.encoding.proofs.Bytes.{two-same, four-same}
@@ -28,14 +30,14 @@ use Rattle.fields.proofs.Bytes.{part-long, part-at, Same}
 use Rattle.fields.proofs.Header.{field-more, field-rises}
 use Rattle.fields.proofs.Fed.{LooksBack}
 use Rattle.fields.proofs.Common.{Own, one-same, mark-own, version-own, year-own, level-own}
-use Rattle.customer_head.specs.Header.{customerMark, sheetAt, optionAt, sheetPart, optionOf, holidaysAt, holidayCount, holidaysOf, pricesAt, priceOf, pricesIn, holidayOut, seasonField, optionField, countField, capacityField, energyField, firstFields, priceFields, customerLayout}
+use Rattle.customer_head.specs.Header.{customerMark, sheetAt, optionAt, sheetPart, optionOf, holidaysAt, holidayCount, holidaysOf, pricesAt, priceOf, pricesIn, holidayOut, seasonField, optionField, countField, capacityField, energyField, firstFields, priceFields, customerLayout, customerYear, customerEdition}
 use Rattle.customer_opening.specs.Opening.{openedIn}
 use Rattle.customer_head.proofs.CustomerLayout.{firstWidths, firstStarts, count-is, width-first, width-holiday, width-price, start-first, start-holiday, start-price, refusal-first, refusal-holiday, refusal-price, holiday-is, size-is}
 
--- the fields look at their own bytes
-season-own : Own seasonField seasonBytes
+-- the fields look at their own bytes, and a season's at the year's edition, too
+season-own : (ed : Edition) → Own (seasonField ed) seasonBytes
 unfolding seasonField
-season-own b c i h = ap (λ (n : ℕ). numberIf (tooMany today n) 12) (set-same b c i i h)
+season-own ed b c i h = ap (λ (n : ℕ). numberIf (tooMany ed n) 12) (set-same b c i i h)
 
 option-own : Own optionField 1
 unfolding optionField
@@ -60,59 +62,75 @@ price-own (suc (suc zero)) l = capacity-own
 price-own (suc (suc (suc zero))) l = energy-own
 price-own (suc (suc (suc (suc j)))) l = absurd (omega arith)
 
-first-own : (k : ℕ) → k < 12 → Own (λ b. fieldAt (firstFields b) k) (getD firstWidths k 0)
-first-own zero l = mark-own customerMark
-first-own (suc zero) l = version-own
-first-own (suc (suc zero)) l = mark-own mark
-first-own (suc (suc (suc zero))) l = version-own
-first-own (suc (suc (suc (suc zero)))) l = year-own
-first-own (suc (suc (suc (suc (suc zero))))) l = level-own
-first-own (suc (suc (suc (suc (suc (suc zero)))))) l = season-own
-first-own (suc (suc (suc (suc (suc (suc (suc zero))))))) l = season-own
-first-own (suc (suc (suc (suc (suc (suc (suc (suc zero)))))))) l = season-own
-first-own (suc (suc (suc (suc (suc (suc (suc (suc (suc zero))))))))) l = season-own
-first-own (suc (suc (suc (suc (suc (suc (suc (suc (suc (suc zero)))))))))) l = option-own
-first-own (suc (suc (suc (suc (suc (suc (suc (suc (suc (suc (suc zero))))))))))) l = count-own
-first-own (suc (suc (suc (suc (suc (suc (suc (suc (suc (suc (suc (suc k)))))))))))) l = absurd (omega arith)
+-- a season's field: the same bytes, and the same year before them
+season-same :
+    (es : Editions) (b c : List ℕ) (i : ℕ)
+    → ((j : ℕ) → j < seasonBytes → getD b (i + j) 0 ≡ getD c (i + j) 0)
+    → customerYear b ≡ customerYear c
+    → seasonField (customerEdition es b) b .refusedAt i ≡ seasonField (customerEdition es c) c .refusedAt i
+season-same es b c i h year =
+    ap (λ (y : ℕ). seasonField (editionOf es y) b .refusedAt i) year ∙ season-own (customerEdition es c) b c i h
+
+first-same :
+    (es : Editions) (k : ℕ)
+    → k < 12
+    → (b c : List ℕ) (i : ℕ)
+    → ((j : ℕ) → j < getD firstWidths k 0 → getD b (i + j) 0 ≡ getD c (i + j) 0)
+    → (6 ≤ k → customerYear b ≡ customerYear c)
+    → fieldAt (firstFields es b) k .refusedAt i ≡ fieldAt (firstFields es c) k .refusedAt i
+first-same es zero l b c i h y = mark-own customerMark b c i h
+first-same es (suc zero) l b c i h y = version-own b c i h
+first-same es (suc (suc zero)) l b c i h y = mark-own mark b c i h
+first-same es (suc (suc (suc zero))) l b c i h y = version-own b c i h
+first-same es (suc (suc (suc (suc zero)))) l b c i h y = year-own es b c i h
+first-same es (suc (suc (suc (suc (suc zero))))) l b c i h y = level-own b c i h
+first-same es (suc (suc (suc (suc (suc (suc zero)))))) l b c i h y = season-same es b c i h (y (omega arith))
+first-same es (suc (suc (suc (suc (suc (suc (suc zero))))))) l b c i h y = season-same es b c i h (y (omega arith))
+first-same es (suc (suc (suc (suc (suc (suc (suc (suc zero)))))))) l b c i h y = season-same es b c i h (y (omega arith))
+first-same es (suc (suc (suc (suc (suc (suc (suc (suc (suc zero))))))))) l b c i h y = season-same es b c i h (y (omega arith))
+first-same es (suc (suc (suc (suc (suc (suc (suc (suc (suc (suc zero)))))))))) l b c i h y = option-own b c i h
+first-same es (suc (suc (suc (suc (suc (suc (suc (suc (suc (suc (suc zero))))))))))) l b c i h y = count-own b c i h
+first-same es (suc (suc (suc (suc (suc (suc (suc (suc (suc (suc (suc (suc k)))))))))))) l b c i h y = absurd (omega arith)
 
 -- no field looks at a byte behind it
-module _ (bytes : List ℕ) where
+module _ (es : Editions) (bytes : List ℕ) where
   abbrev l : Layout
-  l = customerLayout bytes
+  l = customerLayout es bytes
 
   abbrev n : ℕ
   n = holidayCount bytes
 
   -- a field behind the count starts behind its byte
   behind : (k : ℕ) → 12 ≤ k → holidaysAt ≤ startOf l k
-  behind k m = omega (arith, field-rises l k 12 m, start-holiday bytes 12 (omega arith) (omega arith))
+  behind k m = omega (arith, field-rises l k 12 m, start-holiday es bytes 12 (omega arith) (omega arith))
 
   module _ (b : List ℕ) where
     few-same : Same holidaysAt b bytes → holidayCount b ≡ n
     few-same h = ap (min holidaysMost) (h 62 (omega arith))
 
     module _ (k : ℕ) where
-      counts : Same (startOf l k) b bytes → ltb k (customerLayout b .count) ≡ ltb k (l .count)
+      counts : Same (startOf l k) b bytes → ltb k (customerLayout es b .count) ≡ ltb k (l .count)
       counts h = go (decLt k 12)
         where
-          go : Dec (k < 12) → ltb k (customerLayout b .count) ≡ ltb k (l .count)
-          go (yes m) = lt-ltb k (customerLayout b .count) (omega (arith, count-is b)) ∙ sym (lt-ltb k (l .count) (omega (arith, count-is bytes)))
+          go : Dec (k < 12) → ltb k (customerLayout es b .count) ≡ ltb k (l .count)
+          go (yes m) = lt-ltb k (customerLayout es b .count) (omega (arith, count-is es b)) ∙ sym (lt-ltb k (l .count) (omega (arith, count-is es bytes)))
           go (no m) =
               let e = few-same (λ i o. h i (omega (arith, behind k (omega arith)))) in
-              ap (ltb k) (count-is b ∙ ap (λ (j : ℕ). 16 + j) e ∙ sym (count-is bytes))
+              ap (ltb k) (count-is es b ∙ ap (λ (j : ℕ). 16 + j) e ∙ sym (count-is es bytes))
 
       module _ (c : k < l .count) where
-        widths : Same (startOf l k) b bytes → customerLayout b .width k ≡ l .width k
+        widths : Same (startOf l k) b bytes → customerLayout es b .width k ≡ l .width k
         widths h = go (decLt k 12) (decLt k (12 + n))
           where
-            go : Dec (k < 12) → Dec (k < 12 + n) → customerLayout b .width k ≡ l .width k
-            go (yes m) p = sym (width-first b k m) ∙ width-first bytes k m
+            go : Dec (k < 12) → Dec (k < 12 + n) → customerLayout es b .width k ≡ l .width k
+            go (yes m) p = sym (width-first es b k m) ∙ width-first es bytes k m
             go (no m) (yes p) =
                 let e = few-same (λ i o. h i (omega (arith, behind k (omega arith)))) in
-                sym (width-holiday b k (omega arith) (omega arith)) ∙ width-holiday bytes k (omega arith) p
+                sym (width-holiday es b k (omega arith) (omega arith)) ∙ width-holiday es bytes k (omega arith) p
             go (no m) (no p) =
                 let e = few-same (λ i o. h i (omega (arith, behind k (omega arith)))) in
-                sym (width-price b k (omega arith) (omega (arith, count-is bytes))) ∙ width-price bytes k (omega arith) (omega (arith, count-is bytes))
+                sym (width-price es b k (omega arith) (omega (arith, count-is es bytes)))
+                ∙ width-price es bytes k (omega arith) (omega (arith, count-is es bytes))
 
   -- holidays
   module _ (b : List ℕ) (e : holidayCount b ≡ n) where
@@ -133,54 +151,57 @@ module _ (bytes : List ℕ) where
         let year = two-same b bytes (sheetAt + yearAt) (sheetAt + yearAt) (λ i o. h (sheetAt + yearAt + i) (omega arith)) in
         λ i. badHoliday (year i) (last i) (day i)
 
-  refusals : (k : ℕ) → k < l .count → (b : List ℕ) → Same (startOf l (k + 1)) b bytes → customerLayout b .refusal k ≡ l .refusal k
+  refusals : (k : ℕ) → k < l .count → (b : List ℕ) → Same (startOf l (k + 1)) b bytes → customerLayout es b .refusal k ≡ l .refusal k
   refusals k c b h = go (decLt k 12) (decLt k (12 + n))
     where
-      go : Dec (k < 12) → Dec (k < 12 + n) → customerLayout b .refusal k ≡ l .refusal k
+      go : Dec (k < 12) → Dec (k < 12 + n) → customerLayout es b .refusal k ≡ l .refusal k
       go (yes m) p =
-          let s = start-first bytes k m in
-          let w = width-first bytes k m in
+          let s = start-first es bytes k m in
+          let w = width-first es bytes k m in
           let more = field-more l k in
-          sym (refusal-first b k m)
-          ∙ first-own k m b bytes (getD firstStarts k 0) (λ j o. h (getD firstStarts k 0 + j) (omega arith))
-          ∙ refusal-first bytes k m
+          let year : 6 ≤ k → customerYear b ≡ customerYear bytes =
+          λ six. two-same b bytes (sheetAt + yearAt) (sheetAt + yearAt)
+          (λ j o. h (sheetAt + yearAt + j) (omega (arith, field-rises l (k + 1) 6 (omega arith), start-first es bytes 6 (omega arith)))) in
+          sym (refusal-first es b k m)
+          ∙ first-same es k m b bytes (getD firstStarts k 0) (λ j o. h (getD firstStarts k 0 + j) (omega arith)) year
+          ∙ refusal-first es bytes k m
       go (no m) (yes p) =
           let e = few-same b (λ i o. h i (omega (arith, behind (k + 1) (omega arith)))) in
-          let s = start-holiday bytes k (omega arith) (omega arith) in
-          let w = width-holiday bytes k (omega arith) p in
+          let s = start-holiday es bytes k (omega arith) (omega arith) in
+          let w = width-holiday es bytes k (omega arith) p in
           let more = field-more l k in
-          sym (refusal-holiday b k (omega arith) (omega arith))
+          sym (refusal-holiday es b k (omega arith) (omega arith))
           ∙ ap (λ (t : Bool). numberIf t 3) (row-same b e (k - 12) (omega arith) (λ i o. h i (omega arith)))
-          ∙ refusal-holiday bytes k (omega arith) p
+          ∙ refusal-holiday es bytes k (omega arith) p
       go (no m) (no p) =
           let e = few-same b (λ i o. h i (omega (arith, behind (k + 1) (omega arith)))) in
-          let q = count-is bytes in
-          let s = start-price bytes k (omega arith) (omega arith) in
-          let w = width-price bytes k (omega arith) (omega arith) in
+          let q = count-is es bytes in
+          let s = start-price es bytes k (omega arith) (omega arith) in
+          let w = width-price es bytes k (omega arith) (omega arith) in
           let more = field-more l k in
-          sym (refusal-price b k (omega arith) (omega arith))
+          sym (refusal-price es b k (omega arith) (omega arith))
           ∙ ap (λ (j : ℕ). fieldAt (priceFields b) (k - 12 - j) .refusedAt (holidaysAt + 2 * j + 4 * (k - 12 - j))) e
           ∙ price-own (k - 12 - n) (omega arith) b bytes
           (pricesAt bytes + 4 * (k - 12 - n)) (λ j o. h (pricesAt bytes + 4 * (k - 12 - n) + j) (omega arith))
-          ∙ refusal-price bytes k (omega arith) (omega arith)
+          ∙ refusal-price es bytes k (omega arith) (omega arith)
 
-  pub looks-back : LooksBack customerLayout bytes
+  pub looks-back : LooksBack (customerLayout es) bytes
   looks-back = record { counts = λ k c b. counts b k; widths = λ k c b. widths b k c; refusals = refusals }
 
 -- opening a year looks at the header only
-abbrev size : List ℕ → ℕ
-size bytes = headSize (customerLayout bytes)
+abbrev size : Editions → List ℕ → ℕ
+size es bytes = headSize (customerLayout es bytes)
 
-module _ (b bytes : List ℕ) (h : Same (size bytes) b bytes) (f : size bytes ≤ length b) (g : size bytes ≤ length bytes) where
+module _ (es : Editions) (b bytes : List ℕ) (h : Same (size es bytes) b bytes) (f : size es bytes ≤ length b) (g : size es bytes ≤ length bytes) where
   within : (i : ℕ) → i < 79 + 2 * holidayCount bytes → getD b i 0 ≡ getD bytes i 0
-  within i m = h i (omega (arith, size-is bytes))
+  within i m = h i (omega (arith, size-is es bytes))
 
   few : holidayCount b ≡ holidayCount bytes
-  few = few-same bytes b (λ i m. within i (omega arith))
+  few = few-same es bytes b (λ i m. within i (omega arith))
 
   sheet-same : sheetPart b ≡ sheetPart bytes
   sheet-same =
-      let head = size-is bytes in
+      let head = size-is es bytes in
       let here = part-long b sheetAt sheetSize (omega arith) in
       let there = part-long bytes sheetAt sheetSize (omega arith) in
       ext-getD 0 (sheetPart b) (sheetPart bytes) (here ∙ sym there)
@@ -207,6 +228,6 @@ module _ (b bytes : List ℕ) (h : Same (size bytes) b bytes) (f : size bytes �
   option-same : optionOf b ≡ optionOf bytes
   option-same = ap (λ (x : ℕ). eqb x 1) (within optionAt (omega arith))
 
-  pub opened-same : openedIn b ≡ openedIn bytes
+  pub opened-same : openedIn es b ≡ openedIn es bytes
   unfolding openedIn
-  opened-same = λ i. openCustomer (basis (sheet-same i) (holidays-same i) (prices-same i) (option-same i))
+  opened-same = λ i. openCustomer (basis es (sheet-same i) (holidays-same i) (prices-same i) (option-same i))

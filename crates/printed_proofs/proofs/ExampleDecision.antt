@@ -11,6 +11,10 @@ use Rattle.ranges.specs.Ranges.{joined, sumOver, anyOver}
 use Rattle.ranges.proofs.Bools.{pair}
 use Rattle.answers.specs.Ruling.{dayQuarters, customerMost, levelOut, shareOf}
 use Rattle.answers.specs.Said.{only}
+use Rattle.answers.specs.Edition.{today}
+use Rattle.answers.specs.declared.Edition.{Edition}
+use Rattle.editions.specs.Editions.{todays}
+use Rattle.sheet.specs.Answers.{readAnswer}
 use Rattle.dates.specs.Dates.{leap, leapDay, yearDays, daysTo, weekdayOf}
 use Rattle.holidays.specs.Holidays.{listed}
 use Rattle.day_kinds.specs.Kinds.{christmas, free, candidate, bridge, kindBy, carries}
@@ -21,8 +25,8 @@ use Rattle.readings.proofs.Runs.{usual-len, usual-quarter, run-all, year-run}
 use Rattle.readings.proofs.Days.{series-legal}
 use Rattle.tariff.specs.declared.Figures.{Figures}
 use Rattle.tariff.specs.Prices.{rowOut, pricesOut}
-use Rattle.tariff.specs.Charges.{chargeFor, generalBy, reducedBy, floorOf, chargeBy}
-use Rattle.tariff.specs.Decision.{eligibleRules, chargeRules, judgeRules, judgeAnswerBy}
+use Rattle.tariff.specs.Charges.{chargeFor, general, reduced, floorOf, charge}
+use Rattle.tariff.specs.Decision.{eligibleRules, chargeRules, judgeRules, judgeAnswer}
 use Rattle.figures.specs.Figures.{figuresOf}
 use Rattle.terms.specs.declared.Terms.{Terms}
 use Rattle.terms.specs.Basis.{Basis, basis}
@@ -32,7 +36,7 @@ use Rattle.customer.specs.Counts.{counts}
 use Rattle.customer.specs.Answers.{judged, figuresUnder, decideAnswer}
 use Rattle.customer.proofs.Answered.{whole-judged, decide-whole}
 use Rattle.demands.specs.Cases.{prices}
-use Rattle.demands.proofs.Example.{example, example-read, example-year, no-holidays, carrying, day-two, set-there}
+use Rattle.demands.proofs.Example.{example-edition, example, example-read, example-year, no-holidays, carrying, day-two, set-there}
 use Rattle.printed_proofs.specs.Examples.{isAt, customerRun, saturdayDay, thursdayDay, customerReading, customerSeries, exampleBasis, customerSaid}
 use Rattle.printed_proofs.proofs.Series.{at-there, at-other, series-long, series-reads}
 use Rattle.figures.proofs.TwoReadings.{TwoOthers, two-peak, two-figures}
@@ -110,10 +114,10 @@ unfolding pricesOut rowOut
 prices-in = refl
 
 abbrev given : Basis
-given = basis example [] prices false
+given = basis todays example [] prices false
 
 opens : only 0 ≡ customerOpenAnswer given
-opens = open-done given (sym example-read) no-holidays prices-in
+opens = open-done given (sym (ap (λ (ed : Edition). readAnswer ed example) example-edition ∙ example-read)) no-holidays prices-in
 
 abbrev terms : Terms
 terms = termsOf given
@@ -140,9 +144,12 @@ figures-are =
     ∙ two-figures two-others (counts terms) (omega arith) inside outside
     ∙ ap (λ (q : ℕ). record { peak = 1000000; sum = 1500000; any = true; high = 500000; day = 2; quarter = q }) (usual-quarter customerRun 1 72 usual-1)
 
+judged-by : judgeAnswer today figures (terms .rates) ≡ customerSaid
+unfolding example shareOf levelOut rowOut pricesOut chargeFor general reduced floorOf charge eligibleRules chargeRules judgeRules judgeAnswer
+judged-by = refl
+
 judged-is : judged terms figures ≡ customerSaid
-unfolding example shareOf levelOut rowOut pricesOut chargeFor generalBy reducedBy floorOf chargeBy eligibleRules chargeRules judgeRules judgeAnswerBy
-judged-is = refl
+judged-is = ap (λ (ed : Edition). judgeAnswer ed figures (terms .rates)) example-edition ∙ judged-by
 
 legal : only 0 ≡ seriesAnswer (Year (terms .rates .year)) customerMost customerSeries
 legal = rw example-year customer-legal

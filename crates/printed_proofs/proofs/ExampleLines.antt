@@ -13,13 +13,15 @@ use Rattle.ranges.specs.Ranges.{joined, sumOver, countOver, anyOver, allOver, f
 use Rattle.ranges.proofs.Tests.{all-at}
 use Rattle.answers.specs.Ruling.{gridMost, lacksYear, levelOut}
 use Rattle.answers.specs.Said.{only}
+use Rattle.answers.specs.Edition.{today}
+use Rattle.editions.specs.Editions.{todays, placeFor, editionOf}
 use Rattle.readings.specs.declared.Run.the-variants.{Period}
 use Rattle.readings.specs.Runs.{runDays}
 use Rattle.readings.specs.Days.{seriesAnswer}
 use Rattle.encoding.specs.Bytes.{twoAt, otherMark}
 use Rattle.sheet.specs.Windows.{isSet, setIn, tooFull}
 use Rattle.sheet.specs.Bytes.{windowsIn}
-use Rattle.sheet.specs.Answers.{readAnswerBy, readSheetBy}
+use Rattle.sheet.specs.Answers.{readAnswer, readSheet}
 use Rattle.fields.specs.Layout.{layoutOf, startOf, headSize}
 use Rattle.fields.specs.Common.{markField, versionField, yearField, levelField}
 use Rattle.fields.specs.Series.{seriesIn, fileSize}
@@ -31,6 +33,7 @@ use Rattle.grid_file.specs.Grid.{blankSheet, wholeGrid, gridAnswer}
 use Rattle.grid_text.specs.Text.{windowLines, windowsPrinted}
 use Rattle.grid_head.proofs.GridLayout.{grid-count, grid-size}
 use Rattle.demands.specs.Cases.{exampleSheet}
+use Rattle.demands.proofs.Example.{today-2025}
 use Rattle.printed_proofs.specs.Printed.{gridDriven}
 use Rattle.printed_proofs.specs.Examples.{isAt, gridRun, otherDay, gridReading, gridSeries, seriesBytes, gridHeader, gridBytes, exampleWindows, Prints}
 use Rattle.printed_proofs.proofs.Grid.{windows-printed}
@@ -50,12 +53,13 @@ module _ (rest : List ℕ) where
   level-is : gridLevel b ≡ 5
   level-is = refl
 
-  size-is : headSize (gridLayout b) ≡ 8
-  size-is = ap (startOf (gridLayout b)) (grid-count b) ∙ grid-size b
+  size-is : headSize (gridLayout todays b) ≡ 8
+  size-is = ap (startOf (gridLayout todays b)) (grid-count todays b) ∙ grid-size todays b
 
-  taken : (k : ℕ) → k < gridLayout b .count → gridLayout b .refusal k ≡ 0
-  unfolding gridLayout layoutOf markField versionField yearField levelField otherMark twoAt inBase lacksYear levelOut sumOver anyOver allOver joined
-  taken k l = eqb-true _ _ (all-at (λ i. eqb (gridLayout b .refusal i) 0) 4 refl k l)
+  taken : (k : ℕ) → k < gridLayout todays b .count → gridLayout todays b .refusal k ≡ 0
+  unfolding gridLayout layoutOf markField versionField yearField levelField otherMark twoAt inBase lacksYear levelOut
+      editionOf placeFor firstOver sumOver anyOver allOver joined
+  taken k l = eqb-true _ _ (all-at (λ i. eqb (gridLayout todays b .refusal i) 0) 4 refl k l)
 
 -- the series, read back from its bytes
 abbrev readings : List ℕ
@@ -69,37 +73,38 @@ low : (i : ℕ) → getD gridSeries i 0 < wordEnd
 unfolding gridSeries
 low i = series-low gridRun gridReading wordEnd (omega arith) (λ d p. reading-low (isAt gridRun otherDay 72 d p)) (runDays gridRun) i
 
-series-back : seriesIn gridBytes (headSize (gridLayout gridBytes)) ≡ gridSeries
+series-back : seriesIn gridBytes (headSize (gridLayout todays gridBytes)) ≡ gridSeries
 unfolding gridBytes
 series-back = ap (seriesIn gridBytes) (size-is readings) ∙ readings-back gridSeries low
 
 -- what the series is answered whole, and the lines of that
-whole-is : wholeGrid 2025 5 gridSeries ≡ record { number = 0; figures = exampleSheet }
+whole-is : wholeGrid today 2025 5 gridSeries ≡ record { number = 0; figures = exampleSheet }
 whole-is = let s = sheet-laid blankSheet (omega arith) in rw (s .accepted, s .laid)
 
-lines-are : windowLines (record { number = 0; figures = exampleSheet }) ≡ exampleWindows
-unfolding windowLines readSheetBy readAnswerBy otherMark twoAt inBase lacksYear levelOut tooFull setIn windowsIn isSet
+lines-are : windowLines today (record { number = 0; figures = exampleSheet }) ≡ exampleWindows
+unfolding windowLines readSheet readAnswer otherMark twoAt inBase lacksYear levelOut tooFull setIn windowsIn isSet
     windowsText seasonText runText runLine timeOf headLine figuresLine fieldOf decimalOf textOver
     table countOver sumOver anyOver firstOver joined
 lines-are = refl
 
 -- so the file is answered as the series is
-file-long : length gridBytes ≡ fileSize (Period (gridYear gridBytes)) (headSize (gridLayout gridBytes))
+file-long : length gridBytes ≡ fileSize (Period (gridYear gridBytes)) (headSize (gridLayout todays gridBytes))
 unfolding gridBytes
 file-long = rw (year-is readings, size-is readings) (length-append gridHeader readings ∙ omega (arith, bytes-long gridSeries, grid-long))
 
-legal : only 0 ≡ seriesAnswer (Period (gridYear gridBytes)) gridMost (seriesIn gridBytes (headSize (gridLayout gridBytes)))
+legal : only 0 ≡ seriesAnswer (Period (gridYear gridBytes)) gridMost (seriesIn gridBytes (headSize (gridLayout todays gridBytes)))
 unfolding gridBytes
 legal = rw (year-is readings, series-back) grid-legal
 
-answer-is : gridAnswer gridBytes ≡ wholeGrid 2025 5 gridSeries
+answer-is : gridAnswer todays gridBytes ≡ wholeGrid today 2025 5 gridSeries
 unfolding gridAnswer gridBytes
 answer-is =
-    sym (file-whole (gridLayout gridBytes) gridBytes (taken readings) (Period (gridYear gridBytes)) gridMost _ file-long legal)
-    ∙ rw (year-is readings, series-back) refl
+    sym (file-whole (gridLayout todays gridBytes) gridBytes (taken readings) (Period (gridYear gridBytes)) gridMost _ file-long legal)
+    ∙ rw (year-is readings, today-2025, series-back) refl
 
-lines-printed : windowsPrinted gridBytes ≡ exampleWindows
-lines-printed = ap windowLines (answer-is ∙ whole-is) ∙ lines-are
+lines-printed : windowsPrinted todays gridBytes ≡ exampleWindows
+unfolding gridBytes
+lines-printed = rw (year-is readings, today-2025) (ap (windowLines today) (answer-is ∙ whole-is) ∙ lines-are)
 
-pub windows-example : Prints (windowsPrinted gridBytes) (gridDriven gridBytes) 371 exampleWindows
-windows-example = record { of-bytes = lines-printed; of-machine = λ turns h. windows-printed gridBytes turns h ∙ lines-printed }
+pub windows-example : Prints (windowsPrinted todays gridBytes) (gridDriven todays gridBytes) 371 exampleWindows
+windows-example = record { of-bytes = lines-printed; of-machine = λ turns h. windows-printed todays gridBytes turns h ∙ lines-printed }

@@ -15,7 +15,7 @@ use Rattle.ranges.proofs.Tests.{all-at}
 use Rattle.ranges.proofs.Tables.{table-cong}
 use Rattle.ranges.specs.Limits.{outside}
 use Rattle.answers.specs.Edition.{today}
-use Rattle.answers.specs.Ruling.{dayQuarters, gridMost, yearOut, lacksYear, levelOut}
+use Rattle.answers.specs.Ruling.{dayQuarters, gridMost, lacksYear, levelOut}
 use Rattle.answers.specs.Said.{only}
 use Rattle.dates.specs.Dates.{leap, leapDay, daysTo, monthOf, seasonOf}
 use Rattle.periods.specs.Period.{periodDays, periodDate, periodSeason}
@@ -142,13 +142,13 @@ curves-are = rw (← period-run 2025) (curves-table ∙ table-cong _ curve windo
 
 -- and its sheet is that of case 12
 abbrev sheet : Sheet
-sheet = sheetOf 2025 5 exampleCurves
+sheet = sheetOf today 2025 5 exampleCurves
 
 peak-is : highestOf exampleCurves ≡ 2000
 unfolding joined largestOver highestOf
 peak-is = refl
 
-years-in : yearOut 2025 ≡ false
+years-in : lacksYear today 2025 ≡ false
 unfolding lacksYear
 years-in = refl
 
@@ -160,17 +160,17 @@ module _ (buffer : List ℕ) (room : sheetSize ≤ length buffer) where
   abbrev next : List ℕ
   next = exampleSheet ++ drop sheetSize buffer
 
-  writes : only 0 ≡ writeAnswer sheet (length buffer)
+  writes : only 0 ≡ writeAnswer today sheet (length buffer)
   unfolding sheetOf
   writes =
       write-accepted today sheet (length buffer) room years-in level-in
       (roomy today _ .1 (chosen-roomy today (highestOf exampleCurves) (curvesOf exampleCurves)))
 
-  lays : (only 0 ≡ windowsAnswer 2025 5 gridSeries (length buffer)) × (next ≡ windowsBuffer 2025 5 gridSeries buffer)
+  lays : (only 0 ≡ windowsAnswer today 2025 5 gridSeries (length buffer)) × (next ≡ windowsBuffer today 2025 5 gridSeries buffer)
   lays =
       let w = write-taken today sheet buffer next writes (ap (λ (b : List ℕ). b ++ drop sheetSize buffer) (sym example-bytes)) in
-      whole-finish 2025 5 gridSeries buffer room (open-done 2025 5 years-in level-in) grid-legal curves-are
-      (finish-sheet 2025 5 exampleCurves buffer (λ z. omega (arith, peak-is)) (w .0) (w .1))
+      whole-finish today 2025 5 gridSeries buffer room (open-done today 2025 5 years-in level-in) grid-legal curves-are
+      (finish-sheet today 2025 5 exampleCurves buffer (λ z. omega (arith, peak-is)) (w .0) (w .1))
 
   pub sheet-laid : ExampleLaid buffer
   sheet-laid = record { accepted = sym (lays .0); laid = sym (lays .1) }

@@ -13,6 +13,7 @@ use Rattle.ranges.specs.Ranges.{joined, sumOver, countOver, anyOver, allOver, f
 use Rattle.ranges.proofs.Tests.{all-at}
 use Rattle.answers.specs.Ruling.{customerMost, lacksYear, levelOut}
 use Rattle.answers.specs.Said.{only}
+use Rattle.editions.specs.Editions.{todays, placeFor, editionOf}
 use Rattle.readings.specs.declared.Run.the-variants.{Year}
 use Rattle.readings.specs.Runs.{runDays}
 use Rattle.readings.specs.Days.{seriesAnswer}
@@ -59,8 +60,8 @@ module _ (rest : List ℕ) where
   unfolding fourBytes fourAt inBase table joined
   prices-are = refl
 
-  size-is : headSize (customerLayout b) ≡ 79
-  size-is = Head.size-is b
+  size-is : headSize (customerLayout todays b) ≡ 79
+  size-is = Head.size-is todays b
 
   rest-is : drop 79 b ≡ rest
   unfolding fourBytes table joined
@@ -70,11 +71,11 @@ module _ (rest : List ℕ) where
   unfolding fourBytes table joined
   header-long = length-append customerHeader rest
 
-  taken : (k : ℕ) → k < customerLayout b .count → customerLayout b .refusal k ≡ 0
+  taken : (k : ℕ) → k < customerLayout todays b .count → customerLayout todays b .refusal k ≡ 0
   unfolding customerLayout layoutOf markField versionField yearField levelField seasonField optionField countField holidayField
       capacityField energyField fourBytes otherMark twoAt fourAt inBase setFrom lacksYear levelOut
-      table countOver sumOver anyOver allOver joined
-  taken k l = eqb-true _ _ (all-at (λ i. eqb (customerLayout b .refusal i) 0) 16 refl k l)
+      editionOf placeFor firstOver table countOver sumOver anyOver allOver joined
+  taken k l = eqb-true _ _ (all-at (λ i. eqb (customerLayout todays b .refusal i) 0) 16 refl k l)
 
 -- the series, read back from its bytes
 abbrev readings : List ℕ
@@ -92,31 +93,31 @@ low i =
     (λ d p. reading-low (isAt customerRun saturdayDay 0 d p) (isAt customerRun thursdayDay 72 d p))
     (runDays customerRun) i
 
-series-back : seriesIn customerBytes (headSize (customerLayout customerBytes)) ≡ customerSeries
+series-back : seriesIn customerBytes (headSize (customerLayout todays customerBytes)) ≡ customerSeries
 unfolding customerBytes
 series-back = ap (seriesIn customerBytes) (size-is readings) ∙ ap readingsOf (rest-is readings) ∙ readings-back customerSeries low
 
 -- so the file is answered as the series is
-file-long : length customerBytes ≡ fileSize (Year (customerYear customerBytes)) (headSize (customerLayout customerBytes))
+file-long : length customerBytes ≡ fileSize (Year (customerYear customerBytes)) (headSize (customerLayout todays customerBytes))
 unfolding customerBytes
 file-long = rw (year-is readings, size-is readings) (header-long readings ∙ omega (arith, bytes-long customerSeries, customer-long))
 
-legal : only 0 ≡ seriesAnswer (Year (customerYear customerBytes)) customerMost (seriesIn customerBytes (headSize (customerLayout customerBytes)))
+legal : only 0 ≡ seriesAnswer (Year (customerYear customerBytes)) customerMost (seriesIn customerBytes (headSize (customerLayout todays customerBytes)))
 unfolding customerBytes
 legal = rw (year-is readings, series-back) customer-legal
 
-answer-is : customerAnswer customerBytes ≡ decideAnswer exampleBasis customerSeries
+answer-is : customerAnswer todays customerBytes ≡ decideAnswer exampleBasis customerSeries
 unfolding customerAnswer customerBytes
 answer-is =
-    sym (file-whole (customerLayout customerBytes) customerBytes (taken readings) (Year (customerYear customerBytes)) customerMost _ file-long legal)
+    sym (file-whole (customerLayout todays customerBytes) customerBytes (taken readings) (Year (customerYear customerBytes)) customerMost _ file-long legal)
     ∙ rw (holidays-are readings, prices-are readings, series-back) refl
 
 line-is : statementLine customerSaid ≡ exampleStatement
 unfolding figuresLine fieldOf decimalOf textOver anyOver firstOver joined
 line-is = refl
 
-line-printed : statementPrinted customerBytes ≡ exampleStatement
+line-printed : statementPrinted todays customerBytes ≡ exampleStatement
 line-printed = ap statementLine (answer-is ∙ decided) ∙ line-is
 
-pub statement-example : Prints (statementPrinted customerBytes) (customerDriven customerBytes) 423 exampleStatement
-statement-example = record { of-bytes = line-printed; of-machine = λ turns h. statement-printed customerBytes turns h ∙ line-printed }
+pub statement-example : Prints (statementPrinted todays customerBytes) (customerDriven todays customerBytes) 423 exampleStatement
+statement-example = record { of-bytes = line-printed; of-machine = λ turns h. statement-printed todays customerBytes turns h ∙ line-printed }

@@ -7,6 +7,8 @@ use mathlib.Core.List.{List, [], _∷_, _++_}
 use Prim.Native.Nat.{ℕ, _+_, _≤_}
 use lib.Dec.{eqb}
 use lib.ListN.{length, drop}
+use Rattle.answers.specs.Edition.{today}
+use Rattle.editions.specs.Editions.{todays}
 use Rattle.ranges.specs.Ranges.{joined, table, digitOf}
 use Rattle.answers.specs.Said.{Said, only}
 use Rattle.dates.specs.Dates.{dayOf}
@@ -95,9 +97,9 @@ customerBytes = customerHeader ++ seriesBytes customerSeries
 abbrev pub exampleWindows : List ℕ
 exampleWindows = ascii "HLZ 2025 5\n1 18:00-18:15\n2 none\n3 none\n4 none\n"
 
--- the customer's basis: that sheet, no holidays, the prices of the cases, and no option
+-- the customer's basis: today's list of editions, that sheet, no holidays, the prices of the cases, and no option
 abbrev pub exampleBasis : Basis
-exampleBasis = basis exampleSheet [] prices false
+exampleBasis = basis todays exampleSheet [] prices false
 
 -- what the year is answered: the number, c, g, M, S, H, and its day, from 1, and quarter, from 0; and the statement
 -- program's line
@@ -109,8 +111,8 @@ exampleStatement = ascii "0 1001500 2001500 1000000 1500000 500000 2 72\n"
 
 -- the grid's series writes the sheet of case 12 into every buffer with room for it, and the bytes behind it stay
 pub record ExampleLaid (buffer : List ℕ) : Type 0 where
-  pub accepted : windowsAnswer 2025 5 gridSeries (length buffer) ≡ only 0
-  pub laid : windowsBuffer 2025 5 gridSeries buffer ≡ exampleSheet ++ drop sheetSize buffer
+  pub accepted : windowsAnswer today 2025 5 gridSeries (length buffer) ≡ only 0
+  pub laid : windowsBuffer today 2025 5 gridSeries buffer ≡ exampleSheet ++ drop sheetSize buffer
 
 -- a file has this text: what is printed of its bytes, and what the machine that a program drives over them prints, with
 -- turns enough (specs/Printed). For a grid file those are 371: 4 fields, at most 366 days, and the end. For a customer
@@ -123,8 +125,8 @@ pub record Examples : Type 0 where
   -- case 12, from the series to the sheet's bytes
   pub sheet : (buffer : List ℕ) → sheetSize ≤ length buffer → ExampleLaid buffer
   -- the window program's example, from the file's bytes to its lines
-  pub windows : Prints (windowsPrinted gridBytes) (gridDriven gridBytes) 371 exampleWindows
+  pub windows : Prints (windowsPrinted todays gridBytes) (gridDriven todays gridBytes) 371 exampleWindows
   -- the statement program's example, from the series to what the decision answers
   pub decision : decideAnswer exampleBasis customerSeries ≡ customerSaid
   -- and from the file's bytes to its line
-  pub statement : Prints (statementPrinted customerBytes) (customerDriven customerBytes) 423 exampleStatement
+  pub statement : Prints (statementPrinted todays customerBytes) (customerDriven todays customerBytes) 423 exampleStatement

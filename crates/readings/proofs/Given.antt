@@ -13,7 +13,7 @@ use Rattle.answers.specs.Said.{Said, after}
 use Rattle.readings.specs.Days.{offered, takenDays, oneAfterOther, takenReadings, daysOf}
 use Rattle.readings.specs.declared.Run.{Run}
 use Rattle.readings.specs.Runs.{dayLen, dayStart}
-use Rattle.readings.specs.Part.{dayPart}
+use Rattle.readings.specs.Part.{runPart}
 use Rattle.readings.proofs.Runs.{start-none, start-more}
 use Rattle.readings.proofs.Part.{Held, part-of}
 
@@ -32,13 +32,13 @@ module _ {S : Type 0} (step : S → List ℕ → S) where
   module _ (run : Run) (start : S) (xs : List ℕ) where
     pub days-none : offered step start (daysOf run xs 0) ≡ start
     unfolding offered daysOf
-    days-none = ap (offered step start) (table-none (λ d. dayPart run xs (d + 1)))
+    days-none = ap (offered step start) (table-none (λ d. runPart run xs (d + 1)))
 
-    pub days-more : (n : ℕ) → offered step start (daysOf run xs (n + 1)) ≡ step (offered step start (daysOf run xs n)) (dayPart run xs (n + 1))
+    pub days-more : (n : ℕ) → offered step start (daysOf run xs (n + 1)) ≡ step (offered step start (daysOf run xs n)) (runPart run xs (n + 1))
     unfolding daysOf
     days-more n =
-        ap (offered step start) (table-more (λ d. dayPart run xs (d + 1)) n)
-        ∙ offered-more (daysOf run xs n) start (dayPart run xs (n + 1))
+        ap (offered step start) (table-more (λ d. runPart run xs (d + 1)) n)
+        ∙ offered-more (daysOf run xs n) start (runPart run xs (n + 1))
 
 -- the readings of the taken days, one day more at the front
 module _ {S : Type 0} (answer : S → List ℕ → Said) (step : S → List ℕ → S) where
@@ -61,7 +61,7 @@ module _ (run : Run) (xs : List ℕ) where
   pub part-more :
       (n : ℕ)
       → Held run xs n
-      → take (dayStart run n) xs ++ dayPart run xs (n + 1) ≡ take (dayStart run (n + 1)) xs
+      → take (dayStart run n) xs ++ runPart run xs (n + 1) ≡ take (dayStart run (n + 1)) xs
   part-more n h =
       ap (λ (day : List ℕ). take (dayStart run n) xs ++ day) (part-of run xs n h)
       ∙ sym (take-add (dayStart run n) (dayLen run n) xs)

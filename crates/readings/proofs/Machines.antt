@@ -15,13 +15,12 @@ use lib.ListN.{length, getD, take, length-append}
 use lib.Seq.{take-all}
 use Rattle.ranges.proofs.Largest.{largest-le, largest-cong}
 use Rattle.ranges.proofs.First.{first-cong}
-use Rattle.answers.specs.Ruling.{yearOut}
 use Rattle.answers.specs.Said.{Said, only, badPlace, after}
 use Rattle.readings.specs.declared.Run.{Run}
 use Rattle.readings.specs.Runs.{runDays, dayLen, dayStart, runReadings, reading}
 use Rattle.readings.specs.Legal.{illegal, highestOf, firstAbove, dayPeak, peakOf, badAt, badDay, firstIllegal}
 use Rattle.readings.specs.Illegal.{LegalSeries}
-use Rattle.readings.specs.Part.{runYear, dayPart}
+use Rattle.readings.specs.Part.{runPart}
 use Rattle.readings.specs.Rows.{NextRow}
 use Rattle.readings.specs.Rows.NextRow.{thirteen, four, five, zero}
 use Rattle.readings.specs.Days.{seriesAnswer, nextAnswer, offered, takenDays, oneAfterOther, takenReadings, daysOf, BadThere, AsWhole}
@@ -156,18 +155,16 @@ module _
     abbrev stateAt : List ℕ → ℕ → S
     stateAt xs n = offered step (holding [] 0) (daysOf run xs n)
 
-    -- a series of the run's length, given by its days, the first `end` of which are legal; its charge year is allowed,
-    -- so that its days are handed out
+    -- a series of the run's length, given by its days, the first `end` of which are legal
     module _
-        (allowed : yearOut (runYear run) ≡ false)
         (xs : List ℕ) (l : length xs ≡ runReadings run) (end : ℕ) (in-run : end ≤ runDays run)
         (legal : (n : ℕ) → n < end → dayPeak run xs n ≤ limit)
       where
         held : (n : ℕ) → n < runDays run → Held run xs n
-        held n h = record { allowed = allowed; on = h; inside = omega (arith, run-held run n h) }
+        held n h = record { on = h; inside = omega (arith, run-held run n h) }
 
         -- a day that is handed out has the readings of its place in the series
-        part-peak : (n : ℕ) → n < runDays run → highestOf (dayPart run xs (n + 1)) ≡ dayPeak run xs n
+        part-peak : (n : ℕ) → n < runDays run → highestOf (runPart run xs (n + 1)) ≡ dayPeak run xs n
         unfolding highestOf dayPeak
         part-peak n h = rw (length-part run xs n (held n h)) (largest-cong _ _ (dayLen run n) (λ p k. part-at run xs n (held n h) p k))
 
@@ -182,19 +179,19 @@ module _
           inside : n < runDays run
           inside = omega (arith, in-run)
 
-          long : length (dayPart run xs (n + 1)) ≡ dayLen run n
+          long : length (runPart run xs (n + 1)) ≡ dayLen run n
           long = length-part run xs n (held n inside)
 
-          low : highestOf (dayPart run xs (n + 1)) ≤ limit
+          low : highestOf (runPart run xs (n + 1)) ≤ limit
           low = omega (arith, part-peak n inside, legal n h)
 
-          legal-said : only 0 ≡ nextAnswer run limit n (dayPart run xs (n + 1))
-          legal-said = next-taken run limit n (dayPart run xs (n + 1)) inside long low
+          legal-said : only 0 ≡ nextAnswer run limit n (runPart run xs (n + 1))
+          legal-said = next-taken run limit n (runPart run xs (n + 1)) inside long low
 
           took-more : Took n → Took (n + 1)
           took-more t =
               let before = take (dayStart run n) xs in
-              let day = dayPart run xs (n + 1) in
+              let day = runPart run xs (n + 1) in
               moved (part-more run xs n (held n inside)) refl
               (record {
                 read = read-more run before day n (t .read .long) (t .read .legal) low long;
@@ -212,8 +209,8 @@ module _
             let more : n + 1 ≡ suc n = omega arith in
             rw more at (took-more n (omega arith) (took n (omega arith)))
 
-        taken-before : (n : ℕ) → n < end → answer (stateAt xs n) (dayPart run xs (n + 1)) ≡ only 0
-        taken-before n h = took-said n (took n (omega arith)) (dayPart run xs (n + 1)) ∙ sym (legal-said n h)
+        taken-before : (n : ℕ) → n < end → answer (stateAt xs n) (runPart run xs (n + 1)) ≡ only 0
+        taken-before n h = took-said n (took n (omega arith)) (runPart run xs (n + 1)) ∙ sym (legal-said n h)
 
     -- closing a state that holds a complete legal series gives what the whole series does
     module _
@@ -221,36 +218,34 @@ module _
         (same : (xs : List ℕ) → only 0 ≡ seriesAnswer run limit xs → closes (holding xs (runDays run)) ≡ whole xs)
       where
         -- a complete legal series
-        module _ (allowed : yearOut (runYear run) ≡ false) (xs : List ℕ) (s : LegalSeries run limit xs) where
+        module _ (xs : List ℕ) (s : LegalSeries run limit xs) where
           each : (n : ℕ) → n < runDays run → dayPeak run xs n ≤ limit
           unfolding dayPeak
           each n h = largest-le (reading run xs n) (dayLen run n) limit (λ p k. s .legal n p h k)
 
-          said-all : (d : ℕ) → d < runDays run → answer (stateAt xs d) (dayPart run xs (d + 1)) ≡ only 0
-          said-all = taken-before allowed xs (s .long) (runDays run) (omega arith) each
+          said-all : (d : ℕ) → d < runDays run → answer (stateAt xs d) (runPart run xs (d + 1)) ≡ only 0
+          said-all = taken-before xs (s .long) (runDays run) (omega arith) each
 
           closed-all : closes (stateAt xs (runDays run)) ≡ whole xs
           closed-all =
-              let t = took allowed xs (s .long) (runDays run) (omega arith) each (runDays run) (omega arith) in
+              let t = took xs (s .long) (runDays run) (omega arith) each (runDays run) (omega arith) in
               let all : take (dayStart run (runDays run)) xs ≡ xs = take-all (dayStart run (runDays run)) xs (omega (arith, run-all run, s .long)) in
               ap closes (t .is ∙ ap (λ (ys : List ℕ). holding ys (runDays run)) all) ∙ same xs (sym (legal-series run limit xs .1 s))
 
         -- Rule 9.4: once every day was taken, closing gives what the call for the whole series gives
         pub as-whole :
-            yearOut (runYear run) ≡ false
-            → (start : S)
+            (start : S)
             → start ≡ holding [] 0
             → AsWhole run limit answer step start closes whole
-        as-whole allowed start e =
+        as-whole start e =
             record {
               taken = λ days full. let f = all-taken start e days full in ap closes (f .whole) ∙ same _ (f .legal);
-              every-day = λ xs s d h. rw e (said-all allowed xs s d h);
-              all-days = λ xs s. rw e (closed-all allowed xs s);
+              every-day = λ xs s d h. rw e (said-all xs s d h);
+              all-days = λ xs s. rw e (closed-all xs s);
             }
 
     -- a series with an illegal reading, given by its days
     module _
-        (allowed : yearOut (runYear run) ≡ false)
         (xs : List ℕ) (l : length xs ≡ runReadings run) (bad : limit < peakOf run xs (runDays run))
       where
         abbrev there : ℕ
@@ -259,26 +254,26 @@ module _
         found : there < runDays run
         found = peak-illegal run limit xs bad
 
-        part-bad : (n : ℕ) → n < runDays run → firstAbove limit (dayPart run xs (n + 1)) ≡ badAt run limit xs n
+        part-bad : (n : ℕ) → n < runDays run → firstAbove limit (runPart run xs (n + 1)) ≡ badAt run limit xs n
         unfolding firstAbove badAt
         part-bad n h =
-            let inside : Held run xs n = record { allowed = allowed; on = h; inside = omega (arith, run-held run n h) } in
+            let inside : Held run xs n = record { on = h; inside = omega (arith, run-held run n h) } in
             rw (length-part run xs n inside) (first-cong _ _ (dayLen run n) (λ p k. ap (illegal limit) (part-at run xs n inside p k)))
 
         -- the days before it are taken
-        before-taken : (n : ℕ) → n < there → answer (stateAt xs n) (dayPart run xs (n + 1)) ≡ only 0
-        before-taken = taken-before allowed xs l there (omega (arith, found)) (before-legal run limit xs bad)
+        before-taken : (n : ℕ) → n < there → answer (stateAt xs n) (runPart run xs (n + 1)) ≡ only 0
+        before-taken = taken-before xs l there (omega (arith, found)) (before-legal run limit xs bad)
 
         -- and its day answers the place
-        bad-there : answer (stateAt xs there) (dayPart run xs (there + 1)) ≡ badPlace (firstIllegal run limit xs)
+        bad-there : answer (stateAt xs there) (runPart run xs (there + 1)) ≡ badPlace (firstIllegal run limit xs)
         unfolding firstIllegal
         bad-there =
-            let peak = part-peak allowed xs l there (omega (arith, found)) (before-legal run limit xs bad) there found in
-            let inside : Held run xs there = record { allowed = allowed; on = found; inside = omega (arith, run-held run there found) } in
-            let t = took allowed xs l there (omega (arith, found)) (before-legal run limit xs bad) there (omega arith) in
-            took-said allowed xs l there (omega (arith, found)) (before-legal run limit xs bad) there t (dayPart run xs (there + 1))
+            let peak = part-peak xs l there (omega (arith, found)) (before-legal run limit xs bad) there found in
+            let inside : Held run xs there = record { on = found; inside = omega (arith, run-held run there found) } in
+            let t = took xs l there (omega (arith, found)) (before-legal run limit xs bad) there (omega arith) in
+            took-said xs l there (omega (arith, found)) (before-legal run limit xs bad) there t (runPart run xs (there + 1))
             ∙ sym
-            (next-bad run limit there (dayPart run xs (there + 1)) found (length-part run xs there inside)
+            (next-bad run limit there (runPart run xs (there + 1)) found (length-part run xs there inside)
             (omega (arith, peak, there-bad run limit xs bad))
             (sym (part-bad there found)))
             ∙ simp (lt-ltb there (runDays run) found)
@@ -286,11 +281,10 @@ module _
     -- where the whole series is answered 5 at a day, from 1, and a position, from 0, the days before are taken, and
     -- that day is answered the same
     pub same-bad :
-        yearOut (runYear run) ≡ false
-        → (xs : List ℕ) (d q : ℕ)
+        (xs : List ℕ) (d q : ℕ)
         → seriesAnswer run limit xs ≡ badPlace (record { day = d + 1; position = q })
         → BadThere run answer step (holding [] 0) xs d q
-    same-bad allowed xs d q e = go (ℕ-discrete (length xs) (runReadings run)) (decLt limit (peakOf run xs (runDays run)))
+    same-bad xs d q e = go (ℕ-discrete (length xs) (runReadings run)) (decLt limit (peakOf run xs (runDays run)))
       where
         number : {n : ℕ} → only n ≡ seriesAnswer run limit xs → n ≡ 5
         number f = ap (λ (a : Said). a .number) (f ∙ e)
@@ -303,6 +297,6 @@ module _
         go (yes l) (no v) = absurd (omega (arith, number (series-legal run limit xs l (omega arith))))
         go (yes l) (yes v) =
             record {
-              before = λ n h. before-taken allowed xs l v n (omega (arith, here l v));
-              there = rw (here l v) at (bad-there allowed xs l v ∙ series-bad run limit xs l v ∙ e);
+              before = λ n h. before-taken xs l v n (omega (arith, here l v));
+              there = rw (here l v) at (bad-there xs l v ∙ series-bad run limit xs l v ∙ e);
             }

@@ -12,7 +12,7 @@ use Rattle.readings.specs.declared.Run.{Run}
 use Rattle.readings.specs.Runs.{runDays, dayLen, runReadings}
 use Rattle.readings.specs.Legal.{firstAbove, firstIllegal}
 use Rattle.readings.specs.Illegal.{LegalSeries}
-use Rattle.readings.specs.Part.{dayPart}
+use Rattle.readings.specs.Part.{runPart}
 
 -- a whole series: 4 for a wrong number of readings, then 5 for the first illegal one
 unfoldable pub seriesAnswer : Run → ℕ → List ℕ → Said
@@ -54,7 +54,7 @@ takenReadings answer step s days = oneAfterOther (takenDays answer step s days)
 
 -- the first n days of a series, each as it is handed out: entry d of the list, from 0, is day d + 1
 unfoldable pub daysOf : Run → List ℕ → ℕ → List (List ℕ)
-daysOf run xs n = table (λ d. dayPart run xs (d + 1)) n
+daysOf run xs n = table (λ d. runPart run xs (d + 1)) n
 
 -- a series whose days are offered to a machine: those before day d, from 0, are taken, and day d is answered 5 at
 -- position q, from 0
@@ -62,8 +62,8 @@ pub record BadThere
     {S : Type 0} (run : Run) (answer : S → List ℕ → Said) (step : S → List ℕ → S) (start : S)
     (xs : List ℕ) (d q : ℕ) : Type 0
   where
-    pub before : (n : ℕ) → n < d → answer (offered step start (daysOf run xs n)) (dayPart run xs (n + 1)) ≡ only 0
-    pub there : answer (offered step start (daysOf run xs d)) (dayPart run xs (d + 1)) ≡ badPlace (record { day = d + 1; position = q })
+    pub before : (n : ℕ) → n < d → answer (offered step start (daysOf run xs n)) (runPart run xs (n + 1)) ≡ only 0
+    pub there : answer (offered step start (daysOf run xs d)) (runPart run xs (d + 1)) ≡ badPlace (record { day = d + 1; position = q })
 
 -- Days from `start` on close as the whole series does (Rule 9.4): `closes` is what closing a state gives, `whole` what
 -- the call for whole series gives. It is said of what the caller sees, for any machine: of its answers, and not of a
@@ -83,5 +83,5 @@ pub record AsWhole
         → LegalSeries run limit xs
         → (d : ℕ)
         → d < runDays run
-        → answer (offered step start (daysOf run xs d)) (dayPart run xs (d + 1)) ≡ only 0
+        → answer (offered step start (daysOf run xs d)) (runPart run xs (d + 1)) ≡ only 0
     pub all-days : (xs : List ℕ) → LegalSeries run limit xs → closes (offered step start (daysOf run xs (runDays run))) ≡ whole xs

@@ -6,7 +6,8 @@ use mathlib.Core.List.{List, []}
 use Prim.Native.Nat.{ℕ, _-_}
 use lib.Dec.{ltb, eqb}
 use lib.ListN.{length, take, drop}
-use Rattle.answers.specs.Ruling.{yearOut}
+use Rattle.answers.specs.declared.Edition.{Edition}
+use Rattle.answers.specs.Ruling.{lacksYear}
 use Rattle.readings.specs.declared.Run.{Run}
 use Rattle.readings.specs.declared.Run.the-variants.{Year, Period}
 use Rattle.readings.specs.Runs.{runDays, dayLen, dayStart}
@@ -16,11 +17,16 @@ abbrev pub runYear : Run → ℕ
 runYear (Year y) = y
 runYear (Period y) = y
 
--- is there no such day, whatever the series?
-unfoldable pub noPart : Run → ℕ → Bool
-noPart run day = (yearOut (runYear run) || eqb day 0) || ltb (runDays run) day
+-- does the run not have the day?
+unfoldable pub noDay : Run → ℕ → Bool
+noDay run day = eqb day 0 || ltb (runDays run) day
 
-unfoldable pub dayPart : Run → List ℕ → ℕ → List ℕ
-dayPart run xs day =
-    cond (noPart run day || ltb (length xs) (dayStart run day)) []
+-- the part of a series that is a day of the run
+unfoldable pub runPart : Run → List ℕ → ℕ → List ℕ
+runPart run xs day =
+    cond (noDay run day || ltb (length xs) (dayStart run day)) []
     (take (dayLen run (day - 1)) (drop (dayStart run (day - 1)) xs))
+
+-- what is handed out by an edition: that part, in a charge year for which the edition holds
+unfoldable pub dayPart : Edition → Run → List ℕ → ℕ → List ℕ
+dayPart ed run xs day = cond (lacksYear ed (runYear run)) [] (runPart run xs day)

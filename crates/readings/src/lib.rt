@@ -6,9 +6,11 @@
 ghost use mathlib.Core.Path.{_≡_};
 ghost use Prim.Native.Nat.{_≤_};
 ghost use Rattle.ranges.specs.Limits.{outside};
+ghost use Rattle.editions.specs.Editions.{editionOf};
 ghost use Rattle.readings.specs.Runs.{runDays, changeOf, lenBy, spanBy, dayLen, quarterIn, runReadings};
 ghost use Rattle.readings.specs.Near.{latestOf, fourBefore};
-ghost use Rattle.readings.specs.Part.{runYear, noPart, dayPart};
+ghost use Rattle.readings.specs.Part.{runYear, noDay, runPart, dayPart};
+use editions::Editions;
 
 // The days whose readings a series holds: those of a charge year, or of its reference period.
 pub enum Run {
@@ -176,20 +178,19 @@ fn run_year(run: Run) -> u16
     }
 }
 
-// Is there no such day, from 1, whatever the series: for a charge year that would be answered 1, for day 0, and for a
-// day that the run does not have?
-fn no_part(run: Run, day: usize) -> bool
-    ensures { λ r. ⌜ r ≡ noPart run day ⌝ }
+// Does a run not have a day, from 1?
+fn no_day(run: Run, day: usize) -> bool
+    ensures { λ r. ⌜ r ≡ noDay run day ⌝ }
 {
-    answers::year_out(run_year(run)) | (day == 0) | ((run_days(run) as usize) < day)
+    (day == 0) | ((run_days(run) as usize) < day)
 }
 
-// The part of a series that is a day, from 1: empty where there is no such day, and for a day of which the series does
-// not have all readings.
-pub fn day_part(run: Run, series: &[u32], day: usize) -> &[u32]
-    ensures { λ r. ⌜ now r ≡ dayPart run (now (series .entry)) day ⌝ }
+// The part of a series that is a day, from 1, of a run of any charge year: empty where the run has no such day, and for
+// a day of which the series does not have all readings.
+pub fn run_part(run: Run, series: &[u32], day: usize) -> &[u32]
+    ensures { λ r. ⌜ now r ≡ runPart run (now (series .entry)) day ⌝ }
 {
-    if no_part(run, day) {
+    if no_day(run, day) {
         return &series[0..0];
     }
     let span = span_by(change_of(run), (day - 1) as u16);
@@ -199,4 +200,14 @@ pub fn day_part(run: Run, series: &[u32], day: usize) -> &[u32]
         return &series[0..0];
     }
     &series[start..end]
+}
+
+// The same by the edition of the run's charge year: empty, too, for a year that would be answered 1.
+pub fn day_part(editions: Editions, run: Run, series: &[u32], day: usize) -> &[u32]
+    ensures { λ r. ⌜ now r ≡ dayPart (editionOf editions (runYear run)) run (now (series .entry)) day ⌝ }
+{
+    if editions::year_out(editions, run_year(run)) {
+        return &series[0..0];
+    }
+    run_part(run, series, day)
 }

@@ -27,7 +27,7 @@ use Rattle.sheet.specs.Bytes.{mark, versionAt, yearAt, levelAt, windowsA
 use Rattle.sheet.specs.Rows.ReadRow.{zero}
 use Rattle.sheet.specs.Rows.WriteRow.{zero}
 use Rattle.sheet.specs.Rows.{Formed, ReadRow, WriteRow}
-use Rattle.sheet.specs.Answers.{readAnswerBy, readSheetBy, readOfBy, ReadSaid, writeAnswerBy, writtenBy}
+use Rattle.sheet.specs.Answers.{readAnswer, readSheet, readOf, ReadSaid, writeAnswer, written}
 use Rattle.sheet.proofs.Windows.{roomy}
 use Rattle.sheet.proofs.Bytes.{byte-bit, bits-byte, length-bytes, headOf, byte-at}
 use Rattle.sheet.proofs.Exactly.{read-exactly, write-exactly}
@@ -73,7 +73,7 @@ module _ (y l : ℕ) (w : List Bool) where
   meaning h = λ i. record { year = year-written i; level = level-written i; windows = windows-written h i }
 
 -- reading what was written gives the same meaning
-pub read-written : (ed : Edition) (s : Sheet) → LegalSheet ed s → readOfBy ed (sheetBytes s) ≡ record { answer = only 0; sheet = s }
+pub read-written : (ed : Edition) (s : Sheet) → LegalSheet ed s → readOf ed (sheetBytes s) ≡ record { answer = only 0; sheet = s }
 read-written ed s h =
     let m = meaning (s .year) (s .level) (s .windows) (h .long) in
     sym (read-taken ed (sheetBytes s) (read-accepted ed (sheetBytes s) (formed (s .year) (s .level) (s .windows))
@@ -85,7 +85,7 @@ read-written ed s h =
 -- so two meanings never share bytes
 pub one-meaning : (ed : Edition) (s t : Sheet) → LegalSheet ed s → LegalSheet ed t → sheetBytes s ≡ sheetBytes t → s ≡ t
 one-meaning ed s t h g e =
-    ap (λ (r : ReadSaid). r .sheet) (sym (read-written ed s h) ∙ ap (readOfBy ed) e ∙ read-written ed t g)
+    ap (λ (r : ReadSaid). r .sheet) (sym (read-written ed s h) ∙ ap (readOf ed) e ∙ read-written ed t g)
 
 module _ (b : List ℕ) (small : AreBytes b) (f : Formed b) where
   -- the windows' bytes, back from their bits
@@ -129,13 +129,13 @@ module _ (b : List ℕ) (small : AreBytes b) (f : Formed b) where
       let size = length-bytes (twoAt b yearAt) (getD b levelAt 0) (windowsIn b) in
       ext-getD 0 (sheetBytes (sheetIn b)) b (size ∙ sym (f .size)) (λ i l. each i (omega arith))
 
-module _ (ed : Edition) (b : List ℕ) (e : readAnswerBy ed b .number ≡ 0) where
+module _ (ed : Edition) (b : List ℕ) (e : readAnswer ed b .number ≡ 0) where
   -- accepted bytes have the form, and the sheet beside 0 is their meaning
-  accepted : Formed b × (readSheetBy ed b ≡ sheetIn b) × LegalSheet ed (sheetIn b)
+  accepted : Formed b × (readSheet ed b ≡ sheetIn b) × LegalSheet ed (sheetIn b)
   unfolding windowsIn
   accepted = go (read-exactly ed b 0 .0 e)
     where
-      go : ReadRow ed b 0 → Formed b × (readSheetBy ed b ≡ sheetIn b) × LegalSheet ed (sheetIn b)
+      go : ReadRow ed b 0 → Formed b × (readSheet ed b ≡ sheetIn b) × LegalSheet ed (sheetIn b)
       go (zero f y l w) = (
         f,
         sym (ap (λ (r : ReadSaid). r .sheet) (read-taken ed b (read-accepted ed b f (has-year ed _ .1 y) (level-of _ .1 l) (roomy ed _ .1 w)))),
@@ -143,36 +143,36 @@ module _ (ed : Edition) (b : List ℕ) (e : readAnswerBy ed b .number ≡ 0) whe
       )
 
   -- what is read is a legal sheet, and writing it gives the same bytes
-  pub read-legal : LegalSheet ed (readSheetBy ed b)
+  pub read-legal : LegalSheet ed (readSheet ed b)
   read-legal = rw (accepted .1) (accepted .2)
 
-  pub bytes-back : AreBytes b → sheetBytes (readSheetBy ed b) ≡ b
+  pub bytes-back : AreBytes b → sheetBytes (readSheet ed b) ≡ b
   bytes-back small = rw (accepted .1) (written-read b small (accepted .0))
 
--- so two accepted sheets with one meaning have the same bytes
+-- so two accepted sheets with one meaning have the same bytes, whatever the editions
 pub same-bytes :
-    (ed : Edition) (b c : List ℕ)
+    (ed fd : Edition) (b c : List ℕ)
     → AreBytes b
     → AreBytes c
-    → readAnswerBy ed b .number ≡ 0
-    → readAnswerBy ed c .number ≡ 0
-    → readSheetBy ed b ≡ readSheetBy ed c
+    → readAnswer ed b .number ≡ 0
+    → readAnswer fd c .number ≡ 0
+    → readSheet ed b ≡ readSheet fd c
     → b ≡ c
-same-bytes ed b c small tiny p q e = sym (bytes-back ed b p small) ∙ ap sheetBytes e ∙ bytes-back ed c q tiny
+same-bytes ed fd b c small tiny p q e = sym (bytes-back ed b p small) ∙ ap sheetBytes e ∙ bytes-back fd c q tiny
 
 -- an accepted writing leaves a sheet in the buffer that reads back
 pub buffer-read :
     (ed : Edition) (s : Sheet) (buffer : List ℕ)
     → length (s .windows) ≡ windowPlaces
-    → writeAnswerBy ed s (length buffer) .number ≡ 0
-    → readOfBy ed (take sheetSize (writtenBy ed s buffer)) ≡ record { answer = only 0; sheet = s }
+    → writeAnswer ed s (length buffer) .number ≡ 0
+    → readOf ed (take sheetSize (written ed s buffer)) ≡ record { answer = only 0; sheet = s }
 buffer-read ed s buffer long e = go (write-exactly ed s (length buffer) 0 .0 e)
   where
-    go : WriteRow ed s (length buffer) 0 → readOfBy ed (take sheetSize (writtenBy ed s buffer)) ≡ record { answer = only 0; sheet = s }
+    go : WriteRow ed s (length buffer) 0 → readOf ed (take sheetSize (written ed s buffer)) ≡ record { answer = only 0; sheet = s }
     go (zero h y l w) =
         let taken = write-accepted ed s (length buffer) h (has-year ed _ .1 y) (level-of _ .1 l) (roomy ed _ .1 w) in
         let bytes = length-bytes (s .year) (s .level) (s .windows) in
-        ap (readOfBy ed) (ap (take sheetSize) (sym (write-taken ed s buffer _ taken refl .1)) ∙ take-at (sheetBytes s) (drop sheetSize buffer) sheetSize bytes)
+        ap (readOf ed) (ap (take sheetSize) (sym (write-taken ed s buffer _ taken refl .1)) ∙ take-at (sheetBytes s) (drop sheetSize buffer) sheetSize bytes)
         ∙ read-written ed s (record { long = long; year = y; level = l; room = w })
 
 -- a sheet without a set bit is legal (Rule 5.3)

@@ -20,7 +20,7 @@ use Rattle.answers.specs.declared.Edition.{Edition}
 use Rattle.answers.specs.Ruling.{dayQuarters}
 use Rattle.encoding.specs.Bytes.{formatVersion}
 use Rattle.sheet.specs.Windows.{seasons, windowPlaces, quarterPlace, setIn, tooFull}
-use Rattle.sheet.specs.Bytes.{mark, windowsAt, windowBytes, sheetSize, twoBytes, windowByte, bytesOf, byteAt, bitOf, bitAt, windowAt, windowsIn, seasonBytes, setFrom, seasonFullBy}
+use Rattle.sheet.specs.Bytes.{mark, windowsAt, windowBytes, sheetSize, twoBytes, windowByte, bytesOf, byteAt, bitOf, bitAt, windowAt, windowsIn, seasonBytes, setFrom, seasonFull}
 use Rattle.sheet.proofs.Windows.{too-full}
 
 -- the quarters of a season, set in a sheet's windows or in their bytes: as many
@@ -43,7 +43,7 @@ set-same a b i j h = count-cong _ _ dayQuarters (λ q l. ap (λ (x : ℕ). bitOf
 -- four seasons in bytes, more than the limit set in one
 pub full-bytes :
     (ed : Edition) (b : List ℕ)
-    → (seasonFullBy ed b 8 || seasonFullBy ed b 20 || seasonFullBy ed b 32 || seasonFullBy ed b 44) ≡ tooFull ed (windowsIn b)
+    → (seasonFull ed b 8 || seasonFull ed b 20 || seasonFull ed b 32 || seasonFull ed b 44) ≡ tooFull ed (windowsIn b)
 full-bytes ed b =
     too-full ed (windowsIn b) _ _ _ _
     (sym (season-set b 0 (omega arith)))

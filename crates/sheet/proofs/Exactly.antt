@@ -25,15 +25,15 @@ use Rattle.sheet.specs.Bytes.{yearAt, levelAt, sheetSize, windowsIn}
 use Rattle.sheet.specs.Rows.ReadRow.{malformed, one, two, full, zero}
 use Rattle.sheet.specs.Rows.WriteRow.{fourteen, one, two, twelve, zero}
 use Rattle.sheet.specs.Rows.{Formed, ReadRow, WriteRow}
-use Rattle.sheet.specs.Answers.{saidOfSheet, ReadSaid, shownOf, readAnswerBy, readOfBy, writeAnswerBy, writtenBy}
+use Rattle.sheet.specs.Answers.{saidOfSheet, ReadSaid, shownOf, readAnswer, readOf, writeAnswer, written}
 use Rattle.sheet.proofs.Windows.{roomy}
 use Rattle.sheet.proofs.Answered.{form, read-form, read-year, read-level, read-full, read-accepted, write-short, write-year, write-level, write-full, write-accepted}
 
 module _ (ed : Edition) (b : List ℕ) where
-  read-holds : ReadRow ed b (readAnswerBy ed b .number)
+  read-holds : ReadRow ed b (readAnswer ed b .number)
   read-holds = go (form b)
     where
-      go : Dec (Formed b) → ReadRow ed b (readAnswerBy ed b .number)
+      go : Dec (Formed b) → ReadRow ed b (readAnswer ed b .number)
       go (no n) = rw (← read-form ed b n) (malformed n)
       go (yes f) =
           ⊎-elim (λ p. rw (← read-year ed b f p) (one f (refutes _ (has-year ed _) .0 p))) (λ y.
@@ -42,24 +42,24 @@ module _ (ed : Edition) (b : List ℕ) where
           (λ w. rw (← read-accepted ed b f y l w) (zero f (has-year ed _ .0 y) (level-of _ .0 l) (roomy ed _ .0 w)))
           (decided (tooFull ed (windowsIn b)))) (decided (levelOut (getD b levelAt 0)))) (decided (lacksYear ed (twoAt b yearAt)))
 
-  read-given : {n : ℕ} → ReadRow ed b n → readAnswerBy ed b .number ≡ n
+  read-given : {n : ℕ} → ReadRow ed b n → readAnswer ed b .number ≡ n
   read-given (malformed n) = rw (← read-form ed b n)
   read-given (one f y) = rw (← read-year ed b f (refutes _ (has-year ed _) .1 y))
   read-given (two f y l) = rw (← read-level ed b f (has-year ed _ .1 y) (refutes _ (level-of _) .1 l))
   read-given (full f y l w) = rw (← read-full ed b f (has-year ed _ .1 y) (level-of _ .1 l) (refutes _ (roomy ed _) .1 w))
   read-given (zero f y l w) = rw (← read-accepted ed b f (has-year ed _ .1 y) (level-of _ .1 l) (roomy ed _ .1 w))
 
-  pub read-exactly : (n : ℕ) → (readAnswerBy ed b .number ≡ n) ↔ ReadRow ed b n
+  pub read-exactly : (n : ℕ) → (readAnswer ed b .number ≡ n) ↔ ReadRow ed b n
   read-exactly n = (λ e. rw e at read-holds, read-given)
 
   -- 0 has no figures, and 14 is never given
-  pub read-zero : readAnswerBy ed b .number ≡ 0 → only 0 ≡ readAnswerBy ed b
+  pub read-zero : readAnswer ed b .number ≡ 0 → only 0 ≡ readAnswer ed b
   read-zero e = go (read-exactly 0 .0 e)
     where
-      go : ReadRow ed b 0 → only 0 ≡ readAnswerBy ed b
+      go : ReadRow ed b 0 → only 0 ≡ readAnswer ed b
       go (zero f y l w) = read-accepted ed b f (has-year ed _ .1 y) (level-of _ .1 l) (roomy ed _ .1 w)
 
-  pub read-never : readAnswerBy ed b .number ≡ 14 → ⊥
+  pub read-never : readAnswer ed b .number ≡ 14 → ⊥
   read-never e = go (read-exactly 14 .0 e) refl
     where
       go : {n : ℕ} → ReadRow ed b n → n ≡ 14 → ⊥
@@ -70,10 +70,10 @@ module _ (ed : Edition) (b : List ℕ) where
       go (zero f y l w) h = omega arith
 
 module _ (ed : Edition) (s : Sheet) (room : ℕ) where
-  write-holds : WriteRow ed s room (writeAnswerBy ed s room .number)
+  write-holds : WriteRow ed s room (writeAnswer ed s room .number)
   write-holds = go (decLt room sheetSize)
     where
-      go : Dec (room < sheetSize) → WriteRow ed s room (writeAnswerBy ed s room .number)
+      go : Dec (room < sheetSize) → WriteRow ed s room (writeAnswer ed s room .number)
       go (yes h) = rw (← write-short ed s room h) (fourteen h)
       go (no n) =
           let h : sheetSize ≤ room = omega arith in
@@ -83,14 +83,14 @@ module _ (ed : Edition) (s : Sheet) (room : ℕ) where
           (λ w. rw (← write-accepted ed s room h y l w) (zero h (has-year ed _ .0 y) (level-of _ .0 l) (roomy ed _ .0 w)))
           (decided (tooFull ed (s .windows)))) (decided (levelOut (s .level)))) (decided (lacksYear ed (s .year)))
 
-  write-given : {n : ℕ} → WriteRow ed s room n → writeAnswerBy ed s room .number ≡ n
+  write-given : {n : ℕ} → WriteRow ed s room n → writeAnswer ed s room .number ≡ n
   write-given (fourteen h) = rw (← write-short ed s room h)
   write-given (one h y) = rw (← write-year ed s room h (refutes _ (has-year ed _) .1 y))
   write-given (two h y l) = rw (← write-level ed s room h (has-year ed _ .1 y) (refutes _ (level-of _) .1 l))
   write-given (twelve h y l w) = rw (← write-full ed s room h (has-year ed _ .1 y) (level-of _ .1 l) (refutes _ (roomy ed _) .1 w))
   write-given (zero h y l w) = rw (← write-accepted ed s room h (has-year ed _ .1 y) (level-of _ .1 l) (roomy ed _ .1 w))
 
-  pub write-exactly : (n : ℕ) → (writeAnswerBy ed s room .number ≡ n) ↔ WriteRow ed s room n
+  pub write-exactly : (n : ℕ) → (writeAnswer ed s room .number ≡ n) ↔ WriteRow ed s room n
   write-exactly n = (λ e. rw e at write-holds, write-given)
 
 -- an answer, back from what it says: so two answers that say the same are equal, without a case for each pair
@@ -112,7 +112,7 @@ pub sheet-said : {a b : SheetAnswer} → saidOfSheet a ≡ saidOfSheet b → a �
 sheet-said {a} {b} e = sym (back a) ∙ ap answerBack e ∙ back b
 
 -- nothing else meets the promise of `read`, nor that of `write`
-pub read-only : (ed : Edition) (b : List ℕ) {r s : SheetRead} → shownOf r ≡ readOfBy ed b → shownOf s ≡ readOfBy ed b → r ≡ s
+pub read-only : (ed : Edition) (b : List ℕ) {r s : SheetRead} → shownOf r ≡ readOf ed b → shownOf s ≡ readOf ed b → r ≡ s
 read-only ed b {r} {s} p q =
     let e = one-answer p q in
     let a : r .answer ≡ s .answer = sheet-said (ap (λ (x : ReadSaid). x .answer) e) in
@@ -121,7 +121,7 @@ read-only ed b {r} {s} p q =
 
 pub write-only :
     (ed : Edition) (s : Sheet) (buffer : List ℕ) {r q : SheetAnswer} {after later : List ℕ}
-    → (saidOfSheet r ≡ writeAnswerBy ed s (length buffer)) × (after ≡ writtenBy ed s buffer)
-    → (saidOfSheet q ≡ writeAnswerBy ed s (length buffer)) × (later ≡ writtenBy ed s buffer)
+    → (saidOfSheet r ≡ writeAnswer ed s (length buffer)) × (after ≡ written ed s buffer)
+    → (saidOfSheet q ≡ writeAnswer ed s (length buffer)) × (later ≡ written ed s buffer)
     → (r ≡ q) × (after ≡ later)
 write-only ed s buffer p q = (sheet-said (one-answer (p .0) (q .0)), one-answer (p .1) (q .1))

@@ -1,14 +1,13 @@
 -- What reading and writing a sheet answer, and what they leave behind. Reading: 12 for length, mark or version, then 1,
 -- then 2, then 12 for too many set bits. Writing: 14 for a buffer of fewer than 56 bytes, then 1, 2 and 12; a sheet
 -- fills the first 56 bytes of the lent buffer, and the others stay. Years and the limit of set bits are those of an
--- edition ed; the calls go by today's. Rules 8.2 and 8.3.
+-- edition ed: the one of the sheet's year. Rules 8.2 and 8.3.
 use mathlib.Core.Bool.{false, cond, not}
 use mathlib.Core.List.{List, _++_}
 use Prim.Native.Nat.{ℕ}
 use lib.Dec.{ltb, eqb}
 use lib.ListN.{length, drop, getD, replicate}
 use Rattle.answers.specs.declared.Edition.{Edition}
-use Rattle.answers.specs.Edition.{today}
 use Rattle.answers.specs.Ruling.{lacksYear, levelOut}
 use Rattle.answers.specs.Said.{Said, only, after}
 use Rattle.sheet.specs.declared.Sheet.{Sheet}
@@ -28,8 +27,8 @@ saidOfSheet LevelOut = only 2
 saidOfSheet Malformed = only 12
 
 -- reading: what the bytes b are answered
-unfoldable pub readAnswerBy : Edition → List ℕ → Said
-readAnswerBy ed b =
+unfoldable pub readAnswer : Edition → List ℕ → Said
+readAnswer ed b =
     cond (not (eqb (length b) sheetSize)) (only 12)
     (cond (unmarked b) (only 12)
     (cond (versionOut b versionAt) (only 12)
@@ -46,8 +45,8 @@ abbrev pub refusedSheet : SheetAnswer → SheetRead
 refusedSheet answer = record { answer = answer; sheet = blank }
 
 -- the sheet beside the answer
-unfoldable pub readSheetBy : Edition → List ℕ → Sheet
-readSheetBy ed b = after (readAnswerBy ed b) (sheetIn b) blank
+unfoldable pub readSheet : Edition → List ℕ → Sheet
+readSheet ed b = after (readAnswer ed b) (sheetIn b) blank
 
 -- the answer and the sheet together: what reading code hands back, and what it must
 pub record ReadSaid : Type 0 where
@@ -57,33 +56,17 @@ pub record ReadSaid : Type 0 where
 abbrev pub shownOf : SheetRead → ReadSaid
 shownOf r = record { answer = saidOfSheet (r .answer); sheet = r .sheet }
 
-abbrev pub readOfBy : Edition → List ℕ → ReadSaid
-readOfBy ed b = record { answer = readAnswerBy ed b; sheet = readSheetBy ed b }
+abbrev pub readOf : Edition → List ℕ → ReadSaid
+readOf ed b = record { answer = readAnswer ed b; sheet = readSheet ed b }
 
 -- writing: what the sheet s is answered, where the lent buffer has `room` bytes, and what the buffer then holds
-unfoldable pub writeAnswerBy : Edition → Sheet → ℕ → Said
-writeAnswerBy ed s room =
+unfoldable pub writeAnswer : Edition → Sheet → ℕ → Said
+writeAnswer ed s room =
     cond (ltb room sheetSize) (only 14)
     (cond (lacksYear ed (s .year)) (only 1)
     (cond (levelOut (s .level)) (only 2)
     (cond (tooFull ed (s .windows)) (only 12)
     (only 0))))
 
-unfoldable pub writtenBy : Edition → Sheet → List ℕ → List ℕ
-writtenBy ed s buffer = after (writeAnswerBy ed s (length buffer)) (sheetBytes s ++ drop sheetSize buffer) buffer
-
--- the same by today's edition: what reading and writing promise
-abbrev pub readAnswer : List ℕ → Said
-readAnswer b = readAnswerBy today b
-
-abbrev pub readSheet : List ℕ → Sheet
-readSheet b = readSheetBy today b
-
-abbrev pub readOf : List ℕ → ReadSaid
-readOf b = readOfBy today b
-
-abbrev pub writeAnswer : Sheet → ℕ → Said
-writeAnswer s room = writeAnswerBy today s room
-
-abbrev pub written : Sheet → List ℕ → List ℕ
-written s buffer = writtenBy today s buffer
+unfoldable pub written : Edition → Sheet → List ℕ → List ℕ
+written ed s buffer = after (writeAnswer ed s (length buffer)) (sheetBytes s ++ drop sheetSize buffer) buffer

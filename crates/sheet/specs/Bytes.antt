@@ -7,7 +7,6 @@ use lib.Dec.{ltb, eqb}
 use lib.ListN.{getD}
 use Rattle.ranges.specs.Ranges.{bit, countOver, table, inBase, digitOf}
 use Rattle.answers.specs.declared.Edition.{Edition}
-use Rattle.answers.specs.Edition.{today}
 use Rattle.answers.specs.Ruling.{dayQuarters}
 use Rattle.encoding.specs.Bytes.{ascii, markSize, versionSize, yearSize, levelSize, otherMark, formatVersion, twoAt}
 use Rattle.sheet.specs.declared.Sheet.{Sheet}
@@ -79,18 +78,15 @@ abbrev pub unmarked : List ℕ → Bool
 unmarked b = otherMark mark b 0
 
 -- a season has 12 bytes: how many quarters are set in those from place i on, and whether they are more than the limit
--- of an edition; the same by today's
+-- of an edition
 abbrev pub seasonBytes : ℕ
 seasonBytes = 12
 
 unfoldable pub setFrom : List ℕ → ℕ → ℕ
 setFrom b i = countOver (bitAt b i) dayQuarters
 
-abbrev pub seasonFullBy : Edition → List ℕ → ℕ → Bool
-seasonFullBy ed b i = tooMany ed (setFrom b i)
-
-abbrev pub seasonFull : List ℕ → ℕ → Bool
-seasonFull b i = seasonFullBy today b i
+abbrev pub seasonFull : Edition → List ℕ → ℕ → Bool
+seasonFull ed b i = tooMany ed (setFrom b i)
 
 -- a list of bytes, as a lent slice of them is: each is below 256
 abbrev pub AreBytes : List ℕ → Type 0

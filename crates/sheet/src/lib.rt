@@ -4,8 +4,10 @@
 // Main theorem: what is written reads back as the same meaning, and what is read is written back as the same bytes
 // (Rule 12.2; `read-written`, `bytes-back`, proofs/Back).
 
-// How many bytes a sheet has, and the place, from 0, where the windows of its seasons begin.
+// How many bytes a sheet has, and the places, from 0, of its year and where the windows of its seasons begin.
 pub const SHEET_SIZE: usize = 56;
+
+pub const YEAR_AT: usize = 5;
 
 pub const WINDOWS_AT: usize = 8;
 

@@ -6,10 +6,12 @@ ghost use Prim.Native.Nat.{_≤_, _<_};
 ghost use mathlib.Core.List.{_++_};
 ghost use lib.ListN.{length, drop};
 ghost use Rattle.ranges.specs.Limits.{Within};
+ghost use Rattle.editions.specs.Editions.{editionOf};
 ghost use Rattle.sheet.specs.Windows.{seasons, setIn, tooFull};
 ghost use Rattle.sheet.specs.Bytes.{windowBytes, sheetSize, windowByte, byteAt, bytesOf};
 ghost use Rattle.sheet.specs.Answers.{saidOfSheet, writeAnswer, written};
 use answers::Edition;
+use editions::Editions;
 use sheet::Sheet;
 use sheet::SheetAnswer;
 
@@ -79,23 +81,34 @@ fn fill(year: u16, level: u8, windows: &[bool; sheet::WINDOW_PLACES], out: &mut 
     }
 }
 
-// Writes a sheet into a lent buffer. Refuses 14, 1, 2, 12 in this order, and then changes no byte.
-pub fn write(sheet: Sheet, out: &mut [u8]) -> SheetAnswer
-    ensures { λ r. ⌜ (saidOfSheet r ≡ writeAnswer sheet (length (now (out .entry)))) × (now (out .exit) ≡ written sheet (now (out .entry))) ⌝ }
+// Writes a sheet by an edition into a lent buffer, for a caller that has picked the one of the sheet's year. Refuses
+// 14, 1, 2, 12 in this order, and then changes no byte.
+pub fn write_by(edition: Edition, sheet: Sheet, out: &mut [u8]) -> SheetAnswer
+    ensures { λ r. ⌜ (saidOfSheet r ≡ writeAnswer edition sheet (length (now (out .entry))))
+        × (now (out .exit) ≡ written edition sheet (now (out .entry))) ⌝ }
 {
     let windows = sheet.windows;
     if out.len() < sheet::SHEET_SIZE {
         return SheetAnswer::Short;
     }
-    if answers::year_out(sheet.year) {
+    if answers::lacks_year(edition, sheet.year) {
         return SheetAnswer::YearOut;
     }
     if answers::level_out(sheet.level) {
         return SheetAnswer::LevelOut;
     }
-    if too_full(answers::today(), &windows) {
+    if too_full(edition, &windows) {
         return SheetAnswer::Malformed;
     }
     fill(sheet.year, sheet.level, &windows, out);
     SheetAnswer::Accepted
+}
+
+// Writes a sheet by the edition of its year into a lent buffer. Refuses 14, 1, 2, 12 in this order, and then changes no
+// byte.
+pub fn write(editions: Editions, sheet: Sheet, out: &mut [u8]) -> SheetAnswer
+    ensures { λ r. ⌜ (saidOfSheet r ≡ writeAnswer (editionOf editions (sheet .year)) sheet (length (now (out .entry))))
+        × (now (out .exit) ≡ written (editionOf editions (sheet .year)) sheet (now (out .entry))) ⌝ }
+{
+    write_by(editions::pick(editions, sheet.year), sheet, out)
 }

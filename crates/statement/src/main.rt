@@ -28,7 +28,7 @@ fn next(file: CustomerFile) -> CustomerFile {
 // Part after part. A machine that has ended wants nothing, so its answer is printed at once, whatever the input still
 // has.
 fn run() -> CustomerFile {
-    let mut file = CustomerFile::start();
+    let mut file = CustomerFile::start(editions::todays());
     let mut left = PARTS;
     while left > 0 {
         if file.want() == 0 {

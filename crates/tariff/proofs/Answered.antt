@@ -17,9 +17,9 @@ use Rattle.tariff.specs.declared.Rates.{Rates}
 use Rattle.tariff.specs.declared.Figures.{Figures}
 use Rattle.tariff.specs.declared.TwoCharges.{TwoCharges}
 use Rattle.tariff.specs.Prices.{pricesOut, LegalPrices}
-use Rattle.tariff.specs.Charges.{generalBy, chargesOf}
+use Rattle.tariff.specs.Charges.{general, chargesOf}
 use Rattle.tariff.specs.Answers.{withGeneral, withCharges, withPlain, withPeaks, withCharge, plainOf, peaksOf, chargedOf, payable}
-use Rattle.tariff.specs.Decision.{moved, generalAnswerBy, chargesAnswerBy, eligibleRules, chargeRules, judgeRules, eligibleAnswerBy, chargeAnswerBy, judgeAnswerBy}
+use Rattle.tariff.specs.Decision.{moved, generalAnswer, chargesAnswer, eligibleRules, chargeRules, judgeRules, eligibleAnswer, chargeAnswer, judgeAnswer}
 use Rattle.tariff.specs.Rows.{LegalRates}
 use Rattle.tariff.proofs.Limits.{prices-legal, legal-in}
 
@@ -41,41 +41,41 @@ chargesFrom a = record { charge = getD (a .figures) 0 0; general = getD (a .figu
 
 -- the charges alone
 module _ (ed : Edition) (f : Figures) (r : Rates) where
-  pub general-out : pricesOut (r .prices) ≡ true → only 6 ≡ generalAnswerBy ed f r
-  unfolding generalAnswerBy
+  pub general-out : pricesOut (r .prices) ≡ true → only 6 ≡ generalAnswer ed f r
+  unfolding generalAnswer
   general-out q = simp q
 
-  pub general-in : {g : ℕ} → pricesOut (r .prices) ≡ false → g ≡ generalBy ed f r → withGeneral g ≡ generalAnswerBy ed f r
-  unfolding generalAnswerBy
+  pub general-in : {g : ℕ} → pricesOut (r .prices) ≡ false → g ≡ general ed f r → withGeneral g ≡ generalAnswer ed f r
+  unfolding generalAnswer
   general-in q e = simp (q, e)
 
-  pub charges-out : pricesOut (r .prices) ≡ true → only 6 ≡ chargesAnswerBy ed f r
-  unfolding chargesAnswerBy
+  pub charges-out : pricesOut (r .prices) ≡ true → only 6 ≡ chargesAnswer ed f r
+  unfolding chargesAnswer
   charges-out q = simp q
 
-  pub charges-in : {a : TwoCharges} → pricesOut (r .prices) ≡ false → a ≡ chargesOf ed f r → withCharges a ≡ chargesAnswerBy ed f r
-  unfolding chargesAnswerBy
+  pub charges-in : {a : TwoCharges} → pricesOut (r .prices) ≡ false → a ≡ chargesOf ed f r → withCharges a ≡ chargesAnswer ed f r
+  unfolding chargesAnswer
   charges-in q e = simp (q, e)
 
   -- and read off what they say: 6 is given for a price alone, and cents are the charges of legal prices
-  pub general-six : only 6 ≡ generalAnswerBy ed f r → pricesOut (r .prices) ≡ true
-  unfolding generalAnswerBy
-  general-six e = six-said (pricesOut (r .prices)) (withGeneral (generalBy ed f r)) refl e
+  pub general-six : only 6 ≡ generalAnswer ed f r → pricesOut (r .prices) ≡ true
+  unfolding generalAnswer
+  general-six e = six-said (pricesOut (r .prices)) (withGeneral (general ed f r)) refl e
 
-  pub general-cents : {g : ℕ} → withGeneral g ≡ generalAnswerBy ed f r → (pricesOut (r .prices) ≡ false) × (g ≡ generalBy ed f r)
-  unfolding generalAnswerBy
+  pub general-cents : {g : ℕ} → withGeneral g ≡ generalAnswer ed f r → (pricesOut (r .prices) ≡ false) × (g ≡ general ed f r)
+  unfolding generalAnswer
   general-cents e = let k = else-said (pricesOut (r .prices)) refl e in (k .0, ap payable (k .1))
 
-  pub charges-six : only 6 ≡ chargesAnswerBy ed f r → pricesOut (r .prices) ≡ true
-  unfolding chargesAnswerBy
+  pub charges-six : only 6 ≡ chargesAnswer ed f r → pricesOut (r .prices) ≡ true
+  unfolding chargesAnswer
   charges-six e = six-said (pricesOut (r .prices)) (withCharges (chargesOf ed f r)) refl e
 
-  pub charges-cents : {a : TwoCharges} → withCharges a ≡ chargesAnswerBy ed f r → (pricesOut (r .prices) ≡ false) × (a ≡ chargesOf ed f r)
-  unfolding chargesAnswerBy
+  pub charges-cents : {a : TwoCharges} → withCharges a ≡ chargesAnswer ed f r → (pricesOut (r .prices) ≡ false) × (a ≡ chargesOf ed f r)
+  unfolding chargesAnswer
   charges-cents e = let k = else-said (pricesOut (r .prices)) refl e in (k .0, ap chargesFrom (k .1))
 
 -- the rules of the first half
-module _ (ed : Edition) (f : Figures) (r : Rates) {g : ℕ} (e : g ≡ generalBy ed f r) where
+module _ (ed : Edition) (f : Figures) (r : Rates) {g : ℕ} (e : g ≡ general ed f r) where
   pub eligible-none : f .any ≡ false → withPlain (plainOf f g) ≡ eligibleRules ed f r
   unfolding eligibleRules
   eligible-none n = simp (e, n)
@@ -113,29 +113,29 @@ module _ (ed : Edition) (f : Figures) (r : Rates) {a : TwoCharges} (e : a ≡ ch
 
 -- 2 and 6 in front, and the rules for legal rates
 module _ (ed : Edition) (f : Figures) (r : Rates) where
-  pub eligible-level : levelOut (r .level) ≡ true → only 2 ≡ eligibleAnswerBy ed f r
-  unfolding eligibleAnswerBy
+  pub eligible-level : levelOut (r .level) ≡ true → only 2 ≡ eligibleAnswer ed f r
+  unfolding eligibleAnswer
   eligible-level l = simp l
 
-  pub eligible-prices : levelOut (r .level) ≡ false → pricesOut (r .prices) ≡ true → only 6 ≡ eligibleAnswerBy ed f r
-  unfolding eligibleAnswerBy
+  pub eligible-prices : levelOut (r .level) ≡ false → pricesOut (r .prices) ≡ true → only 6 ≡ eligibleAnswer ed f r
+  unfolding eligibleAnswer
   eligible-prices l q = simp (l, q)
 
-  pub eligible-legal : LegalRates r → eligibleRules ed f r ≡ eligibleAnswerBy ed f r
-  unfolding eligibleAnswerBy
+  pub eligible-legal : LegalRates r → eligibleRules ed f r ≡ eligibleAnswer ed f r
+  unfolding eligibleAnswer
   eligible-legal h = simp (legal-in h .0, legal-in h .1)
 
-  pub charge-prices : pricesOut (r .prices) ≡ true → only 6 ≡ chargeAnswerBy ed f r
-  unfolding chargeAnswerBy
+  pub charge-prices : pricesOut (r .prices) ≡ true → only 6 ≡ chargeAnswer ed f r
+  unfolding chargeAnswer
   charge-prices q = simp q
 
-  pub charge-legal : LegalPrices (r .prices) → chargeRules ed f r ≡ chargeAnswerBy ed f r
-  unfolding chargeAnswerBy
+  pub charge-legal : LegalPrices (r .prices) → chargeRules ed f r ≡ chargeAnswer ed f r
+  unfolding chargeAnswer
   charge-legal h = simp (prices-legal (r .prices) .1 h)
 
 -- the whole decision is the two halves in a row, for any level and prices
-pub in-a-row : (ed : Edition) (f : Figures) (r : Rates) → judgeAnswerBy ed f r ≡ orElse (eligibleAnswerBy ed f r) (chargeAnswerBy ed f r)
-unfolding judgeAnswerBy eligibleAnswerBy chargeAnswerBy judgeRules
+pub in-a-row : (ed : Edition) (f : Figures) (r : Rates) → judgeAnswer ed f r ≡ orElse (eligibleAnswer ed f r) (chargeAnswer ed f r)
+unfolding judgeAnswer eligibleAnswer chargeAnswer judgeRules
 in-a-row ed f r =
     ⊎-elim (λ (l : levelOut (r .level) ≡ true). simp l) (λ (l : levelOut (r .level) ≡ false).
     ⊎-elim (λ (q : pricesOut (r .prices) ≡ true). simp (l, q)) (λ (q : pricesOut (r .prices) ≡ false). simp (l, q))
@@ -143,8 +143,8 @@ in-a-row ed f r =
 
 -- so a refusal of the first half is its answer, and else what the second half answers
 module _ (ed : Edition) (f : Figures) (r : Rates) where
-  pub judge-first : {a : Said} → a ≡ eligibleAnswerBy ed f r → (a .number ≡ 0 → ⊥) → a ≡ judgeAnswerBy ed f r
+  pub judge-first : {a : Said} → a ≡ eligibleAnswer ed f r → (a .number ≡ 0 → ⊥) → a ≡ judgeAnswer ed f r
   judge-first e z = e ∙ sym (in-a-row ed f r ∙ rw (ne-eqb _ _ (λ k. z (number-is e ∙ k))))
 
-  pub judge-second : {a : Said} → eligibleAnswerBy ed f r .number ≡ 0 → a ≡ chargeAnswerBy ed f r → a ≡ judgeAnswerBy ed f r
+  pub judge-second : {a : Said} → eligibleAnswer ed f r .number ≡ 0 → a ≡ chargeAnswer ed f r → a ≡ judgeAnswer ed f r
   judge-second z e = e ∙ sym (in-a-row ed f r ∙ rw (eq-eqb _ _ z))

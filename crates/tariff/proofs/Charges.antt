@@ -16,7 +16,7 @@ use Rattle.tariff.specs.declared.Prices.{Prices}
 use Rattle.tariff.specs.declared.Rates.{Rates}
 use Rattle.tariff.specs.declared.Figures.{Figures}
 use Rattle.tariff.specs.Prices.{LegalRow, LegalPrices}
-use Rattle.tariff.specs.Charges.{fewHoursBy, rowOf, centParts, capacityParts, partsFor, chargeFor, chargeMost, generalBy, reducedBy, floorOf, chargeBy}
+use Rattle.tariff.specs.Charges.{fewHours, rowOf, centParts, capacityParts, partsFor, chargeFor, chargeMost, general, reduced, floorOf, charge}
 
 module _ (power : ℕ) (row : Row) (sum : ℕ) where
   pub charge-split :
@@ -68,9 +68,9 @@ pub general-most :
     → LegalPrices (r .prices)
     → f .peak ≤ 4294967295
     → f .sum < 18446744073709551616
-    → generalBy ed f r ≤ chargeMost
-unfolding generalBy
-general-most ed f r h hp hs = charge-most (f .peak) _ (f .sum) hp (row-in (r .prices) (fewHoursBy ed f) h) hs
+    → general ed f r ≤ chargeMost
+unfolding general
+general-most ed f r h hp hs = charge-most (f .peak) _ (f .sum) hp (row-in (r .prices) (fewHours ed f) h) hs
 
 -- the floor is the edition's percentage of g or more, and no smaller whole number of cents is (Rule 7.4)
 pub floor-least :
@@ -100,11 +100,11 @@ charge-mono a b row sum h =
 
 -- with the edition's hours of use and more the option has no effect: two rates with the same prices give the same
 -- charge (Rule 7.3)
-pub option-idle : (ed : Edition) (f : Figures) (r s : Rates) → r .prices ≡ s .prices → fewHoursBy ed f ≡ false → chargeBy ed f r ≡ chargeBy ed f s
-unfolding chargeBy reducedBy generalBy
+pub option-idle : (ed : Edition) (f : Figures) (r s : Rates) → r .prices ≡ s .prices → fewHours ed f ≡ false → charge ed f r ≡ charge ed f s
+unfolding charge reduced general
 option-idle ed f r s p h = simp (p, h)
 
 -- the larger of reduced charge and floor is the charge
-pub charge-of : (ed : Edition) (f : Figures) (r : Rates) {own g : ℕ} → own ≡ reducedBy ed f r → g ≡ generalBy ed f r → max own (floorOf ed g) ≡ chargeBy ed f r
-unfolding chargeBy
+pub charge-of : (ed : Edition) (f : Figures) (r : Rates) {own g : ℕ} → own ≡ reduced ed f r → g ≡ general ed f r → max own (floorOf ed g) ≡ charge ed f r
+unfolding charge
 charge-of ed f r a e = ap₂ max a (ap (floorOf ed) e)

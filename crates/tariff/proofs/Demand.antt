@@ -18,9 +18,9 @@ use Rattle.answers.proofs.Laws.{level-of}
 use Rattle.tariff.specs.declared.Rates.{Rates}
 use Rattle.tariff.specs.declared.Figures.{Figures}
 use Rattle.tariff.specs.declared.Charged.{Charged}
-use Rattle.tariff.specs.Charges.{generalBy, reducedBy, floorOf, chargeBy}
+use Rattle.tariff.specs.Charges.{general, reduced, floorOf, charge}
 use Rattle.tariff.specs.Answers.{withCharge, payable}
-use Rattle.tariff.specs.Decision.{eligibleRules, chargeRules, eligibleAnswerBy, chargeAnswerBy, judgeAnswerBy}
+use Rattle.tariff.specs.Decision.{eligibleRules, chargeRules, eligibleAnswer, chargeAnswer, judgeAnswer}
 use Rattle.tariff.specs.Rows.{LegalRates, EligibleRow, ChargeRow, JudgeRow}
 use Rattle.tariff.specs.Rows.EligibleRow.{zero}
 use Rattle.tariff.specs.Rows.ChargeRow.{six, eight, eleven, zero}
@@ -32,21 +32,21 @@ use Rattle.tariff.proofs.Answered.{number-is, eligible-none, eligible-s
 use Rattle.tariff.proofs.Exactly.{eligible-exactly, charge-exactly, judge-exactly}
 
 module _ (ed : Edition) {f e : Figures} (u : Under f e) (r : Rates) where
-  general-same : generalBy ed e r ≡ generalBy ed f r
-  unfolding generalBy
+  general-same : general ed e r ≡ general ed f r
+  unfolding general
   general-same = rw (u .peak, u .sum)
 
-  reduced-mono : reducedBy ed e r ≤ reducedBy ed f r
-  unfolding reducedBy
+  reduced-mono : reduced ed e r ≤ reduced ed f r
+  unfolding reduced
   reduced-mono = rw (u .peak, u .sum) (charge-mono (e .high) (f .high) _ _ (u .high))
 
-  own-mono : chargeBy ed e r ≤ chargeBy ed f r
-  unfolding chargeBy
+  own-mono : charge ed e r ≤ charge ed f r
+  unfolding charge
   own-mono = omega (arith, ap (floorOf ed) general-same, reduced-mono)
 
 -- a charge that the second half accepts
-charge-fair : (ed : Edition) (f : Figures) (r : Rates) (a : Charged) → chargeAnswerBy ed f r ≡ withCharge a → Fair ed a
-unfolding chargeBy
+charge-fair : (ed : Edition) (f : Figures) (r : Rates) (a : Charged) → chargeAnswer ed f r ≡ withCharge a → Fair ed a
+unfolding charge
 charge-fair ed f r a e = go (charge-exactly ed f r 0 .0 (number-is e)) refl
   where
     go : {n : ℕ} → ChargeRow ed f r n → n ≡ 0 → Fair ed a
@@ -55,17 +55,17 @@ charge-fair ed f r a e = go (charge-exactly ed f r 0 .0 (number-is e)) refl
     go (eleven h n cut) z = absurd (omega arith)
     go (zero h n cut) z =
         let all = charge-accepted ed f r refl n cut ∙ charge-legal ed f r h ∙ e in
-        let c : chargeBy ed f r ≡ a .charge = ap payable all in
-        let g : generalBy ed f r ≡ a .peaks .plain .general = ap (λ (s : Said). getD (s .figures) 1 0) all in
-        record { floor = omega (arith, floor-least ed (generalBy ed f r) .0, ap (_*_ (ed .floor)) g); reduction = omega arith }
+        let c : charge ed f r ≡ a .charge = ap payable all in
+        let g : general ed f r ≡ a .peaks .plain .general = ap (λ (s : Said). getD (s .figures) 1 0) all in
+        record { floor = omega (arith, floor-least ed (general ed f r) .0, ap (_*_ (ed .floor)) g); reduction = omega arith }
 
 module _ (ed : Edition) (r : Rates) where
   -- an accepted charge is no less than the floor's percentage of the general charge, and the least reduction or more
   -- below it
-  pub accepted-charge : (f : Figures) (a : Charged) → judgeAnswerBy ed f r ≡ withCharge a → Fair ed a
-  accepted-charge f a e = go (ℕ-discrete (eligibleAnswerBy ed f r .number) 0)
+  pub accepted-charge : (f : Figures) (a : Charged) → judgeAnswer ed f r ≡ withCharge a → Fair ed a
+  accepted-charge f a e = go (ℕ-discrete (eligibleAnswer ed f r .number) 0)
     where
-      go : Dec (eligibleAnswerBy ed f r .number ≡ 0) → Fair ed a
+      go : Dec (eligibleAnswer ed f r .number ≡ 0) → Fair ed a
       go (yes z) = charge-fair ed f r a (judge-second ed f r z refl ∙ e)
       go (no z) = absurd (z (number-is (judge-first ed f r refl z ∙ e)))
 
@@ -81,29 +81,29 @@ module _ (ed : Edition) (r : Rates) where
       let same : shareOf ed (r .level) * e .peak ≡ shareOf ed (r .level) * f .peak = ap (_*_ (shareOf ed (r .level))) (u .peak) in
       zero h (record { some = u .any ∙ s .some; share = omega arith }) (omega arith) (omega (arith, general-same ed u r, own-mono ed u r))
 
-  pub stays : {f e : Figures} → Under f e → judgeAnswerBy ed f r .number ≡ 0 → judgeAnswerBy ed e r .number ≡ 0
+  pub stays : {f e : Figures} → Under f e → judgeAnswer ed f r .number ≡ 0 → judgeAnswer ed e r .number ≡ 0
   stays {f} {e} u z = judge-exactly ed e r 0 .1 (zero-stays u (judge-exactly ed f r 0 .0 z) refl)
 
   -- what the customer pays by the answer: nothing is said, the general charge, or the charge
   data Pays (f : Figures) : Type 0 where
-    unsaid : (LegalRates r → ⊥) → payable (judgeAnswerBy ed f r) ≡ 0 → Pays f
-    full : LegalRates r → (judgeAnswerBy ed f r .number ≡ 0 → ⊥) → payable (judgeAnswerBy ed f r) ≡ generalBy ed f r → Pays f
+    unsaid : (LegalRates r → ⊥) → payable (judgeAnswer ed f r) ≡ 0 → Pays f
+    full : LegalRates r → (judgeAnswer ed f r .number ≡ 0 → ⊥) → payable (judgeAnswer ed f r) ≡ general ed f r → Pays f
     own :
         LegalRates r
-        → judgeAnswerBy ed f r .number ≡ 0
-        → chargeBy ed f r + leastReduction ed ≤ generalBy ed f r
-        → payable (judgeAnswerBy ed f r) ≡ chargeBy ed f r
+        → judgeAnswer ed f r .number ≡ 0
+        → charge ed f r + leastReduction ed ≤ general ed f r
+        → payable (judgeAnswer ed f r) ≡ charge ed f r
         → Pays f
 
   module _ (f : Figures) where
     -- a refusal whose first figure is the general charge
-    refused : {a : Said} → LegalRates r → a ≡ judgeAnswerBy ed f r → (a .number ≡ 0 → ⊥) → payable a ≡ generalBy ed f r → Pays f
+    refused : {a : Said} → LegalRates r → a ≡ judgeAnswer ed f r → (a .number ≡ 0 → ⊥) → payable a ≡ general ed f r → Pays f
     refused h e z g = full h (λ k. z (number-is e ∙ k)) (sym (ap payable e) ∙ g)
 
-    first : {a : Said} → LegalRates r → a ≡ eligibleRules ed f r → (a .number ≡ 0 → ⊥) → payable a ≡ generalBy ed f r → Pays f
+    first : {a : Said} → LegalRates r → a ≡ eligibleRules ed f r → (a .number ≡ 0 → ⊥) → payable a ≡ general ed f r → Pays f
     first h e z g = refused h (judge-first ed f r (e ∙ eligible-legal ed f r h) z) z g
 
-    second : {a : Said} → LegalRates r → EligibleRow ed f r 0 → a ≡ chargeRules ed f r → a ≡ judgeAnswerBy ed f r
+    second : {a : Said} → LegalRates r → EligibleRow ed f r 0 → a ≡ chargeRules ed f r → a ≡ judgeAnswer ed f r
     second h row e = judge-second ed f r (eligible-exactly ed f r 0 .1 row) (e ∙ charge-legal ed f r (h .legal-prices))
 
     pays : {n : ℕ} → JudgeRow ed f r n → Pays f
@@ -122,10 +122,10 @@ module _ (ed : Edition) (r : Rates) where
         let e = second h (zero h s m) (charge-accepted ed f r refl (s .some) cut) in
         own h (sym (number-is e)) cut (sym (ap payable e))
 
-  pub never-more : {f e : Figures} → Under f e → payable (judgeAnswerBy ed e r) ≤ payable (judgeAnswerBy ed f r)
+  pub never-more : {f e : Figures} → Under f e → payable (judgeAnswer ed e r) ≤ payable (judgeAnswer ed f r)
   never-more {f} {e} u = go (pays f (judge-exactly ed f r _ .0 refl)) (pays e (judge-exactly ed e r _ .0 refl))
     where
-      go : Pays f → Pays e → payable (judgeAnswerBy ed e r) ≤ payable (judgeAnswerBy ed f r)
+      go : Pays f → Pays e → payable (judgeAnswer ed e r) ≤ payable (judgeAnswer ed f r)
       go a (unsaid n z) = omega arith
       go (unsaid n z) (full h k g) = absurd (n h)
       go (unsaid n z) (own h k cut c) = absurd (n h)
@@ -138,10 +138,10 @@ module _ (ed : Edition) (r : Rates) where
   pub pays-is :
       LegalRates r
       → (f : Figures)
-      → payable (judgeAnswerBy ed f r) ≡ cond (eqb (judgeAnswerBy ed f r .number) 0) (chargeBy ed f r) (generalBy ed f r)
+      → payable (judgeAnswer ed f r) ≡ cond (eqb (judgeAnswer ed f r .number) 0) (charge ed f r) (general ed f r)
   pays-is h f = go (pays f (judge-exactly ed f r _ .0 refl))
     where
-      go : Pays f → payable (judgeAnswerBy ed f r) ≡ cond (eqb (judgeAnswerBy ed f r .number) 0) (chargeBy ed f r) (generalBy ed f r)
+      go : Pays f → payable (judgeAnswer ed f r) ≡ cond (eqb (judgeAnswer ed f r .number) 0) (charge ed f r) (general ed f r)
       go (unsaid n z) = absurd (n h)
       go (full l k g) = rw (ne-eqb _ _ k) g
       go (own l k cut c) = rw k c

@@ -4,7 +4,7 @@ use mathlib.Core.Bool.{Bool, cond, not, _&&_}
 use Prim.Native.Nat.{ℕ, _+_, _-_, _*_, _/_, max}
 use lib.Dec.{ltb}
 use Rattle.answers.specs.declared.Edition.{Edition}
-use Rattle.answers.specs.Edition.{wholeShare, hourQuarters, today}
+use Rattle.answers.specs.Edition.{wholeShare, hourQuarters}
 use Rattle.tariff.specs.declared.Row.{Row}
 use Rattle.tariff.specs.declared.Prices.{Prices}
 use Rattle.tariff.specs.declared.Rates.{Rates}
@@ -13,8 +13,8 @@ use Rattle.tariff.specs.declared.TwoCharges.{TwoCharges}
 
 -- fewer hours of use than the edition's: S is less than four times these hours times M. There is no division, so a year
 -- of zeros (M 0) has an answer, too: not fewer. (Rule 6.6)
-abbrev pub fewHoursBy : Edition → Figures → Bool
-fewHoursBy ed f = ltb (f .sum) (hourQuarters * ed .hours * f .peak)
+abbrev pub fewHours : Edition → Figures → Bool
+fewHours ed f = ltb (f .sum) (hourQuarters * ed .hours * f .peak)
 
 -- the low row where `low` is set, else the high row (Rule 2.5)
 abbrev pub rowOf : Prices → Bool → Row
@@ -44,35 +44,22 @@ abbrev pub chargeMost : ℕ
 chargeMost = 1000000000000000000
 
 -- the general charge g: for M, in the row that the hours of use choose (Rule 7.2)
-unfoldable pub generalBy : Edition → Figures → Rates → ℕ
-generalBy ed f r = chargeFor (f .peak) (rowOf (r .prices) (fewHoursBy ed f)) (f .sum)
+unfoldable pub general : Edition → Figures → Rates → ℕ
+general ed f r = chargeFor (f .peak) (rowOf (r .prices) (fewHours ed f)) (f .sum)
 
 -- the reduced charge r: for H, in the row of g; only with the option and fewer hours of use than the edition's it is
 -- the high row instead (Rule 7.3)
-unfoldable pub reducedBy : Edition → Figures → Rates → ℕ
-reducedBy ed f r = chargeFor (f .high) (rowOf (r .prices) (fewHoursBy ed f && not (r .option))) (f .sum)
+unfoldable pub reduced : Edition → Figures → Rates → ℕ
+reduced ed f r = chargeFor (f .high) (rowOf (r .prices) (fewHours ed f && not (r .option))) (f .sum)
 
 -- the floor: the smallest number of whole cents that is no less than the edition's percentage of g (Rule 7.4)
 unfoldable pub floorOf : Edition → ℕ → ℕ
 floorOf ed g = (ed .floor * g + (wholeShare - 1)) / wholeShare
 
 -- the charge c: the reduced charge or the floor, whichever is larger (Rule 7.5)
-unfoldable pub chargeBy : Edition → Figures → Rates → ℕ
-chargeBy ed f r = max (reducedBy ed f r) (floorOf ed (generalBy ed f r))
+unfoldable pub charge : Edition → Figures → Rates → ℕ
+charge ed f r = max (reduced ed f r) (floorOf ed (general ed f r))
 
 -- c and g together: the decision needs both
 abbrev pub chargesOf : Edition → Figures → Rates → TwoCharges
-chargesOf ed f r = record { charge = chargeBy ed f r; general = generalBy ed f r }
-
--- the same by today's edition
-abbrev pub fewHours : Figures → Bool
-fewHours f = fewHoursBy today f
-
-abbrev pub general : Figures → Rates → ℕ
-general f r = generalBy today f r
-
-abbrev pub reduced : Figures → Rates → ℕ
-reduced f r = reducedBy today f r
-
-abbrev pub charge : Figures → Rates → ℕ
-charge f r = chargeBy today f r
+chargesOf ed f r = record { charge = charge ed f r; general = general ed f r }

@@ -1,25 +1,25 @@
 -- The decision over a year's figures f under the rates r, by the numbers of an edition ed, in two halves: may the
 -- customer pay the reduced charge, and what is it. Each call over figures gives the first number of its order that
--- holds, by today's edition. Rules 7.6, 7.7 and 8.2.
+-- holds. Rules 7.6, 7.7 and 8.2.
 use mathlib.Core.Bool.{Bool, true, cond, not}
 use Prim.Native.Nat.{ℕ, _+_, _-_, _*_}
 use lib.Dec.{ltb}
 use Rattle.answers.specs.declared.Edition.{Edition}
-use Rattle.answers.specs.Edition.{wholeShare, today}
+use Rattle.answers.specs.Edition.{wholeShare}
 use Rattle.answers.specs.Ruling.{leastMove, leastReduction, shareOf, levelOut}
 use Rattle.answers.specs.Said.{Said, only, orElse, yesNo}
 use Rattle.tariff.specs.declared.Rates.{Rates}
 use Rattle.tariff.specs.declared.Figures.{Figures}
 use Rattle.tariff.specs.Prices.{pricesOut}
-use Rattle.tariff.specs.Charges.{generalBy, chargeBy, chargesOf}
+use Rattle.tariff.specs.Charges.{general, charge, chargesOf}
 use Rattle.tariff.specs.Answers.{withGeneral, withCharges, withPlain, withPeaks, withCharge, plainOf, peaksOf, chargedOf}
 
 -- the charges alone, for any prices: 6, else 0 with g; 6, else 0 with c and g (Rule 8.2)
-unfoldable pub generalAnswerBy : Edition → Figures → Rates → Said
-generalAnswerBy ed f r = cond (pricesOut (r .prices)) (only 6) (withGeneral (generalBy ed f r))
+unfoldable pub generalAnswer : Edition → Figures → Rates → Said
+generalAnswer ed f r = cond (pricesOut (r .prices)) (only 6) (withGeneral (general ed f r))
 
-unfoldable pub chargesAnswerBy : Edition → Figures → Rates → Said
-chargesAnswerBy ed f r = cond (pricesOut (r .prices)) (only 6) (withCharges (chargesOf ed f r))
+unfoldable pub chargesAnswer : Edition → Figures → Rates → Said
+chargesAnswer ed f r = cond (pricesOut (r .prices)) (only 6) (withCharges (chargesOf ed f r))
 
 -- answer 8: the year has no in-window quarter (Rule 6.5)
 abbrev pub noWindow : Figures → Bool
@@ -40,22 +40,22 @@ moveShort ed f = ltb (moved f) (leastMove ed)
 
 -- answer 11: g is above c by less than the least reduction (Rule 7.6, test 3); equality passes
 abbrev pub reductionShort : Edition → Figures → Rates → Bool
-reductionShort ed f r = ltb (generalBy ed f r) (chargeBy ed f r + leastReduction ed)
+reductionShort ed f r = ltb (general ed f r) (charge ed f r + leastReduction ed)
 
 -- the first half, for a legal level and legal prices: 8, 9, 10, else 0 with yes
 unfoldable pub eligibleRules : Edition → Figures → Rates → Said
 eligibleRules ed f r =
-    cond (noWindow f) (withPlain (plainOf f (generalBy ed f r)))
-    (cond (shareShort ed f r) (withPeaks 9 (peaksOf f (generalBy ed f r)))
-    (cond (moveShort ed f) (withPeaks 10 (peaksOf f (generalBy ed f r)))
+    cond (noWindow f) (withPlain (plainOf f (general ed f r)))
+    (cond (shareShort ed f r) (withPeaks 9 (peaksOf f (general ed f r)))
+    (cond (moveShort ed f) (withPeaks 10 (peaksOf f (general ed f r)))
     (yesNo true)))
 
 -- the second half, for legal prices: 8, 11, else 0 with the charge
 unfoldable pub chargeRules : Edition → Figures → Rates → Said
 chargeRules ed f r =
-    cond (noWindow f) (withPlain (plainOf f (generalBy ed f r)))
-    (cond (reductionShort ed f r) (withPeaks 11 (peaksOf f (generalBy ed f r)))
-    (withCharge (chargedOf f (generalBy ed f r) (chargeBy ed f r))))
+    cond (noWindow f) (withPlain (plainOf f (general ed f r)))
+    (cond (reductionShort ed f r) (withPeaks 11 (peaksOf f (general ed f r)))
+    (withCharge (chargedOf f (general ed f r) (charge ed f r))))
 
 -- the whole, for a legal level and legal prices: the two halves in a row
 unfoldable pub judgeRules : Edition → Figures → Rates → Said
@@ -63,29 +63,13 @@ judgeRules ed f r = orElse (eligibleRules ed f r) (chargeRules ed f r)
 
 -- the three calls, for any level and any prices, 2 and 6 tested first; the second half needs no level, so it has no 2
 -- (Rule 8.2)
-unfoldable pub eligibleAnswerBy : Edition → Figures → Rates → Said
-eligibleAnswerBy ed f r =
+unfoldable pub eligibleAnswer : Edition → Figures → Rates → Said
+eligibleAnswer ed f r =
     cond (levelOut (r .level)) (only 2) (cond (pricesOut (r .prices)) (only 6) (eligibleRules ed f r))
 
-unfoldable pub chargeAnswerBy : Edition → Figures → Rates → Said
-chargeAnswerBy ed f r = cond (pricesOut (r .prices)) (only 6) (chargeRules ed f r)
+unfoldable pub chargeAnswer : Edition → Figures → Rates → Said
+chargeAnswer ed f r = cond (pricesOut (r .prices)) (only 6) (chargeRules ed f r)
 
-unfoldable pub judgeAnswerBy : Edition → Figures → Rates → Said
-judgeAnswerBy ed f r =
+unfoldable pub judgeAnswer : Edition → Figures → Rates → Said
+judgeAnswer ed f r =
     cond (levelOut (r .level)) (only 2) (cond (pricesOut (r .prices)) (only 6) (judgeRules ed f r))
-
--- the five calls by today's edition: what they promise
-abbrev pub generalAnswer : Figures → Rates → Said
-generalAnswer f r = generalAnswerBy today f r
-
-abbrev pub chargesAnswer : Figures → Rates → Said
-chargesAnswer f r = chargesAnswerBy today f r
-
-abbrev pub eligibleAnswer : Figures → Rates → Said
-eligibleAnswer f r = eligibleAnswerBy today f r
-
-abbrev pub chargeAnswer : Figures → Rates → Said
-chargeAnswer f r = chargeAnswerBy today f r
-
-abbrev pub judgeAnswer : Figures → Rates → Said
-judgeAnswer f r = judgeAnswerBy today f r

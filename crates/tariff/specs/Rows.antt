@@ -10,7 +10,7 @@ use Rattle.answers.specs.Ruling.{leastMove, leastReduction, shareOf, Level}
 use Rattle.tariff.specs.declared.Rates.{Rates}
 use Rattle.tariff.specs.declared.Figures.{Figures}
 use Rattle.tariff.specs.Prices.{LegalPrices}
-use Rattle.tariff.specs.Charges.{generalBy, chargeBy}
+use Rattle.tariff.specs.Charges.{general, charge}
 use Rattle.tariff.specs.Decision.{moved}
 
 -- legal rates: neither 2 nor 6 holds
@@ -36,8 +36,8 @@ pub data EligibleRow (ed : Edition) (f : Figures) (r : Rates) : ℕ → Type 0 w
 pub data ChargeRow (ed : Edition) (f : Figures) (r : Rates) : ℕ → Type 0 where
   six : (LegalPrices (r .prices) → ⊥) → ChargeRow ed f r 6
   eight : LegalPrices (r .prices) → f .any ≡ false → ChargeRow ed f r 8
-  eleven : LegalPrices (r .prices) → f .any ≡ true → generalBy ed f r < chargeBy ed f r + leastReduction ed → ChargeRow ed f r 11
-  zero : LegalPrices (r .prices) → f .any ≡ true → chargeBy ed f r + leastReduction ed ≤ generalBy ed f r → ChargeRow ed f r 0
+  eleven : LegalPrices (r .prices) → f .any ≡ true → general ed f r < charge ed f r + leastReduction ed → ChargeRow ed f r 11
+  zero : LegalPrices (r .prices) → f .any ≡ true → charge ed f r + leastReduction ed ≤ general ed f r → ChargeRow ed f r 0
 
 -- both: 2, 6, 8, 9, 10, 11, else 0
 pub data JudgeRow (ed : Edition) (f : Figures) (r : Rates) : ℕ → Type 0 where
@@ -46,5 +46,5 @@ pub data JudgeRow (ed : Edition) (f : Figures) (r : Rates) : ℕ → Type 0 wher
   eight : LegalRates r → f .any ≡ false → JudgeRow ed f r 8
   nine : LegalRates r → f .any ≡ true → wholeShare * moved f < shareOf ed (r .level) * f .peak → JudgeRow ed f r 9
   ten : LegalRates r → Shared ed f r → moved f < leastMove ed → JudgeRow ed f r 10
-  eleven : LegalRates r → Shared ed f r → leastMove ed ≤ moved f → generalBy ed f r < chargeBy ed f r + leastReduction ed → JudgeRow ed f r 11
-  zero : LegalRates r → Shared ed f r → leastMove ed ≤ moved f → chargeBy ed f r + leastReduction ed ≤ generalBy ed f r → JudgeRow ed f r 0
+  eleven : LegalRates r → Shared ed f r → leastMove ed ≤ moved f → general ed f r < charge ed f r + leastReduction ed → JudgeRow ed f r 11
+  zero : LegalRates r → Shared ed f r → leastMove ed ≤ moved f → charge ed f r + leastReduction ed ≤ general ed f r → JudgeRow ed f r 0

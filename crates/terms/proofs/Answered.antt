@@ -6,7 +6,6 @@ use native.Mathlib.Decide.{ℕ-discrete}
 use native.Mathlib.Omega.{arith}
 use borrow.Author.Tests.{ne-eqb}
 use lib.Dec.{eqb}
-use Rattle.answers.specs.Edition.{today}
 use Rattle.answers.specs.Said.{Said, only, orElse}
 use Rattle.answers.proofs.Laws.{refusal-keeps, done-hands, refusal-stands}
 use Rattle.holidays.specs.Holidays.{badHolidays}
@@ -16,15 +15,15 @@ use Rattle.sheet.specs.Answers.{saidOfSheet, readAnswer, ReadSaid, readOf}
 use Rattle.sheet.proofs.Answered.{read-taken}
 use Rattle.sheet.proofs.Exactly.{read-zero}
 use Rattle.tariff.specs.Prices.{pricesOut}
-use Rattle.terms.specs.Basis.{Basis, basisYear}
+use Rattle.terms.specs.Basis.{Basis, basisYear, basisEdition}
 use Rattle.terms.specs.Opening.{listsAnswer, customerOpenAnswer, termsOf, noTerms, openTerms}
 
 module _ (k : Basis) where
-  pub open-read : (a : Said) → eqb (a .number) 0 ≡ false → a ≡ readAnswer (k .sheet) → a ≡ customerOpenAnswer k
+  pub open-read : (a : Said) → eqb (a .number) 0 ≡ false → a ≡ readAnswer (basisEdition k) (k .sheet) → a ≡ customerOpenAnswer k
   unfolding customerOpenAnswer
   open-read a z e = refusal-stands a _ e z
 
-  module _ (r : only 0 ≡ readAnswer (k .sheet)) where
+  module _ (r : only 0 ≡ readAnswer (basisEdition k) (k .sheet)) where
     pub open-holidays : badHolidays (basisYear k) (k .holidays) ≡ true → only 3 ≡ customerOpenAnswer k
     unfolding customerOpenAnswer
     open-holidays h = rw (← r, h)
@@ -42,16 +41,17 @@ module _ (k : Basis) where
   abbrev saidWith : ReadSaid → Said
   saidWith s = orElse (s .answer) (listsAnswer (s .sheet .year) (k .holidays) (k .prices))
 
-  pub open-said : {s : ReadSaid} → s ≡ readOf (k .sheet) → saidWith s ≡ customerOpenAnswer k
+  pub open-said : {s : ReadSaid} → s ≡ readOf (basisEdition k) (k .sheet) → saidWith s ≡ customerOpenAnswer k
   unfolding customerOpenAnswer
-  open-said {s} e = ap saidWith e ∙ go (ℕ-discrete (readAnswer (k .sheet) .number) 0)
+  open-said {s} e = ap saidWith e ∙ go (ℕ-discrete (readAnswer (basisEdition k) (k .sheet) .number) 0)
     where
-      go : Dec (readAnswer (k .sheet) .number ≡ 0) → saidWith (readOf (k .sheet)) ≡ customerOpenAnswer k
+      go : Dec (readAnswer (basisEdition k) (k .sheet) .number ≡ 0) → saidWith (readOf (basisEdition k) (k .sheet)) ≡ customerOpenAnswer k
       go (yes z) =
-          ap (λ (x : ReadSaid). orElse (readAnswer (k .sheet)) (listsAnswer (x .sheet .year) (k .holidays) (k .prices)))
-          (sym (read-taken today (k .sheet) (read-zero today (k .sheet) z)))
+          ap (λ (x : ReadSaid). orElse (readAnswer (basisEdition k) (k .sheet)) (listsAnswer (x .sheet .year) (k .holidays) (k .prices)))
+          (sym (read-taken (basisEdition k) (k .sheet) (read-zero (basisEdition k) (k .sheet) z)))
       go (no z) =
-          sym (refusal-stands (readAnswer (k .sheet)) _ refl (ne-eqb _ _ z)) ∙ open-read (readAnswer (k .sheet)) (ne-eqb _ _ z) refl
+          let read = readAnswer (basisEdition k) (k .sheet) in
+          sym (refusal-stands read _ refl (ne-eqb _ _ z)) ∙ open-read read (ne-eqb _ _ z) refl
 
   -- beside a refusal stand the fixed terms, beside 0 those of the basis
   pub open-refused : (a : Said) → eqb (a .number) 0 ≡ false → a ≡ customerOpenAnswer k → noTerms ≡ openTerms k

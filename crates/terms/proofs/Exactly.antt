@@ -2,26 +2,22 @@
 -- Assumes nothing.
 use mathlib.Core.Path.{_≡_, refl, sym, ap, _∙_}
 use mathlib.Core.Logic.{_↔_, ⊎-elim}
-use mathlib.Core.Bool.{false}
 use Prim.Native.Nat.{ℕ}
 use native.Mathlib.Decide.{ℕ-discrete}
 use native.Mathlib.Omega.{arith}
 use borrow.Author.Tests.{ne-eqb}
 use Rattle.ranges.proofs.Bools.{decided, refutes}
-use Rattle.answers.specs.Edition.{today}
-use Rattle.answers.specs.Ruling.{yearOut}
-use Rattle.answers.proofs.Laws.{charge-year}
 use Rattle.answers.specs.Said.{Said, only}
 use Rattle.holidays.specs.Holidays.{badHolidays}
 use Rattle.holidays.proofs.Lists.{legal-holidays}
 use Rattle.sheet.specs.Answers.{readAnswer, ReadSaid, readOf}
 use Rattle.sheet.specs.Rows.{ReadRow}
-use Rattle.sheet.specs.Rows.ReadRow.{malformed, one, two, full, zero}
+use Rattle.sheet.specs.Rows.ReadRow.{zero}
 use Rattle.sheet.proofs.Answered.{read-taken}
 use Rattle.sheet.proofs.Exactly.{read-exactly, read-zero}
 use Rattle.tariff.specs.Prices.{pricesOut}
 use Rattle.tariff.proofs.Limits.{prices-legal}
-use Rattle.terms.specs.Basis.{Basis, basisSheet, basisYear}
+use Rattle.terms.specs.Basis.{Basis, basisSheet, basisYear, basisEdition}
 use Rattle.terms.specs.Opening.{customerOpenAnswer}
 use Rattle.terms.specs.Rows.{LegalBasis, CustomerOpenRow}
 use Rattle.terms.specs.Rows.CustomerOpenRow.{sheet, three, six, zero}
@@ -31,9 +27,9 @@ number : {a b : Said} → a ≡ b → b .number ≡ a .number
 number e = sym (ap (λ (s : Said). s .number) e)
 
 module _ (k : Basis) where
-  module _ (r : only 0 ≡ readAnswer (k .sheet)) where
-    read-row : ReadRow today (k .sheet) 0
-    read-row = read-exactly today (k .sheet) 0 .0 (number r)
+  module _ (r : only 0 ≡ readAnswer (basisEdition k) (k .sheet)) where
+    read-row : ReadRow (basisEdition k) (k .sheet) 0
+    read-row = read-exactly (basisEdition k) (k .sheet) 0 .0 (number r)
 
     read-holds : CustomerOpenRow k (customerOpenAnswer k .number)
     read-holds =
@@ -44,17 +40,17 @@ module _ (k : Basis) where
         (decided (pricesOut (k .prices)))) (decided (badHolidays (basisYear k) (k .holidays)))
 
   open-holds : CustomerOpenRow k (customerOpenAnswer k .number)
-  open-holds = go (ℕ-discrete (readAnswer (k .sheet) .number) 0)
+  open-holds = go (ℕ-discrete (readAnswer (basisEdition k) (k .sheet) .number) 0)
     where
-      go : Dec (readAnswer (k .sheet) .number ≡ 0) → CustomerOpenRow k (customerOpenAnswer k .number)
-      go (yes z) = read-holds (read-zero today (k .sheet) z)
+      go : Dec (readAnswer (basisEdition k) (k .sheet) .number ≡ 0) → CustomerOpenRow k (customerOpenAnswer k .number)
+      go (yes z) = read-holds (read-zero (basisEdition k) (k .sheet) z)
       go (no z) =
-          let e = open-read k (readAnswer (k .sheet)) (ne-eqb _ _ z) refl in
-          rw (number e) (sheet (read-exactly today (k .sheet) _ .0 refl) z)
+          let e = open-read k (readAnswer (basisEdition k) (k .sheet)) (ne-eqb _ _ z) refl in
+          rw (number e) (sheet (read-exactly (basisEdition k) (k .sheet) _ .0 refl) z)
 
   -- a sheet that is read
-  accepted : ReadRow today (k .sheet) 0 → only 0 ≡ readAnswer (k .sheet)
-  accepted r = read-zero today (k .sheet) (read-exactly today (k .sheet) 0 .1 r)
+  accepted : ReadRow (basisEdition k) (k .sheet) 0 → only 0 ≡ readAnswer (basisEdition k) (k .sheet)
+  accepted r = read-zero (basisEdition k) (k .sheet) (read-exactly (basisEdition k) (k .sheet) 0 .1 r)
 
   legal-done : LegalBasis k → only 0 ≡ customerOpenAnswer k
   legal-done l =
@@ -62,8 +58,8 @@ module _ (k : Basis) where
 
   open-given : {n : ℕ} → CustomerOpenRow k n → customerOpenAnswer k .number ≡ n
   open-given (sheet r z) =
-      let e = read-exactly today (k .sheet) _ .1 r in
-      number (open-read k (readAnswer (k .sheet)) (ne-eqb _ _ (λ q. z (sym e ∙ q))) refl) ∙ e
+      let e = read-exactly (basisEdition k) (k .sheet) _ .1 r in
+      number (open-read k (readAnswer (basisEdition k) (k .sheet)) (ne-eqb _ _ (λ q. z (sym e ∙ q))) refl) ∙ e
   open-given (three r h) = number (open-holidays k (accepted r) (refutes _ (legal-holidays _ (k .holidays)) .1 h))
   open-given (six r h q) =
       number (open-prices k (accepted r) (legal-holidays _ (k .holidays) .1 h) (refutes _ (prices-legal (k .prices)) .1 q))
@@ -87,17 +83,6 @@ module _ (k : Basis) where
   open-zero e = legal-done (open-legal e)
 
   -- and beside it reading hands over what the sheet says
-  pub open-meaning : {s : ReadSaid} → s ≡ readOf (k .sheet) → only 0 ≡ customerOpenAnswer k → s .sheet ≡ basisSheet k
+  pub open-meaning : {s : ReadSaid} → s ≡ readOf (basisEdition k) (k .sheet) → only 0 ≡ customerOpenAnswer k → s .sheet ≡ basisSheet k
   open-meaning shown e =
-      ap (λ (x : ReadSaid). x .sheet) (shown ∙ sym (read-taken today (k .sheet) (accepted (open-legal (number e) .read))))
-
-  -- so its year is allowed
-  pub open-allowed : customerOpenAnswer k ≡ only 0 → yearOut (basisYear k) ≡ false
-  open-allowed e = go (open-legal (ap (λ (a : Said). a .number) e) .read) refl
-    where
-      go : {n : ℕ} → ReadRow today (k .sheet) n → n ≡ 0 → yearOut (basisYear k) ≡ false
-      go (malformed f) q = absurd (omega arith)
-      go (one f y) q = absurd (omega arith)
-      go (two f y l) q = absurd (omega arith)
-      go (full f y l w) q = absurd (omega arith)
-      go (zero f y l w) q = charge-year (basisYear k) .1 y
+      ap (λ (x : ReadSaid). x .sheet) (shown ∙ sym (read-taken (basisEdition k) (k .sheet) (accepted (open-legal (number e) .read))))

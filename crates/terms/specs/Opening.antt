@@ -5,6 +5,7 @@ use mathlib.Core.Bool.{false, cond}
 use mathlib.Core.List.{List}
 use Prim.Native.Nat.{ℕ}
 use lib.ListN.{replicate}
+use Rattle.answers.specs.Edition.{noEdition}
 use Rattle.answers.specs.Said.{Said, only, after, orElse}
 use Rattle.dates.specs.Dates.{mostDays}
 use Rattle.holidays.specs.Holidays.{badHolidays}
@@ -18,7 +19,7 @@ use Rattle.tariff.specs.Prices.{pricesOut}
 use Rattle.tariff.specs.Answers.{saidOf}
 use Rattle.terms.specs.declared.Terms.{Terms}
 use Rattle.terms.specs.declared.Opening.{Opening}
-use Rattle.terms.specs.Basis.{Basis, basisSheet, basisYear, basisRates}
+use Rattle.terms.specs.Basis.{Basis, basisSheet, basisYear, basisEdition, basisRates}
 
 -- the holidays and the prices, for the year y: 3, then 6
 abbrev pub listsAnswer : ℕ → List ℕ → Prices → Said
@@ -29,18 +30,21 @@ listsAnswer y hs p =
 
 -- all that needs no readings: first the answer to reading the sheet, then that to the two lists
 unfoldable pub customerOpenAnswer : Basis → Said
-customerOpenAnswer k = orElse (readAnswer (k .sheet)) (listsAnswer (basisYear k) (k .holidays) (k .prices))
+customerOpenAnswer k = orElse (readAnswer (basisEdition k) (k .sheet)) (listsAnswer (basisYear k) (k .holidays) (k .prices))
 
--- what a year is judged under: its rates, the sheet's windows, and the days that carry windows, 1 January at place 0
+-- what a year is judged under: its edition, its rates, the sheet's windows, and the days that carry windows, 1 January
+-- at place 0
 abbrev pub termsOf : Basis → Terms
 termsOf k =
     record {
+      edition = basisEdition k;
       rates = basisRates k;
       windows = basisSheet k .windows;
       carrying = windowDays (basisYear k) (k .holidays);
     }
 
--- the fixed terms beside a refusal: year and level 0, prices 0, no window and no day that carries one (Rule 9.5)
+-- the fixed terms beside a refusal: the edition of no year, year and level 0, prices 0, no window and no day that
+-- carries one (Rule 9.5)
 abbrev pub noRow : Row
 noRow = record { capacity = 0; energy = 0 }
 
@@ -50,6 +54,7 @@ noRates = record { year = 0; level = 0; option = false; prices = record { few = 
 abbrev pub noTerms : Terms
 noTerms =
     record {
+      edition = noEdition;
       rates = noRates;
       windows = replicate windowPlaces false;
       carrying = replicate mostDays false;

@@ -1,5 +1,6 @@
 // The terms of a customer's year: what it is judged under, and the opening that makes them from a sheet, a holiday
-// list, prices and option. It meets specs/Opening; specs/Basis has the four as one argument. Rules 8.2, 9.3 and 9.5.
+// list, prices and option, by a list of editions. It meets specs/Opening; specs/Basis has the five as one argument.
+// Rules 8.2, 9.3 and 9.5.
 // Main theorem: an opening gives a number exactly when that number's row holds and no row before it (proofs/Exactly).
 ghost use mathlib.Core.Path.{_≡_};
 ghost use Rattle.answers.specs.Said.{orElse};
@@ -7,15 +8,18 @@ ghost use Rattle.sheet.specs.Answers.{saidOfSheet};
 ghost use Rattle.tariff.specs.Answers.{saidOf};
 ghost use Rattle.terms.specs.Basis.{basis};
 ghost use Rattle.terms.specs.Opening.{listsAnswer, noTerms, Opens};
+use answers::Edition;
+use editions::Editions;
 use sheet::SheetAnswer;
 use tariff::Decision;
 use tariff::Prices;
 use tariff::Rates;
 use tariff::Row;
 
-// What a year is judged under: its rates; the sheet's windows, season 1 first and of each season quarter 0 first; and
-// which days carry windows, 1 January at place 0.
+// What a year is judged under: the edition of the year; its rates; the sheet's windows, season 1 first and of each
+// season quarter 0 first; and which days carry windows, 1 January at place 0.
 pub struct Terms {
+    pub edition: Edition,
     pub rates: Rates,
     pub windows: [bool; sheet::WINDOW_PLACES],
     pub carrying: [bool; dates::MOST_DAYS],
@@ -65,6 +69,7 @@ fn no_terms() -> Terms
     ensures { λ r. ⌜ r ≡ noTerms ⌝ }
 {
     Terms {
+        edition: answers::NO_EDITION,
         rates: Rates {
             year: 0,
             level: 0,
@@ -85,12 +90,19 @@ fn no_terms() -> Terms
     }
 }
 
-// Opens a customer's year. Refuses 12, 1, 2, 12, 3, 6 in this order (Rule 8.2). Beside every refusal stand the same
-// terms.
-pub fn open(sheet: &[u8], holidays: &[u16], prices: Prices, option: bool) -> Opening
-    ensures { λ r. ⌜ Opens (basis (now (sheet .entry)) (now (holidays .entry)) prices option) r ⌝ }
+// Opens a customer's year; the terms keep the edition of that year. Refuses 12, 1, 2, 12, 3, 6 in this order (Rule
+// 8.2). Beside every refusal stand the same terms.
+pub fn open(
+    editions: Editions,
+    sheet: &[u8],
+    holidays: &[u16],
+    prices: Prices,
+    option: bool,
+) -> Opening
+    ensures { λ r. ⌜ Opens (basis editions (now (sheet .entry)) (now (holidays .entry)) prices option) r ⌝ }
 {
-    let read = sheet_read::read(sheet);
+    let edition = editions::pick(editions, encoding::two_at(sheet, sheet::YEAR_AT));
+    let read = sheet_read::read_by(edition, sheet);
     let said = read.answer;
     let meaning = read.sheet;
     let answer = open_answer(said, meaning.year, holidays, prices);
@@ -105,6 +117,7 @@ pub fn open(sheet: &[u8], holidays: &[u16], prices: Prices, option: bool) -> Ope
     Opening {
         answer,
         terms: Terms {
+            edition,
             rates: Rates {
                 year: meaning.year,
                 level: meaning.level,

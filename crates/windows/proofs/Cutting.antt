@@ -20,14 +20,14 @@ use Rattle.answers.specs.declared.Edition.{Edition}
 use Rattle.answers.specs.Edition.{wholeShare}
 use Rattle.answers.specs.Ruling.{dayQuarters}
 use Rattle.readings.specs.Legal.{highestOf}
-use Rattle.windows.specs.Chosen.{aboveLineBy, aboveIn, comesBefore, rank, kept, keptOfBy}
+use Rattle.windows.specs.Chosen.{aboveLine, aboveIn, comesBefore, rank, kept, keptOf}
 use Rattle.windows.specs.Cuts.{lineOf, higherThan, MostBetween, equalsBefore, keptAt}
 use Rattle.windows.proofs.Ahead.{also-above, ahead-early, ahead-late}
 use Rattle.windows.proofs.Kept.{higher, why, ahead, not-ahead, few-kept}
 
 -- a value is above the line exactly when it is higher than the line as a value
-line-is : (ed : Edition) (peak v : ℕ) → ltb (lineOf ed peak) v ≡ aboveLineBy ed peak v
-unfolding aboveLineBy
+line-is : (ed : Edition) (peak v : ℕ) → ltb (lineOf ed peak) v ≡ aboveLine ed peak v
+unfolding aboveLine
 line-is ed peak v = same-order (lineOf ed peak) v (ed .line * peak) (wholeShare * v) (λ l. omega arith) (λ l. omega arith)
 
 module _ (curve : List ℕ) where
@@ -75,33 +75,33 @@ module _ (curve : List ℕ) where
     unfolding higherThan aboveIn
     above-is = count-cong _ _ dayQuarters (λ q l. line-is ed peak (value q))
 
-    over-line : (q : ℕ) → lineOf ed peak < value q → aboveLineBy ed peak (value q) ≡ true
+    over-line : (q : ℕ) → lineOf ed peak < value q → aboveLine ed peak (value q) ≡ true
     over-line q l = sym (line-is ed peak (value q)) ∙ lt-ltb (lineOf ed peak) (value q) l
 
     -- what is not above the line is left out
-    not-above : (q : ℕ) → aboveLineBy ed peak (value q) ≡ false → kept ed peak curve q ≡ false
+    not-above : (q : ℕ) → aboveLine ed peak (value q) ≡ false → kept ed peak curve q ≡ false
     unfolding kept
     not-above q e = rw e
 
     -- no higher than a value that as many as the limit are higher than
     left-out : (low q : ℕ) → ed .limit ≤ higherThan curve low → value q ≤ low → kept ed peak curve q ≡ false
     unfolding kept rank higherThan
-    left-out low q many h = ⊎-elim yes-above (λ n. not-above q n) (decided (aboveLineBy ed peak (value q)))
+    left-out low q many h = ⊎-elim yes-above (λ n. not-above q n) (decided (aboveLine ed peak (value q)))
       where
-        yes-above : aboveLineBy ed peak (value q) ≡ true → (aboveLineBy ed peak (value q) && ltb (rank ed peak curve q) (ed .limit)) ≡ false
+        yes-above : aboveLine ed peak (value q) ≡ true → (aboveLine ed peak (value q) && ltb (rank ed peak curve q) (ed .limit)) ≡ false
         yes-above a =
             let before = count-mono (λ k. ltb low (value k)) (ahead curve ed peak q) dayQuarters
             (λ k l t.
             let up : low < value k = ltb-true low (value k) t in
             pair (also-above ed peak curve q a k (omega arith)) (higher curve k q (omega arith))) in
-            rw (le-ltb (rank ed peak curve q) (ed .limit) (omega (arith, before, many))) (and-false (aboveLineBy ed peak (value q)))
+            rw (le-ltb (rank ed peak curve q) (ed .limit) (omega (arith, before, many))) (and-false (aboveLine ed peak (value q)))
 
     -- higher than a value that no more than the limit are higher than
     kept-high : (high q : ℕ) → lineOf ed peak ≤ high → higherThan curve high ≤ ed .limit → q < dayQuarters → high < value q → kept ed peak curve q ≡ true
     unfolding kept rank higherThan
     kept-high high q over few l h =
         let less = count-less (ahead curve ed peak q) (λ k. ltb high (value k)) dayQuarters q
-        (λ k m t. lt-ltb high (value k) (up k (both (aboveLineBy ed peak (value k)) _ t .1))) l (lt-ltb high (value q) h) (not-ahead curve ed peak q) in
+        (λ k m t. lt-ltb high (value k) (up k (both (aboveLine ed peak (value k)) _ t .1))) l (lt-ltb high (value q) h) (not-ahead curve ed peak q) in
         pair (over-line q (omega arith)) (lt-ltb (countOver (ahead curve ed peak q) dayQuarters) (ed .limit) (omega (arith, less, few)))
       where
         up : (k : ℕ) → comesBefore curve k q ≡ true → high < value k
@@ -111,7 +111,7 @@ module _ (curve : List ℕ) where
     rank-is :
         (q : ℕ)
         → q < dayQuarters
-        → aboveLineBy ed peak (value q) ≡ true
+        → aboveLine ed peak (value q) ≡ true
         → rank ed peak curve q ≡ higherThan curve (value q) + equalsBefore curve (value q) q
     unfolding rank higherThan equalsBefore
     rank-is q l a =
@@ -139,24 +139,24 @@ module _ (curve : List ℕ) where
         early k m = ap bit (ahead-early ed peak curve q a k m) ∙ no-lower (value q) (value k)
 
     -- a cut at the line, where no more than the limit are above it
-    pub at-line : {line : ℕ} → line ≡ lineOf ed peak → higherThan curve line ≤ ed .limit → table (keptAt curve line 0) dayQuarters ≡ keptOfBy ed peak curve
-    unfolding keptOfBy
+    pub at-line : {line : ℕ} → line ≡ lineOf ed peak → higherThan curve line ≤ ed .limit → table (keptAt curve line 0) dayQuarters ≡ keptOf ed peak curve
+    unfolding keptOf
     at-line {line} e few = rw e (table-cong _ _ dayQuarters (λ q l. just-higher (lineOf ed peak) q ∙ line-is ed peak (value q) ∙ pick q l))
       where
-        pick : (q : ℕ) → q < dayQuarters → aboveLineBy ed peak (value q) ≡ kept ed peak curve q
+        pick : (q : ℕ) → q < dayQuarters → aboveLine ed peak (value q) ≡ kept ed peak curve q
         pick q l =
             ⊎-elim (λ a. a ∙ sym (few-kept curve ed peak q l (omega (arith, few, above-is, ap (higherThan curve) e)) a))
-            (λ n. n ∙ sym (not-above q n)) (decided (aboveLineBy ed peak (value q)))
+            (λ n. n ∙ sym (not-above q n)) (decided (aboveLine ed peak (value q)))
 
     -- a cut at the highest value, where the line is no lower than that
-    pub at-top : highestOf curve ≤ lineOf ed peak → table (keptAt curve (highestOf curve) 0) dayQuarters ≡ keptOfBy ed peak curve
-    unfolding keptOfBy
+    pub at-top : highestOf curve ≤ lineOf ed peak → table (keptAt curve (highestOf curve) 0) dayQuarters ≡ keptOf ed peak curve
+    unfolding keptOf
     at-top high = table-cong _ _ dayQuarters (λ q l. none-higher q ∙ sym (not-above q (under q)))
       where
         none-higher : (q : ℕ) → keptAt curve (highestOf curve) 0 q ≡ false
         none-higher q = just-higher (highestOf curve) q ∙ le-ltb (highestOf curve) (value q) (under-top q)
 
-        under : (q : ℕ) → aboveLineBy ed peak (value q) ≡ false
+        under : (q : ℕ) → aboveLine ed peak (value q) ≡ false
         under q = sym (line-is ed peak (value q)) ∙ le-ltb (lineOf ed peak) (value q) (omega (arith, high, under-top q))
 
     -- a quarter that is equal to the limit
@@ -182,8 +182,8 @@ module _ (curve : List ℕ) where
         → lineOf ed peak < limit
         → MostBetween curve (ed .limit) (limit - 1) limit
         → equals ≡ ed .limit - higherThan curve limit
-        → table (keptAt curve limit equals) dayQuarters ≡ keptOfBy ed peak curve
-    unfolding keptOfBy keptAt
+        → table (keptAt curve limit equals) dayQuarters ≡ keptOf ed peak curve
+    unfolding keptOf keptAt
     at-limit limit {equals} over (many, few) e = table-cong _ _ dayQuarters (λ q l. go q l (decLt limit (value q)) (ℕ-discrete (value q) limit))
       where
         go : (q : ℕ) → q < dayQuarters → Dec (limit < value q) → Dec (value q ≡ limit) → keptAt curve limit equals q ≡ kept ed peak curve q

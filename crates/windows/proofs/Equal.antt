@@ -16,7 +16,7 @@ use Rattle.ranges.proofs.Tests.{count-cong, count-below}
 use Rattle.answers.specs.declared.Edition.{Edition}
 use Rattle.answers.specs.Edition.{wholeShare, today}
 use Rattle.answers.specs.Ruling.{dayQuarters}
-use Rattle.windows.specs.Chosen.{aboveLineBy, comesBefore, rank, kept, keptOfBy, keptOf}
+use Rattle.windows.specs.Chosen.{aboveLine, comesBefore, rank, kept, keptOf}
 
 module _ (ed : Edition) (under : ed .line < wholeShare) (peak : ℕ) (some : 0 < peak) where
   abbrev curve : List ℕ
@@ -25,12 +25,12 @@ module _ (ed : Edition) (under : ed .line < wholeShare) (peak : ℕ) (some : 0 <
   value : (q : ℕ) → q < dayQuarters → getD curve q 0 ≡ peak
   value q l = getD-replicate {A = ℕ} dayQuarters q peak 0 l
 
-  above : (q : ℕ) → q < dayQuarters → aboveLineBy ed peak (getD curve q 0) ≡ true
-  unfolding aboveLineBy
+  above : (q : ℕ) → q < dayQuarters → aboveLine ed peak (getD curve q 0) ≡ true
+  unfolding aboveLine
   above q l = rw (value q l) (lt-ltb (ed .line * peak) (wholeShare * peak) (mul-lt-mul-of-pos-right under some))
 
   -- among equals the earlier come before
-  before : (p q : ℕ) → p < dayQuarters → q < dayQuarters → (aboveLineBy ed peak (getD curve p 0) && comesBefore curve p q) ≡ ltb p q
+  before : (p q : ℕ) → p < dayQuarters → q < dayQuarters → (aboveLine ed peak (getD curve p 0) && comesBefore curve p q) ≡ ltb p q
   unfolding comesBefore
   before p q l h = rw (above p l) (simp (value p l, value q h, eq-eqb peak peak refl))
 
@@ -42,11 +42,11 @@ module _ (ed : Edition) (under : ed .line < wholeShare) (peak : ℕ) (some : 0 <
   unfolding kept
   kept-is q h = rw (above q h, rank-is q h)
 
-  pub first-kept : keptOfBy ed peak curve ≡ table (λ q. ltb q (ed .limit)) dayQuarters
-  unfolding keptOfBy
+  pub first-kept : keptOf ed peak curve ≡ table (λ q. ltb q (ed .limit)) dayQuarters
+  unfolding keptOf
   first-kept = table-cong (kept ed peak curve) (λ q. ltb q (ed .limit)) dayQuarters kept-is
 
 -- under today's edition these are the first forty (Rule 11.1, case 10)
-pub first-forty : (peak : ℕ) → 0 < peak → keptOf peak (replicate dayQuarters peak) ≡ replicate 40 true ++ replicate 56 false
+pub first-forty : (peak : ℕ) → 0 < peak → keptOf today peak (replicate dayQuarters peak) ≡ replicate 40 true ++ replicate 56 false
 unfolding table joined
 first-forty peak some = first-kept today (omega arith) peak some

@@ -21,7 +21,7 @@ use Rattle.answers.specs.declared.Edition.{Edition}
 use Rattle.answers.specs.Ruling.{dayQuarters, LegalEdition}
 use Rattle.sheet.specs.Windows.{seasons, quarterPlace, setIn, Roomy, flatWindows}
 use Rattle.sheet.proofs.Windows.{flat-at}
-use Rattle.windows.specs.Chosen.{aboveLineBy, aboveIn, comesBefore, rank, kept, keptOfBy, chosenOfBy}
+use Rattle.windows.specs.Chosen.{aboveLine, aboveIn, comesBefore, rank, kept, keptOf, chosenOf}
 
 module _ (curve : List ℕ) where
   abbrev value : ℕ → ℕ
@@ -67,7 +67,7 @@ module _ (curve : List ℕ) where
     -- exactly the smaller of the limit and the number above the line
     pub kept-count : countOver (kept ed peak curve) dayQuarters ≡ min (ed .limit) (aboveIn ed peak curve)
     unfolding kept rank aboveIn
-    kept-count = exact (comesBefore curve) total trans asym dayQuarters (ed .limit) (λ q. aboveLineBy ed peak (value q))
+    kept-count = exact (comesBefore curve) total trans asym dayQuarters (ed .limit) (λ q. aboveLine ed peak (value q))
 
     pub at-most : countOver (kept ed peak curve) dayQuarters ≤ ed .limit
     at-most = omega (arith, kept-count)
@@ -78,41 +78,41 @@ module _ (curve : List ℕ) where
 
     -- a quarter's rank counts the quarters above the line before it, so an earlier one's is no larger
     abbrev pub ahead : ℕ → ℕ → Bool
-    ahead q k = aboveLineBy ed peak (value k) && comesBefore curve k q
+    ahead q k = aboveLine ed peak (value k) && comesBefore curve k q
 
     pub not-ahead : (k : ℕ) → ahead k k ≡ false
-    not-ahead k = ⊎-elim (λ t. let b = both (aboveLineBy ed peak (value k)) _ t .1 in absurd (asym k k b b)) (λ f. f) (decided (ahead k k))
+    not-ahead k = ⊎-elim (λ t. let b = both (aboveLine ed peak (value k)) _ t .1 in absurd (asym k k b b)) (λ f. f) (decided (ahead k k))
 
     rank-before : (p q : ℕ) → comesBefore curve p q ≡ true → rank ed peak curve p ≤ rank ed peak curve q
     unfolding rank
     rank-before p q b =
         count-mono (ahead p) (ahead q) dayQuarters
         (λ k l t.
-        let a = both (aboveLineBy ed peak (value k)) (comesBefore curve k p) t in
+        let a = both (aboveLine ed peak (value k)) (comesBefore curve k p) t in
         pair (a .0) (trans k p q (a .1) b))
 
     -- where no more than the limit are above the line, all of them are kept
-    pub few-kept : (q : ℕ) → q < dayQuarters → aboveIn ed peak curve ≤ ed .limit → aboveLineBy ed peak (value q) ≡ true → kept ed peak curve q ≡ true
+    pub few-kept : (q : ℕ) → q < dayQuarters → aboveIn ed peak curve ≤ ed .limit → aboveLine ed peak (value q) ≡ true → kept ed peak curve q ≡ true
     unfolding kept rank aboveIn
     few-kept q l few a =
-        let above : ℕ → Bool = λ k. aboveLineBy ed peak (value k) in
+        let above : ℕ → Bool = λ k. aboveLine ed peak (value k) in
         let less = count-less (ahead q) above dayQuarters q (λ k m t. both (above k) _ t .0) l a (not-ahead q) in
         pair a (lt-ltb (countOver (ahead q) dayQuarters) (ed .limit) (omega arith))
 
     -- a quarter above the line that comes before a kept one is kept
     pub kept-before :
         (p q : ℕ)
-        → aboveLineBy ed peak (value p) ≡ true
+        → aboveLine ed peak (value p) ≡ true
         → comesBefore curve p q ≡ true
         → kept ed peak curve q ≡ true
         → kept ed peak curve p ≡ true
     unfolding kept
     kept-before p q a b k =
-        let few = ltb-true (rank ed peak curve q) (ed .limit) (both (aboveLineBy ed peak (value q)) _ k .1) in
+        let few = ltb-true (rank ed peak curve q) (ed .limit) (both (aboveLine ed peak (value q)) _ k .1) in
         pair a (lt-ltb (rank ed peak curve p) (ed .limit) (omega (arith, rank-before p q b)))
 
     -- no kept quarter is lower than one above the line that is left out
-    pub none-lower : (p q : ℕ) → kept ed peak curve p ≡ true → aboveLineBy ed peak (value q) ≡ true → kept ed peak curve q ≡ false → value q ≤ value p
+    pub none-lower : (p q : ℕ) → kept ed peak curve p ≡ true → aboveLine ed peak (value q) ≡ true → kept ed peak curve q ≡ false → value q ≤ value p
     none-lower p q k a n = go (decLt (value p) (value q))
       where
         go : Dec (value p < value q) → value q ≤ value p
@@ -123,7 +123,7 @@ module _ (curve : List ℕ) where
     pub earlier-kept : (p q : ℕ) → p < q → value p ≡ value q → kept ed peak curve q ≡ true → kept ed peak curve p ≡ true
     unfolding kept
     earlier-kept p q l e k =
-        let a : aboveLineBy ed peak (value q) ≡ true = both (aboveLineBy ed peak (value q)) _ k .0 in
+        let a : aboveLine ed peak (value q) ≡ true = both (aboveLine ed peak (value q)) _ k .0 in
         kept-before p q (rw e a) (earlier p q e l) k
 
 -- the windows of any curves make a legal sheet
@@ -132,14 +132,14 @@ module _ (ed : Edition) (peak : ℕ) (curves : List (List ℕ)) where
       (s q : ℕ)
       → Within 1 seasons s
       → q < dayQuarters
-      → getD (flatWindows (chosenOfBy ed peak curves)) (quarterPlace s q) false ≡ kept ed peak (getD curves (s - 1) []) q
-  unfolding chosenOfBy keptOfBy
+      → getD (flatWindows (chosenOf ed peak curves)) (quarterPlace s q) false ≡ kept ed peak (getD curves (s - 1) []) q
+  unfolding chosenOf keptOf
   chosen-at s q h l =
-      flat-at (chosenOfBy ed peak curves) s q h l
-      ∙ ap (λ (row : List Bool). getD row q false) (getD-table (λ k. keptOfBy ed peak (getD curves k [])) seasons (s - 1) [] (omega arith))
+      flat-at (chosenOf ed peak curves) s q h l
+      ∙ ap (λ (row : List Bool). getD row q false) (getD-table (λ k. keptOf ed peak (getD curves k [])) seasons (s - 1) [] (omega arith))
       ∙ getD-table (kept ed peak (getD curves (s - 1) [])) dayQuarters q false l
 
-  pub chosen-roomy : Roomy ed (flatWindows (chosenOfBy ed peak curves))
+  pub chosen-roomy : Roomy ed (flatWindows (chosenOf ed peak curves))
   unfolding setIn
   chosen-roomy s h =
       let same = count-cong _ (kept ed peak (getD curves (s - 1) [])) dayQuarters (λ q l. chosen-at s q h l) in
@@ -148,10 +148,10 @@ module _ (ed : Edition) (peak : ℕ) (curves : List (List ℕ)) where
   -- four seasons one after the other are the table of four
   pub four-kept :
       {a b c d : List Bool}
-      → a ≡ keptOfBy ed peak (getD curves 0 [])
-      → b ≡ keptOfBy ed peak (getD curves 1 [])
-      → c ≡ keptOfBy ed peak (getD curves 2 [])
-      → d ≡ keptOfBy ed peak (getD curves 3 [])
-      → a ∷ b ∷ c ∷ d ∷ [] ≡ chosenOfBy ed peak curves
-  unfolding chosenOfBy table joined
+      → a ≡ keptOf ed peak (getD curves 0 [])
+      → b ≡ keptOf ed peak (getD curves 1 [])
+      → c ≡ keptOf ed peak (getD curves 2 [])
+      → d ≡ keptOf ed peak (getD curves 3 [])
+      → a ∷ b ∷ c ∷ d ∷ [] ≡ chosenOf ed peak curves
+  unfolding chosenOf table joined
   four-kept p q r s = λ i. p i ∷ q i ∷ r i ∷ s i ∷ []

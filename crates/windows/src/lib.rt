@@ -9,7 +9,7 @@ ghost use lib.Dec.{ltb};
 ghost use lib.ListN.{length, getD};
 ghost use Rattle.ranges.specs.Ranges.{bit, table};
 ghost use Rattle.answers.specs.Ruling.{dayQuarters};
-ghost use Rattle.windows.specs.Chosen.{keptOfBy, chosenOf};
+ghost use Rattle.windows.specs.Chosen.{keptOf, chosenOf};
 ghost use Rattle.windows.specs.Cuts.{lineOf, higherThan, MostBetween, keptAt};
 use answers::Edition;
 
@@ -100,7 +100,7 @@ fn above(limit: u32) -> Cut
 // Where a season is cut: at the line, or higher where more quarters are above it than the edition's limit. No value is
 // above a line that is higher than all that 32 bits hold.
 fn cut_of(edition: Edition, peak: u32, curve: &[u32; answers::DAY_QUARTERS]) -> Cut
-    ensures { λ r. ⌜ table (keptAt (now (curve .entry)) (r .limit) (r .equals)) dayQuarters ≡ keptOfBy edition peak (now (curve .entry)) ⌝ }
+    ensures { λ r. ⌜ table (keptAt (now (curve .entry)) (r .limit) (r .equals)) dayQuarters ≡ keptOf edition peak (now (curve .entry)) ⌝ }
 {
     let most = edition.limit as usize;
     let line = line_of(edition, peak);
@@ -159,7 +159,7 @@ fn keep(
     curve: &[u32; answers::DAY_QUARTERS],
 )
     requires { ⌜ length (now out) ≡ dayQuarters ⌝ }
-    ensures { λ r. ⌜ now (out .exit) ≡ keptOfBy edition peak (now (curve .entry)) ⌝ }
+    ensures { λ r. ⌜ now (out .exit) ≡ keptOf edition peak (now (curve .entry)) ⌝ }
 {
     let cut = cut_of(edition, peak, curve);
     mark_above(&mut *out, curve, cut.limit);
@@ -168,16 +168,16 @@ fn keep(
     }
 }
 
-// The windows of four curves by today's edition, for any peak: by season and by quarter, both from 0. Each season's
+// The windows of four curves by an edition, for any peak: by season and by quarter, both from 0. Each season's
 // curve is lent on.
 // (Four calls, since a loop is unrolled with all that it calls, and takes 400 bytes of stack more.)
 pub fn chosen(
+    edition: Edition,
     peak: u32,
     curves: &[[u32; answers::DAY_QUARTERS]; sheet::SEASONS],
 ) -> [[bool; answers::DAY_QUARTERS]; sheet::SEASONS]
-    ensures { λ r. ⌜ r ≡ chosenOf peak (now (curves .entry)) ⌝ }
+    ensures { λ r. ⌜ r ≡ chosenOf edition peak (now (curves .entry)) ⌝ }
 {
-    let edition = answers::today();
     let mut out = [[false; answers::DAY_QUARTERS]; sheet::SEASONS];
     keep(&mut out[0], edition, peak, &curves[0]);
     keep(&mut out[1], edition, peak, &curves[1]);

@@ -1,7 +1,5 @@
 //! Weekdays, seasons, the reference period, the days that carry windows (Rules 3.1 to 3.4 and 4.1).
 
-pub const FIRST_YEAR: u16 = 2014;
-pub const LAST_YEAR: u16 = 2028;
 pub const MOST_HOLIDAYS: usize = 40;
 pub const LONGEST_YEAR: usize = 366;
 
@@ -12,10 +10,6 @@ const SEASON_OF_MONTH: [usize; 12] = [1, 1, 2, 2, 2, 3, 3, 3, 4, 4, 4, 1];
 const MONDAY: u16 = 0;
 const FRIDAY: u16 = 4;
 const SATURDAY: u16 = 5;
-
-pub fn year_allowed(year: u16) -> bool {
-    (FIRST_YEAR..=LAST_YEAR).contains(&year)
-}
 
 pub fn is_leap(year: u16) -> bool {
     year % 4 == 0 && (year % 100 != 0 || year % 400 == 0)

@@ -1,6 +1,7 @@
 //! A customer's year and the decision (Rules 6.1 to 7.7): over a whole series, and day by day.
 
 use crate::calendar::{carrying_days, holidays_allowed, season_of_month, year_days, year_seasons, LONGEST_YEAR};
+use crate::editions::{Edition, Editions, TODAY};
 use crate::layout::Sundays;
 use crate::sheet::Sheet;
 use crate::{bad_day, first_above, Refusal, QUARTERS};
@@ -11,15 +12,6 @@ pub const CUSTOMER_LIMIT: u32 = 1_000_000_000;
 pub const CAPACITY_LIMIT: u32 = 100_000;
 /// thousandths of a cent for one kWh
 pub const ENERGY_LIMIT: u32 = 50_000;
-
-/// per cent of the annual peak, by level from 1
-const SHARES: [u64; 7] = [5, 10, 10, 20, 20, 30, 30];
-/// W
-const LEAST_MOVED: u64 = 100_000;
-/// cent
-const LEAST_REDUCTION: u64 = 50_000;
-/// 2,500 hours in quarters
-const LONG_USE: u64 = 10_000;
 
 #[derive(Clone, Copy, Debug, Default, PartialEq, Eq)]
 pub struct Row {
@@ -71,27 +63,32 @@ pub enum Decision {
     TooLittleReduced { general: u64, peak: u32, sum: u64, in_window: InWindow },
 }
 
-/// The rules over a year's figures (Rules 7.1 to 7.7).
+/// By today's edition.
 pub fn judge(level: u8, prices: &Prices, option: bool, figures: &Figures) -> Decision {
+    judge_by(&TODAY, level, prices, option, figures)
+}
+
+/// The rules over a year's figures (Rules 7.1 to 7.7).
+pub fn judge_by(edition: &Edition, level: u8, prices: &Prices, option: bool, figures: &Figures) -> Decision {
     let Figures { peak, sum, in_window } = *figures;
-    let short_use = sum < LONG_USE * peak as u64;
+    let short_use = sum < 4 * edition.hours as u64 * peak as u64;
     let row = if short_use { prices.low } else { prices.high };
     let general = row.charge(peak, sum);
     let Some(in_window) = in_window else {
         return Decision::NoWindow { general, peak, sum };
     };
     let moved = (peak - in_window.reading) as u64;
-    if 100 * moved < SHARES[level as usize - 1] * peak as u64 {
+    if 100 * moved < edition.share(level) * peak as u64 {
         return Decision::ShareNotReached { general, peak, sum, in_window };
     }
-    if moved < LEAST_MOVED {
+    if moved < edition.least_moved as u64 {
         return Decision::TooLittleMoved { general, peak, sum, in_window };
     }
     let reduced_row = if option { prices.high } else { row };
     let reduced = reduced_row.charge(in_window.reading, sum);
-    let floor = general.div_ceil(5);
+    let floor = (edition.floor as u64 * general).div_ceil(100);
     let charge = reduced.max(floor);
-    if general < charge + LEAST_REDUCTION {
+    if general < charge + edition.least_reduction as u64 {
         return Decision::TooLittleReduced { general, peak, sum, in_window };
     }
     Decision::Accepted { charge, general, peak, sum, in_window }
@@ -139,6 +136,7 @@ impl Figures {
 /// What a year is decided by, readings aside.
 #[derive(Clone, Copy, Debug, PartialEq, Eq)]
 pub struct Terms {
+    edition: Edition,
     sheet: Sheet,
     option: bool,
     prices: Prices,
@@ -149,8 +147,9 @@ pub struct Terms {
 
 impl Terms {
     /// The sheet's tests, then 3, then 6.
-    pub fn new(sheet: &[u8], option: bool, holidays: &[u16], prices: &Prices) -> Result<Terms, Refusal> {
-        let sheet = Sheet::read(sheet)?;
+    pub fn new(editions: &Editions, sheet: &[u8], option: bool, holidays: &[u16], prices: &Prices) -> Result<Terms, Refusal> {
+        let sheet = Sheet::read(editions, sheet)?;
+        let edition = editions.of_year(sheet.year)?;
         if !holidays_allowed(sheet.year, holidays) {
             return Err(Refusal::Holidays);
         }
@@ -159,7 +158,7 @@ impl Terms {
         }
         let masks = sheet.seasons.map(|quarters| quarters.mask());
         let sundays = Sundays::of_year(sheet.year);
-        Ok(Terms { sheet, option, prices: *prices, sundays, carries: carrying_days(sheet.year, holidays), masks })
+        Ok(Terms { edition, sheet, option, prices: *prices, sundays, carries: carrying_days(sheet.year, holidays), masks })
     }
 
     fn days(&self) -> u16 {
@@ -187,13 +186,18 @@ impl Terms {
     }
 
     fn decide(&self, figures: &Figures) -> Decision {
-        judge(self.sheet.level, &self.prices, self.option, figures)
+        judge_by(&self.edition, self.sheet.level, &self.prices, self.option, figures)
     }
 }
 
-/// Rule 8.2: as for reading a sheet (12, 1, 2, 12), then 3, 6, 4, 5, 8, 9, 10, 11.
+/// By today's list.
 pub fn decide(sheet: &[u8], option: bool, holidays: &[u16], prices: &Prices, series: &[u32]) -> Decision {
-    let terms = match Terms::new(sheet, option, holidays, prices) {
+    decide_under(&Editions::today(), sheet, option, holidays, prices, series)
+}
+
+/// Rule 8.2: as for reading a sheet (12, 1, 2, 12), then 3, 6, 4, 5, 8, 9, 10, 11.
+pub fn decide_under(editions: &Editions, sheet: &[u8], option: bool, holidays: &[u16], prices: &Prices, series: &[u32]) -> Decision {
+    let terms = match Terms::new(editions, sheet, option, holidays, prices) {
         Ok(terms) => terms,
         Err(refusal) => return Decision::Refused(refusal),
     };
@@ -219,8 +223,13 @@ pub struct CustomerDays {
 }
 
 impl CustomerDays {
+    /// By today's list.
     pub fn open(sheet: &[u8], option: bool, holidays: &[u16], prices: &Prices) -> (Result<(), Refusal>, CustomerDays) {
-        let opened = Terms::new(sheet, option, holidays, prices);
+        CustomerDays::open_under(&Editions::today(), sheet, option, holidays, prices)
+    }
+
+    pub fn open_under(editions: &Editions, sheet: &[u8], option: bool, holidays: &[u16], prices: &Prices) -> (Result<(), Refusal>, CustomerDays) {
+        let opened = Terms::new(editions, sheet, option, holidays, prices);
         let state = CustomerDays { terms: opened.ok(), taken: 0, month: 1, month_left: 31, figures: Figures::default() };
         (opened.map(|_| ()), state)
     }

@@ -1,9 +1,10 @@
 //! What each program prints for the bytes of a file (Rules 10.1 to 10.7).
 
-use crate::calendar::{holidays_allowed, year_allowed, year_days, MOST_HOLIDAYS};
+use crate::calendar::{holidays_allowed, year_days, MOST_HOLIDAYS};
 use crate::decision::{CustomerDays, Decision, InWindow, Prices, Row, CAPACITY_LIMIT, ENERGY_LIMIT};
+use crate::editions::{Edition, Editions};
 use crate::layout::Sundays;
-use crate::sheet::{level_allowed, Quarters, Sheet, MOST_WINDOWS, SHEET_BYTES, VERSION};
+use crate::sheet::{level_allowed, Quarters, Sheet, SHEET_BYTES, VERSION};
 use crate::windows::GridDays;
 use crate::{Refusal, QUARTERS};
 use std::fmt::Write;
@@ -46,16 +47,15 @@ impl<'a> Reader<'a> {
         Ok(())
     }
 
-    fn year_and_level(&mut self) -> Result<(u16, u8), Refusal> {
+    /// The year picks the edition.
+    fn year_and_level(&mut self, editions: &Editions) -> Result<(u16, Edition, u8), Refusal> {
         let year = self.number16()?;
-        if !year_allowed(year) {
-            return Err(Refusal::Year);
-        }
+        let edition = editions.of_year(year)?;
         let level = self.byte()?;
         if !level_allowed(level) {
             return Err(Refusal::Level);
         }
-        Ok((year, level))
+        Ok((year, edition, level))
     }
 
     fn day(&mut self, length: usize) -> Result<Vec<u32>, Refusal> {
@@ -72,11 +72,11 @@ impl<'a> Reader<'a> {
     }
 }
 
-fn grid_sheet(bytes: &[u8]) -> Result<Sheet, Refusal> {
+fn grid_sheet(editions: &Editions, bytes: &[u8]) -> Result<Sheet, Refusal> {
     let mut file = Reader { left: bytes };
     file.mark_and_version(b"GRD")?;
-    let (year, level) = file.year_and_level()?;
-    let (opened, mut state) = GridDays::open(year, level);
+    let (year, _, level) = file.year_and_level(editions)?;
+    let (opened, mut state) = GridDays::open_under(editions, year, level);
     opened?;
     let sundays = Sundays::of_period(year);
     for day in 1..=state.days() {
@@ -87,12 +87,12 @@ fn grid_sheet(bytes: &[u8]) -> Result<Sheet, Refusal> {
 }
 
 /// The sheet field by field; hands back its bytes and its year.
-fn sheet_fields<'a>(file: &mut Reader<'a>) -> Result<(&'a [u8], u16), Refusal> {
+fn sheet_fields<'a>(editions: &Editions, file: &mut Reader<'a>) -> Result<(&'a [u8], u16), Refusal> {
     let start = file.left;
     file.mark_and_version(b"HLZ")?;
-    let (year, _) = file.year_and_level()?;
+    let (year, edition, _) = file.year_and_level(editions)?;
     for _ in 0..4 {
-        if Quarters::from_bytes(file.field(QUARTERS / 8)?).count() > MOST_WINDOWS {
+        if Quarters::from_bytes(file.field(QUARTERS / 8)?).count() > edition.limit as u32 {
             return Err(Refusal::Malformed);
         }
     }
@@ -136,14 +136,14 @@ fn row_fields(file: &mut Reader) -> Result<Row, Refusal> {
     Ok(Row { capacity, energy })
 }
 
-fn customer_decision(bytes: &[u8]) -> Result<Decision, Refusal> {
+fn customer_decision(editions: &Editions, bytes: &[u8]) -> Result<Decision, Refusal> {
     let mut file = Reader { left: bytes };
     file.mark_and_version(b"CUS")?;
-    let (sheet, year) = sheet_fields(&mut file)?;
+    let (sheet, year) = sheet_fields(editions, &mut file)?;
     let option = option_field(&mut file)?;
     let holidays = holiday_fields(&mut file, year)?;
     let prices = Prices { low: row_fields(&mut file)?, high: row_fields(&mut file)? };
-    let (opened, mut state) = CustomerDays::open(sheet, option, &holidays, &prices);
+    let (opened, mut state) = CustomerDays::open_under(editions, sheet, option, &holidays, &prices);
     opened?;
     let sundays = Sundays::of_year(year);
     for day in 1..=year_days(year) {
@@ -192,7 +192,12 @@ fn refusal_text(refusal: Refusal) -> String {
 
 /// What the window program prints.
 pub fn window_program(bytes: &[u8]) -> String {
-    match grid_sheet(bytes) {
+    windows_text(&Editions::today(), bytes)
+}
+
+/// The text of a grid file by a list of editions.
+pub fn windows_text(editions: &Editions, bytes: &[u8]) -> String {
+    match grid_sheet(editions, bytes) {
         Ok(sheet) => sheet_text(&sheet),
         Err(refusal) => format!("REFUSED {}", refusal_text(refusal)),
     }
@@ -222,7 +227,12 @@ pub fn decision_text(decision: &Decision) -> String {
 
 /// What the statement program prints.
 pub fn statement_program(bytes: &[u8]) -> String {
-    match customer_decision(bytes) {
+    statement_text(&Editions::today(), bytes)
+}
+
+/// The text of a customer file by a list of editions.
+pub fn statement_text(editions: &Editions, bytes: &[u8]) -> String {
+    match customer_decision(editions, bytes) {
         Ok(decision) => decision_text(&decision),
         Err(refusal) => refusal_text(refusal),
     }

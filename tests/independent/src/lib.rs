@@ -1,9 +1,11 @@
 //! A second implementation of the rules (docs/RULES.md): what the two programs must print, for any file. It was written
 //! from the rules alone, in an earlier wording of them, and moved by the requests that changed them, not by the code.
 //! The comparison (tests/compare) holds the proved programs to it, and the benchmark (bench/run) measures beside it.
+//! A call that does not name an edition, or a list of them, goes by today's.
 
 pub mod calendar;
 pub mod decision;
+pub mod editions;
 pub mod files;
 pub mod layout;
 pub mod sheet;
@@ -33,6 +35,7 @@ pub enum Refusal {
     Malformed,
     Sequence,
     ShortBuffer,
+    Edition,
 }
 
 impl Refusal {
@@ -48,6 +51,7 @@ impl Refusal {
             Refusal::Malformed => 12,
             Refusal::Sequence => 13,
             Refusal::ShortBuffer => 14,
+            Refusal::Edition => 22,
         }
     }
 }

@@ -1,10 +1,9 @@
 //! The window sheet (Rules 5.1 to 5.4): 56 bytes, and what they mean.
 
-use crate::calendar::year_allowed;
+use crate::editions::Editions;
 use crate::{Refusal, QUARTERS};
 
 pub const SHEET_BYTES: usize = 56;
-pub const MOST_WINDOWS: u32 = 40;
 pub const VERSION: u16 = 1;
 const SEASON_BYTES: usize = QUARTERS / 8;
 const SEASONS_AT: usize = 8;
@@ -64,22 +63,20 @@ pub fn level_allowed(level: u8) -> bool {
 }
 
 impl Sheet {
-    /// Tests in the order 12 (length, mark, version), 1, 2, 12 (set bits).
-    pub fn read(bytes: &[u8]) -> Result<Sheet, Refusal> {
+    /// Tests in the order 12 (length, mark, version), 1, 2, 12 (set bits, by the edition of the sheet's year).
+    pub fn read(editions: &Editions, bytes: &[u8]) -> Result<Sheet, Refusal> {
         if bytes.len() != SHEET_BYTES || &bytes[..3] != b"HLZ" || u16::from_be_bytes([bytes[3], bytes[4]]) != VERSION {
             return Err(Refusal::Malformed);
         }
         let year = u16::from_be_bytes([bytes[5], bytes[6]]);
         let level = bytes[7];
-        if !year_allowed(year) {
-            return Err(Refusal::Year);
-        }
+        let edition = editions.of_year(year)?;
         if !level_allowed(level) {
             return Err(Refusal::Level);
         }
         let season = |at: usize| Quarters::from_bytes(&bytes[SEASONS_AT + SEASON_BYTES * at..][..SEASON_BYTES]);
         let seasons = [season(0), season(1), season(2), season(3)];
-        if seasons.iter().any(|quarters| quarters.count() > MOST_WINDOWS) {
+        if seasons.iter().any(|quarters| quarters.count() > edition.limit as u32) {
             return Err(Refusal::Malformed);
         }
         Ok(Sheet { year, level, seasons })

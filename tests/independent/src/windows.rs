@@ -1,8 +1,9 @@
 //! The windows (Rules 4.1 to 4.7): of a whole grid series, and day by day.
 
-use crate::calendar::{period_days, period_months, season_of_month, year_allowed};
+use crate::calendar::{period_days, period_months, season_of_month};
+use crate::editions::{Edition, Editions, TODAY};
 use crate::layout::{quarters, Sundays};
-use crate::sheet::{level_allowed, Quarters, Sheet, MOST_WINDOWS, SHEET_BYTES};
+use crate::sheet::{level_allowed, Quarters, Sheet, SHEET_BYTES};
 use crate::{bad_day, first_above, Refusal, QUARTERS};
 
 /// kW
@@ -44,22 +45,27 @@ pub fn highest(curves: &Curves) -> u32 {
 }
 
 /// A value on the line is not above it (Rule 4.4).
-pub fn above_line(curve_value: u32, peak: u32) -> bool {
-    20 * curve_value as u64 > 19 * peak as u64
+pub fn above_line(edition: &Edition, curve_value: u32, peak: u32) -> bool {
+    100 * curve_value as u64 > edition.line as u64 * peak as u64
 }
 
-/// The quarters above the line; of more than 40 those that Rule 4.5 keeps.
+/// Today's choice.
 pub fn kept_quarters(curve: &[u32; QUARTERS], peak: u32) -> Quarters {
+    kept_by(&TODAY, curve, peak)
+}
+
+/// The quarters above the line; of more than the limit those that Rule 4.5 keeps.
+pub fn kept_by(edition: &Edition, curve: &[u32; QUARTERS], peak: u32) -> Quarters {
     let mut above = [0; QUARTERS];
     let mut count = 0;
     for (quarter, &value) in curve.iter().enumerate() {
-        if above_line(value, peak) {
+        if above_line(edition, value, peak) {
             above[count] = quarter;
             count += 1;
         }
     }
     let above = &mut above[..count];
-    let most = MOST_WINDOWS as usize;
+    let most = edition.limit as usize;
     if count > most {
         above.sort_unstable_by_key(|&quarter| (!curve[quarter], quarter));
     }
@@ -70,23 +76,26 @@ pub fn kept_quarters(curve: &[u32; QUARTERS], peak: u32) -> Quarters {
     kept
 }
 
-fn sheet_of(year: u16, level: u8, curves: &Curves) -> Result<Sheet, Refusal> {
+fn sheet_of(edition: &Edition, year: u16, level: u8, curves: &Curves) -> Result<Sheet, Refusal> {
     let peak = highest(curves);
     if peak == 0 {
         return Err(Refusal::ZeroPeak);
     }
-    let seasons = [0, 1, 2, 3].map(|at: usize| kept_quarters(&curves[at], peak));
+    let seasons = [0, 1, 2, 3].map(|at: usize| kept_by(edition, &curves[at], peak));
     Ok(Sheet { year, level, seasons })
 }
 
-/// Order 14, 1, 2, 4, 5, 7 (Rule 8.2). Where it is accepted, the sheet is in the first 56 bytes of the buffer.
+/// By today's list.
 pub fn windows(year: u16, level: u8, series: &[u32], buffer: &mut [u8]) -> Result<Sheet, Refusal> {
+    windows_under(&Editions::today(), year, level, series, buffer)
+}
+
+/// Order 14, 1, 2, 4, 5, 7 (Rule 8.2). Where it is accepted, the sheet is in the first 56 bytes of the buffer.
+pub fn windows_under(editions: &Editions, year: u16, level: u8, series: &[u32], buffer: &mut [u8]) -> Result<Sheet, Refusal> {
     if buffer.len() < SHEET_BYTES {
         return Err(Refusal::ShortBuffer);
     }
-    if !year_allowed(year) {
-        return Err(Refusal::Year);
-    }
+    let edition = editions.of_year(year)?;
     if !level_allowed(level) {
         return Err(Refusal::Level);
     }
@@ -97,14 +106,15 @@ pub fn windows(year: u16, level: u8, series: &[u32], buffer: &mut [u8]) -> Resul
     if highest(&curves) > GRID_LIMIT {
         return Err(first_above(Sundays::of_period(year), series, GRID_LIMIT).unwrap_or(Refusal::Length));
     }
-    let sheet = sheet_of(year, level, &curves)?;
+    let sheet = sheet_of(&edition, year, level, &curves)?;
     sheet.write(buffer);
     Ok(sheet)
 }
 
-/// A grid series day by day.
+/// A grid series day by day, by the edition of its opening.
 #[derive(Clone, Copy, Debug, PartialEq, Eq)]
 pub struct GridDays {
+    edition: Edition,
     year: u16,
     level: u8,
     taken: u16,
@@ -118,20 +128,35 @@ pub struct GridDays {
 
 impl GridDays {
     /// The state of a refused opening: each day is 13, and so is closing (Rule 9.5).
-    const REFUSED: GridDays =
-        GridDays { year: 0, level: 0, taken: 1, days: 0, sundays: Sundays { short: 0, long: 0 }, season: 0, month_left: 0, curves: [[0; QUARTERS]; 4] };
+    const REFUSED: GridDays = GridDays {
+        edition: TODAY,
+        year: 0,
+        level: 0,
+        taken: 1,
+        days: 0,
+        sundays: Sundays { short: 0, long: 0 },
+        season: 0,
+        month_left: 0,
+        curves: [[0; QUARTERS]; 4],
+    };
 
+    /// By today's list.
     pub fn open(year: u16, level: u8) -> (Result<(), Refusal>, GridDays) {
-        if !year_allowed(year) {
-            return (Err(Refusal::Year), GridDays::REFUSED);
-        }
+        GridDays::open_under(&Editions::today(), year, level)
+    }
+
+    pub fn open_under(editions: &Editions, year: u16, level: u8) -> (Result<(), Refusal>, GridDays) {
+        let edition = match editions.of_year(year) {
+            Ok(edition) => edition,
+            Err(refusal) => return (Err(refusal), GridDays::REFUSED),
+        };
         if !level_allowed(level) {
             return (Err(Refusal::Level), GridDays::REFUSED);
         }
         let (month, month_left) = period_months(year)[0];
         let season = season_of_month(month) as u8 - 1;
         let (days, sundays) = (period_days(year), Sundays::of_period(year));
-        (Ok(()), GridDays { year, level, taken: 0, days, sundays, season, month_left, ..GridDays::REFUSED })
+        (Ok(()), GridDays { edition, year, level, taken: 0, days, sundays, season, month_left, ..GridDays::REFUSED })
     }
 
     pub fn days(&self) -> u16 {
@@ -180,7 +205,7 @@ impl GridDays {
         if self.taken != self.days {
             return Err(Refusal::Sequence);
         }
-        let sheet = sheet_of(self.year, self.level, &self.curves)?;
+        let sheet = sheet_of(&self.edition, self.year, self.level, &self.curves)?;
         sheet.write(buffer);
         Ok(sheet)
     }

@@ -2,12 +2,12 @@
 
 use independent::calendar::{carrying_days, day_of, weekday};
 use independent::decision::{judge, CustomerDays, Decision, Figures, InWindow, Prices, Row};
+use independent::editions::TODAY;
 use independent::files::{decision_text, statement_program, window_program};
 use independent::layout::Sundays;
+use independent::making::PRICES;
 use independent::windows::{above_line, kept_quarters, windows, GridDays};
 use independent::{Refusal, QUARTERS};
-
-const PRICES: Prices = Prices { low: Row { capacity: 2_000, energy: 4_000 }, high: Row { capacity: 10_000, energy: 800 } };
 
 fn figures(peak: u32, reading: u32, sum: u64) -> Figures {
     Figures { peak, sum, in_window: Some(InWindow { reading, day: 1, quarter: 0 }) }
@@ -102,7 +102,7 @@ fn cases_5_to_8() {
 
 #[test]
 fn cases_9_and_10() {
-    assert!(!above_line(1_900, 2_000) && above_line(1_901, 2_000));
+    assert!(!above_line(&TODAY, 1_900, 2_000) && above_line(&TODAY, 1_901, 2_000));
     let kept = kept_quarters(&[7; QUARTERS], 7);
     assert!((0..QUARTERS).all(|quarter| kept.has(quarter) == (quarter < 40)));
 }

@@ -1,14 +1,13 @@
 //! The two Sundays of the clock change (Rule 2.4). Their days, and the places of readings, were counted by hand.
 
 use independent::calendar::{day_of, last_sunday, weekday};
-use independent::decision::{decide, CustomerDays, Decision, Prices, Row};
+use independent::decision::{decide, CustomerDays, Decision};
 use independent::files::decision_text;
 use independent::layout::{quarters, Sundays};
+use independent::making::PRICES;
 use independent::sheet::{Quarters, Sheet};
 use independent::windows::{windows, GridDays};
 use independent::{Refusal, QUARTERS};
-
-const PRICES: Prices = Prices { low: Row { capacity: 2_000, energy: 4_000 }, high: Row { capacity: 10_000, energy: 800 } };
 
 /// Charge year, its period's days with 100 and with 92 readings, its own days with 92 and with 100.
 const COUNTED: [(u16, u16, u16, u16, u16); 3] = [(2014, 58, 212, 89, 299), (2025, 59, 213, 89, 299), (2026, 57, 211, 88, 298)];
@@ -21,7 +20,7 @@ fn sundays() {
         assert_eq!(Sundays::of_period(year), Sundays { short, long });
         assert_eq!(Sundays::of_year(year), Sundays { short: own_short, long: own_long });
     }
-    for year in 2012..=2028 {
+    for year in 2012..=2060 {
         for month in [3, 10] {
             let (sunday, end) = (last_sunday(year, month), day_of(year, month, 31));
             assert_eq!(weekday(year, sunday), 6);

@@ -2,6 +2,7 @@
 -- Assumes nothing.
 use mathlib.Core.Path.{ap, _∙_}
 use borrow.Author.Needs.{needs}
+use Rattle.editions.specs.Editions.{todays}
 use Rattle.tariff.specs.declared.Prices.{Prices}
 use Rattle.terms.specs.Basis.{basis}
 use Rattle.customer_days.specs.Days.{customerCloseAnswer}
@@ -17,7 +18,7 @@ returns c =
     c .of-decision .ensures
     ∙ ap numbersOf (c .before .close .ensures
     ∙ ap customerCloseAnswer (c .before .before .all-customer-days .ensures)
-    ∙ ap (λ (p : Prices). customerDaysAnswer (basis (a .sheet .now) (a .holidays .now) p (a .option)) (a .series .now))
+    ∙ ap (λ (p : Prices). customerDaysAnswer (basis todays (a .sheet .now) (a .holidays .now) p (a .option)) (a .series .now))
     (prices .prices-of .ensures))
 
 pub bench-customer-days-spec : {M : Type 1} → statement M

@@ -2,7 +2,6 @@
 -- Assumes nothing.
 use mathlib.Core.Path.{ap, _∙_}
 use borrow.Author.Needs.{needs}
-use Rattle.tariff.specs.declared.Prices.{Prices}
 use Rattle.terms.specs.Basis.{basis}
 use Rattle.customer.specs.Answers.{decideAnswer}
 use Rattle.answer_numbers.specs.Numbers.{numbersOf}
@@ -11,17 +10,19 @@ use Rattle.bench_customer.proofs.bench_decide.Tie as tie
 
 returns : tie.Need-returns
 returns c =
-    let prices = c .before .before in
+    let list = c .before .before in
+    let prices = list .before in
     let a = prices .before .before .before .before .args in
     c .of-decision .ensures
     ∙ ap numbersOf (c .before .decide .ensures
-    ∙ ap (λ (p : Prices). decideAnswer (basis (a .sheet .now) (a .holidays .now) p (a .option)) (a .series .now)) (prices .prices-of .ensures))
+    ∙ (λ i. decideAnswer (basis (list .todays .ensures i) (a .sheet .now) (a .holidays .now) (prices .prices-of .ensures i) (a .option)) (a .series .now)))
 
 pub bench-decide-spec : {M : Type 1} → statement M
 bench-decide-spec =
     tie.close
     (tie.spec
     (λ c κs. search needs)  -- prices-of-requires
+    (λ c κs. search needs)  -- todays-requires
     (λ c κs. search needs)  -- decide-requires
     (λ c κs. search needs)  -- of-decision-requires
     returns)

@@ -8,13 +8,15 @@ use Rattle.bench_grid.proofs.bench_windows.Tie as tie
 
 returns : tie.Need-returns
 returns c =
-    let called = c .before .before .before .windows .ensures in
+    let w = c .before .before .before in
+    let called = rw (w .before .before .todays .ensures) at (w .windows .ensures) in
     (c .of-answer .ensures ∙ ap numbersOf (called .0), called .1)
 
 pub bench-windows-spec : {M : Type 1} → statement M
 bench-windows-spec =
     tie.close
     (tie.spec
+    (λ c κs. search needs)  -- todays-requires
     (λ c κs. search needs)  -- windows-requires
     (λ c κs. search needs)  -- of-answer-requires
     (λ c. search needs)  -- same-length

@@ -2,12 +2,12 @@
 -- Assumes nothing.
 use mathlib.Core.Path.{_∙_}
 use borrow.Author.Needs.{needs}
-use Rattle.tariff.specs.Charges.{generalBy}
+use Rattle.tariff.specs.Charges.{general}
 use Rattle.charges.proofs.general_cents.Statement.{statement}
 use Rattle.charges.proofs.general_cents.Tie as tie
 
 returns : tie.Need-returns
-unfolding generalBy
+unfolding general
 returns c = c .charge-for .ensures ∙ rw (c .before .row-of .ensures .0, c .before .before .few-hours .ensures)
 
 pub general-cents-spec : {M : Type 1} → statement M

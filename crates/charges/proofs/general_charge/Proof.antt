@@ -3,7 +3,6 @@
 use mathlib.Core.Path.{_≡_, sym, _∙_}
 use mathlib.Core.Bool.{false}
 use borrow.Author.Needs.{needs}
-use Rattle.answers.specs.Edition.{today}
 use Rattle.tariff.specs.Prices.{pricesOut}
 use Rattle.tariff.proofs.Limits.{prices-legal}
 use Rattle.tariff.proofs.Answered.{general-out, general-in}
@@ -19,7 +18,6 @@ general-charge-spec =
     tie.close
     (tie.spec
     (λ c κs. search needs)  -- prices-out-requires
-    (λ c. general-out today _ _ (sym (c .before .prices-out .ensures) ∙ c .if1 .taken))  -- returns
-    (λ c κs. search needs)  -- today-requires
-    (λ c κs. prices-legal _ .0 (prices-at (c .before)))  -- general-cents-requires
-    (λ c. general-in today _ _ (prices-at (c .before .before)) (rw (c .before .today .ensures) at (c .general-cents .ensures))))
+    (λ c. general-out _ _ _ (sym (c .before .prices-out .ensures) ∙ c .if1 .taken))  -- returns
+    (λ c κs. prices-legal _ .0 (prices-at c))  -- general-cents-requires
+    (λ c. general-in _ _ _ (prices-at (c .before)) (c .general-cents .ensures)))

@@ -3,12 +3,12 @@
 -- Assumes nothing.
 use mathlib.Core.Path.{_∙_}
 use borrow.Author.Needs.{needs}
-use Rattle.tariff.specs.Charges.{reducedBy}
+use Rattle.tariff.specs.Charges.{reduced}
 use Rattle.charges.proofs.reduced_cents.Statement.{statement}
 use Rattle.charges.proofs.reduced_cents.Tie as tie
 
 returns : tie.Need-returns
-unfolding reducedBy
+unfolding reduced
 returns c = c .charge-for .ensures ∙ rw (c .before .row-of .ensures .0, c .before .before .before .few-hours .ensures)
 
 pub reduced-cents-spec : {M : Type 1} → statement M

@@ -11,11 +11,15 @@ use Rattle.customer_file.proofs.opened_after.Tie as tie
 
 returns : tie.Need-returns
 unfolding openedWith
-returns c = rw (lt-ltb _ _ (is-field (fits _ _) (c .before .before .span-of .ensures) (omega arith)))
+returns c =
+    let es = c .before .before .before .before .args .editions in
+    rw (lt-ltb _ _ (is-field (fits es _ _) (c .before .before .span-of .ensures es) (omega arith)))
 
 returns-2 : tie.Need-returns-2
 unfolding openedWith
-returns-2 c = rw (le-ltb _ _ (no-field (fits _ _) (c .before .before .before .span-of .ensures) (omega arith))) (c .opened .ensures)
+returns-2 c =
+    let es = c .before .before .before .before .before .args .editions in
+    rw (le-ltb _ _ (no-field (fits es _ _) (c .before .before .before .span-of .ensures es) (omega arith))) (c .opened .ensures)
 
 pub opened-after-spec : {M : Type 1} → statement M
 opened-after-spec =

@@ -19,10 +19,10 @@ returns c =
     let a = c .before .before .before .before .args in
     c .number-if .ensures
     ∙ ap (λ (t : Bool). numberIf t (getD firstNumbers (a .k) 0)) (c .before .first-fails .ensures)
-    ∙ first-number (a .head .now) (a .k) (omega arith)
+    ∙ first-number (a .editions) (a .head .now) (a .k) (omega arith)
 
 returns-2 : tie.Need-returns-2
-returns-2 c = c .holiday-no .ensures ∙ refusal-holiday _ _ (omega arith) (omega arith)
+returns-2 c = c .holiday-no .ensures ∙ refusal-holiday _ _ _ (omega arith) (omega arith)
 
 returns-3 : tie.Need-returns-3
 returns-3 c =
@@ -30,8 +30,8 @@ returns-3 c =
     let a = numberIf .before .before .before .args in
     let n = numberIf .holiday-count .ensures .0 in
     c .price-no .ensures
-    ∙ (λ i. fieldAt (priceFields (a .head .now)) (a .k - 12 - n i) .refusedAt (c .before .span-of .ensures i .start))
-    ∙ refusal-rest (a .head .now) (a .k) (omega arith)
+    ∙ (λ i. fieldAt (priceFields (a .head .now)) (a .k - 12 - n i) .refusedAt (c .before .span-of .ensures (a .editions) i .start))
+    ∙ refusal-rest (a .editions) (a .head .now) (a .k) (omega arith)
 
 pub refusal-spec : {M : Type 1} → statement M
 refusal-spec =

@@ -11,31 +11,31 @@ use Rattle.customer_head.proofs.span_of.Statement.{statement}
 use Rattle.customer_head.proofs.span_of.Tie as tie
 
 returns : tie.Need-returns
-returns c =
+returns c es =
     let a = c .before .before .args in
-    λ i. record { start = start-first (a .head .now) (a .k) (omega arith) i; width = width-first (a .head .now) (a .k) (omega arith) i }
+    λ i. record { start = start-first es (a .head .now) (a .k) (omega arith) i; width = width-first es (a .head .now) (a .k) (omega arith) i }
 
 returns-2 : tie.Need-returns-2
-returns-2 c =
+returns-2 c es =
     let a = c .before .before .before .before .args in
     λ i. record {
-      start = start-holiday (a .head .now) (a .k) (omega arith) (omega arith) i;
-      width = width-holiday (a .head .now) (a .k) (omega arith) (omega arith) i;
+      start = start-holiday es (a .head .now) (a .k) (omega arith) (omega arith) i;
+      width = width-holiday es (a .head .now) (a .k) (omega arith) (omega arith) i;
     }
 
 returns-3 : tie.Need-returns-3
-returns-3 c =
+returns-3 c es =
     let a = c .before .before .before .before .before .args in
     let n = c .before .before .holiday-count .ensures .0 in
-    let start = ap (λ (n : ℕ). 63 + 2 * n + 4 * (a .k - 12 - n)) n ∙ start-price (a .head .now) (a .k) (omega arith) (omega arith) in
-    λ i. record { start = start i; width = width-price (a .head .now) (a .k) (omega arith) (omega arith) i }
+    let start = ap (λ (n : ℕ). 63 + 2 * n + 4 * (a .k - 12 - n)) n ∙ start-price es (a .head .now) (a .k) (omega arith) (omega arith) in
+    λ i. record { start = start i; width = width-price es (a .head .now) (a .k) (omega arith) (omega arith) i }
 
 returns-4 : tie.Need-returns-4
-returns-4 c =
+returns-4 c es =
     let a = c .before .before .before .before .before .args in
-    let start = start-none (a .head .now) (a .k) (omega arith) in
-    let at : 63 + 2 * c .before .before .holiday-count .result + 16 ≡ startOf (customerLayout (a .head .now)) (a .k) = omega arith in
-    λ i. record { start = at i; width = width-none (a .head .now) (a .k) (omega arith) i }
+    let start = start-none es (a .head .now) (a .k) (omega arith) in
+    let at : 63 + 2 * c .before .before .holiday-count .result + 16 ≡ startOf (customerLayout es (a .head .now)) (a .k) = omega arith in
+    λ i. record { start = at i; width = width-none es (a .head .now) (a .k) (omega arith) i }
 
 pub span-of-spec : {M : Type 1} → statement M
 span-of-spec =

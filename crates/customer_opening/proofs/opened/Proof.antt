@@ -34,13 +34,14 @@ returns c =
     let cut = c .before .before .before .before in
     let asked = cut .before .before in
     let listed = asked .before .before in
-    let b = listed .before .before .before .args .head .now in
+    let a = listed .before .before .before .args in
+    let b = a .head .now in
     let from = cut .before .earlier .ensures in
     let to = cut .earlier2 .ensures in
     let sheet = (λ i. take (to i - from i) (drop (from i) b)) ∙ sheet-held b in
     let prices = asked .before .prices-of .ensures in
     let option = asked .byte-at .ensures in
-    c .before .«open» .ensures .state ∙ (λ i. openCustomer (basis (sheet i) (listed-are listed i) (prices i) (eqb (option i) 1)))
+    c .before .«open» .ensures .state ∙ (λ i. openCustomer (basis (a .editions) (sheet i) (listed-are listed i) (prices i) (eqb (option i) 1)))
 
 pub opened-spec : {M : Type 1} → statement M
 opened-spec =

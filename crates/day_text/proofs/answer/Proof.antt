@@ -7,7 +7,7 @@ use native.Mathlib.Omega.{arith}
 use borrow.Author.Needs.{needs}
 use lib.ListN.{length, take}
 use lib.Seq.{length-take-le}
-use Rattle.answers.specs.Ruling.{yearOut}
+use Rattle.editions.specs.Editions.{todays, editionOf, yearOut}
 use Rattle.calendar.specs.Answer.{calendarAnswer}
 use Rattle.day_text.specs.Asked.{yearAt, listedDays}
 use Rattle.day_text.proofs.Laws.{year-told, date-told, calendar-told}
@@ -18,11 +18,12 @@ use Rattle.day_text.proofs.answer.Tie as tie
 abbrev asked : tie.After-listed-days → List ℕ
 asked e =
     let tested-dates = e .before .before .before in
-    tested-dates .before .before .before .before .before .args .b .now
+    let tested-year = tested-dates .before .before in
+    tested-year .before .before .before .before .args .b .now
 
 -- the year's test
-tested : (e : tie.After-year-out) → e .year-out .result ≡ yearOut (yearAt (e .before .before .before .args .b .now) 0)
-tested e = e .year-out .ensures ∙ ap yearOut (e .before .year-at .ensures)
+tested : (e : tie.After-year-out) → e .year-out .result ≡ yearOut todays (yearAt (e .before .before .before .before .args .b .now) 0)
+tested e = e .year-out .ensures ∙ (λ i. yearOut (e .before .todays .ensures i) (e .before .before .year-at .ensures i))
 
 returns-2 : tie.Need-returns-2
 returns-2 c =
@@ -45,9 +46,10 @@ returns-3 c =
     let listed = day .before .before in
     let known = listed .before .before in
     let inside = known .before .before in
-    let year = inside .before .before .year-at .ensures in
+    let list = inside .before .before in
+    let year = list .before .year-at .ensures in
     c .day-kind .ensures
-    ∙ (λ i. calendarAnswer (year i) (listed-are listed i) (day .day-at .ensures i))
+    ∙ (λ i. calendarAnswer (editionOf (list .todays .ensures i) (year i)) (year i) (listed-are listed i) (day .day-at .ensures i))
     ∙ calendar-told _ (sym (tested (inside .before)) ∙ inside .if1 .left) (sym (known .before .no-such-date .ensures) ∙ known .if2 .left)
 
 pub answer-spec : {M : Type 1} → statement M
@@ -55,6 +57,7 @@ answer-spec =
     tie.close
     (tie.spec
     (λ c κs. search needs)  -- year-at-requires
+    (λ c κs. search needs)  -- todays-requires
     (λ c κs. search needs)  -- year-out-requires
     (λ c. year-told _ (sym (tested (c .before)) ∙ c .if1 .taken))  -- returns
     (λ c κs. search needs)  -- no-such-date-requires

@@ -8,7 +8,6 @@ use Prim.Native.Nat.{ℕ}
 use native.Mathlib.Omega.{arith}
 use borrow.Author.Needs.{needs}
 use types.Run.{miss}
-use Rattle.answers.specs.Edition.{today}
 use Rattle.answers.specs.Ruling.{levelOut}
 use Rattle.tariff.specs.declared.TwoCharges.{TwoCharges}
 use Rattle.tariff.specs.declared.Decision.the-variants.{Eligible}
@@ -35,45 +34,44 @@ level-at e = sym (e .before .level-out .ensures) ∙ e .if1 .left
 cents-at :
     (e : tie.After-asked)
     → let a = e .before .before .before .before .before .args in
-    (pricesOut (a .rates .prices) ≡ false) × (e .asked .given .0 .0 ≡ chargesOf today (a .figures) (a .rates))
-cents-at e = charges-cents today _ _ (ap saidOfCharges (sym (e .asked .given .1)) ∙ e .before .before .both-charges .ensures)
+    (pricesOut (a .rates .prices) ≡ false) × (e .asked .given .0 .0 ≡ chargesOf (a .edition) (a .figures) (a .rates))
+cents-at e = charges-cents _ _ _ (ap saidOfCharges (sym (e .asked .given .1)) ∙ e .before .before .both-charges .ensures)
 
 legal-at : (e : tie.After-asked) → LegalRates (e .before .before .before .before .before .args .rates)
 legal-at e = rates-legal (level-at (e .before .before .before)) (cents-at e .0)
 
 eligible-rules-requires : tie.Need-eligible-rules-requires
 eligible-rules-requires c κs =
-    let e = c .before .before in
-    (legal-at e .legal-level, rw (c .today .ensures) (ap (λ (b : TwoCharges). b .general) (cents-at e .1)))
+    let e = c .before in
+    (legal-at e .legal-level, ap (λ (b : TwoCharges). b .general) (cents-at e .1))
 
 -- what the first half says
 first-at :
     (c : tie.After-eligible-rules)
-    → let e = c .before .before .before in
+    → let e = c .before .before in
     let a = e .before .before .before .before .before .args in
-    saidOf (c .eligible-rules .result) ≡ eligibleAnswer (a .figures) (a .rates)
+    saidOf (c .eligible-rules .result) ≡ eligibleAnswer (a .edition) (a .figures) (a .rates)
 first-at c =
-    rw (c .before .today .ensures) at (c .eligible-rules .ensures) ∙ eligible-legal today _ _ (legal-at (c .before .before .before))
+    c .eligible-rules .ensures ∙ eligible-legal _ _ _ (legal-at (c .before .before))
 
 returns-2 : tie.Need-returns-2
 returns-2 c =
     let asked = c .before .before in
-    let six = charges-six today _ _ (ap saidOfCharges (sym (c .enum-told .given .1)) ∙ asked .both-charges .ensures) in
-    judge-first today _ _ (eligible-prices today _ _ (level-at (asked .before)) six) (omega arith)
+    let six = charges-six _ _ _ (ap saidOfCharges (sym (c .enum-told .given .1)) ∙ asked .both-charges .ensures) in
+    judge-first _ _ _ (eligible-prices _ _ _ (level-at (asked .before)) six) (omega arith)
 
 returns-3 : tie.Need-returns-3
 returns-3 c =
     let first = c .before .before .before in
-    let e = first .before .before .before in
-    let second = rw (first .before .today .ensures) at (c .charge-rules .ensures) in
+    let e = first .before .before in
     let z = number-is (sym (first-at first) ∙ ap saidOf (c .before .enum-told2 .given .1)) in
-    judge-second today _ _ z (second _ (cents-at e .1) ∙ charge-legal today _ _ (legal-at e .legal-prices))
+    judge-second _ _ _ z (c .charge-rules .ensures _ (cents-at e .1) ∙ charge-legal _ _ _ (legal-at e .legal-prices))
 
 returns-4 : tie.Need-returns-4
 returns-4 c =
     let said = first-at (c .before) in
-    judge-first today _ _ said (λ z.
-    let same : c .before .eligible-rules .result ≡ Eligible = decision-only said (eligible-zero today _ _ (sym (number-is said) ∙ z)) in
+    judge-first _ _ _ said (λ z.
+    let same : c .before .eligible-rules .result ≡ Eligible = decision-only said (eligible-zero _ _ _ (sym (number-is said) ∙ z)) in
     miss others 1 tt (rw same at (c .match2 .keys2)))
 
 pub judge-spec : {M : Type 1} → statement M
@@ -81,12 +79,11 @@ judge-spec =
     tie.close
     (tie.spec
     (λ c κs. search needs)  -- level-out-requires
-    (λ c. judge-first today _ _ (eligible-level today _ _ (sym (c .before .level-out .ensures) ∙ c .if1 .taken)) (omega arith))  -- returns
+    (λ c. judge-first _ _ _ (eligible-level _ _ _ (sym (c .before .level-out .ensures) ∙ c .if1 .taken)) (omega arith))  -- returns
     (λ c κs. search needs)  -- both-charges-requires
     (λ c. search needs)  -- enum-known-asked
     (λ c. search needs)  -- enum-told
     returns-2
-    (λ c κs. search needs)  -- today-requires
     eligible-rules-requires
     (λ c. search needs)  -- enum-told-2
     (λ c κs. search needs)  -- charge-rules-requires

@@ -18,6 +18,7 @@ main-spec =
     Inv-loop
     μ-loop
     (λ c κs. search needs)  -- arg-count-requires
+    (λ c κs. search needs)  -- print-listed-requires
     (λ c. search needs)  -- loop-holds
     (λ c κs. search needs)  -- one-requires
     (λ c. search needs)  -- add-i

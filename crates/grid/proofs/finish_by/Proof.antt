@@ -21,22 +21,22 @@ returns-2 c flat is high =
     let laid = wrote .before .before in
     let chose = laid .before in
     let a = chose .before .before .before .args in
-    let rows = chose .chosen .ensures ∙ ap (chosenOf (a .peak)) is ∙ ap (λ (k : ℕ). chosenOf k (curvesOf flat)) high in
+    let rows = chose .chosen .ensures ∙ ap (chosenOf (a .edition) (a .peak)) is ∙ ap (λ (k : ℕ). chosenOf (a .edition) k (curvesOf flat)) high in
     let quarters = laid .flat-windows .ensures ∙ ap flatWindows rows in
     let same : _≡_ {A = Sheet} (record { year = a .year; level = a .level; windows = laid .flat-windows .result })
-    (sheetOf (a .year) (a .level) flat) = λ i. record { year = a .year; level = a .level; windows = quarters i } in
-    finish-sheet (a .year) (a .level) flat (a .out .now) (omega arith)
-    (c .as-grid-answer .ensures ∙ (wrote .write .ensures .0 ∙ ap (λ (x : Sheet). writeAnswer x (length (a .out .now))) same))
-    (wrote .write .ensures .1 ∙ ap (λ (x : Sheet). written x (a .out .now)) same)
+    (sheetOf (a .edition) (a .year) (a .level) flat) = λ i. record { year = a .year; level = a .level; windows = quarters i } in
+    finish-sheet (a .edition) (a .year) (a .level) flat (a .out .now) (omega arith)
+    (c .as-grid-answer .ensures ∙ (wrote .write-by .ensures .0 ∙ ap (λ (x : Sheet). writeAnswer (a .edition) x (length (a .out .now))) same))
+    (wrote .write-by .ensures .1 ∙ ap (λ (x : Sheet). written (a .edition) x (a .out .now)) same)
 
 pub finish-by-spec : {M : Type 1} → statement M
 finish-by-spec =
     tie.close
     (tie.spec
-    (λ c flat is high. finish-none _ _ _ _ (omega arith))  -- returns
+    (λ c flat is high. finish-none _ _ _ _ _ (omega arith))  -- returns
     (λ c κs. search needs)  -- chosen-requires
     (λ c κs. search needs)  -- flat-windows-requires
-    (λ c κs. search needs)  -- write-requires
+    (λ c κs. search needs)  -- write-by-requires
     (λ c κs. search needs)  -- as-grid-answer-requires
     (λ c. search needs)  -- same-length
     returns-2)

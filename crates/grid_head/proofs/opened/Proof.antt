@@ -2,6 +2,7 @@
 -- Assumes nothing.
 use mathlib.Core.Path.{_∙_}
 use borrow.Author.Needs.{needs}
+use Rattle.editions.specs.Editions.{editionOf}
 use Rattle.grid_days.specs.Days.{openGrid}
 use Rattle.grid_head.proofs.opened.Statement.{statement}
 use Rattle.grid_head.proofs.opened.Tie as tie
@@ -10,7 +11,7 @@ returns : tie.Need-returns
 returns c =
     let year = c .before .before .before .two-at .ensures in
     let level = c .before .before .byte-at .ensures in
-    c .before .«open» .ensures .1 ∙ (λ i. openGrid (year i) (level i))
+    c .before .«open» .ensures .1 ∙ (λ i. openGrid (editionOf (c .before .before .before .before .before .args .editions) (year i)) (year i) (level i))
 
 pub opened-spec : {M : Type 1} → statement M
 opened-spec =

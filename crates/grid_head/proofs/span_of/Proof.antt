@@ -7,14 +7,14 @@ use Rattle.grid_head.proofs.span_of.Statement.{statement}
 use Rattle.grid_head.proofs.span_of.Tie as tie
 
 returns : tie.Need-returns
-returns c =
+returns c es =
     let a = c .before .args in
-    λ i. record { start = grid-start (a .head .now) (a .k) (omega arith) i; width = grid-width (a .head .now) (a .k) (omega arith) i }
+    λ i. record { start = grid-start es (a .head .now) (a .k) (omega arith) i; width = grid-width es (a .head .now) (a .k) (omega arith) i }
 
 returns-2 : tie.Need-returns-2
-returns-2 c =
+returns-2 c es =
     let a = c .before .args in
-    λ i. record { start = start-none (a .head .now) (a .k) (omega arith) i; width = width-none (a .head .now) (a .k) (omega arith) i }
+    λ i. record { start = start-none es (a .head .now) (a .k) (omega arith) i; width = width-none es (a .head .now) (a .k) (omega arith) i }
 
 pub span-of-spec : {M : Type 1} → statement M
 span-of-spec =

@@ -16,7 +16,7 @@ use Rattle.grid_text.proofs.closed.Tie as tie
 
 -- once the series is closed: the series, and its number
 abbrev series : tie.After-of-answer → Grid
-series e = e .before .before .before .before .before .args .grid
+series e = let closed = e .before .before in closed .before .before .before .before .args .grid
 
 number : (e : tie.After-of-answer) → e .of-answer .result .number ≡ gridCloseAnswer (series e) sheetSize .number
 number e = ap (λ (f : Numbers). f .number) (e .of-answer .ensures) ∙ ap (λ (x : Said). x .number) (e .before .before .close .ensures .0)
@@ -33,7 +33,7 @@ returns-2 c =
     let read = lines .before .before .before .before .before in
     let told = read .before .before in
     let e = told .before in
-    let sheet = ap (λ (r : ReadSaid). r .sheet) (read .read .ensures) ∙ ap readSheet (e .before .before .close .ensures .1) in
+    let sheet = ap (λ (r : ReadSaid). r .sheet) (read .read-by .ensures) ∙ ap (readSheet (series e .edition)) (e .before .before .close .ensures .1) in
     put-as (ap sheetText sheet ∙ closed-done (series e) (sym (number e) ∙ told .if1 .left)) (lines .windows-text .ensures)
 
 pub closed-spec : {M : Type 1} → statement M
@@ -47,7 +47,7 @@ closed-spec =
     (λ c. search needs)  -- same-length
     returns
     (λ c. search needs)  -- slice-aggregate-read
-    (λ c κs. search needs)  -- read-requires
+    (λ c κs. search needs)  -- read-by-requires
     (λ c κs. search needs)  -- windows-text-requires
     (λ c. search needs)  -- same-length-2
     returns-2)

@@ -16,6 +16,7 @@ run-spec =
     (tie.spec
     Inv-loop
     μ-loop
+    (λ c κs. search needs)  -- todays-requires
     (λ c κs. search needs)  -- start-requires
     (λ c. search needs)  -- loop-holds
     (λ c κs. search needs)  -- want-requires

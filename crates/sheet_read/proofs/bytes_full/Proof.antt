@@ -10,19 +10,19 @@ returns c =
     let third = c .before in
     let second = third .before in
     let first = second .before in
-    rw (first .season-full-by .ensures, second .season-full-by2 .ensures, third .season-full-by3 .ensures, c .season-full-by4 .ensures)
+    rw (first .season-full .ensures, second .season-full2 .ensures, third .season-full3 .ensures, c .season-full4 .ensures)
     (full-bytes _ _)
 
 pub bytes-full-spec : {M : Type 1} → statement M
 bytes-full-spec =
     tie.close
     (tie.spec
-    (λ c. search needs)  -- array-read-season-full-by
-    (λ c κs. search needs)  -- season-full-by-requires
-    (λ c. search needs)  -- array-read-season-full-by-2
-    (λ c κs. search needs)  -- season-full-by-requires-2
-    (λ c. search needs)  -- array-read-season-full-by-3
-    (λ c κs. search needs)  -- season-full-by-requires-3
-    (λ c. search needs)  -- array-read-season-full-by-4
-    (λ c κs. search needs)  -- season-full-by-requires-4
+    (λ c. search needs)  -- array-read-season-full
+    (λ c κs. search needs)  -- season-full-requires
+    (λ c. search needs)  -- array-read-season-full-2
+    (λ c κs. search needs)  -- season-full-requires-2
+    (λ c. search needs)  -- array-read-season-full-3
+    (λ c κs. search needs)  -- season-full-requires-3
+    (λ c. search needs)  -- array-read-season-full-4
+    (λ c κs. search needs)  -- season-full-requires-4
     returns)

@@ -1,10 +1,12 @@
-//! Holds the two programs to the independent implementation, byte by byte, on seeded files.
-//! compare COUNT SEED all|first PROGRAMS KEPT [WORD...]: COUNT files of each kind; PROGRAMS is the folder of hlz and
-//! statement; the words start a program; a file that is answered otherwise is kept in the folder KEPT. `first` stops at
-//! the first such file.
+//! Holds the two programs to the independent implementation, byte by byte, on seeded files. Every fourth file goes to
+//! the program file_cases instead, with a list of editions of its own before it.
+//! compare COUNT SEED all|first PROGRAMS KEPT [WORD...]: COUNT files of each kind; PROGRAMS is the folder of hlz,
+//! statement and file_cases; the words start a program; a file that is answered otherwise is kept in the folder KEPT,
+//! as the program was given it. `first` stops at the first such file.
 
-use independent::files::{statement_program, window_program};
-use independent::making::{customer_file, grid_file, Made, Random};
+use independent::editions::Editions;
+use independent::files::{statement_text, windows_text};
+use independent::making::{customer_file, grid_file, some_list, List, Made, Random};
 use std::collections::BTreeMap;
 use std::io::{self, Write};
 use std::path::{Path, PathBuf};
@@ -13,15 +15,22 @@ use std::time::{Duration, Instant};
 
 const MOST_SHOWN: u64 = 10;
 const BETWEEN_PROGRESS: Duration = Duration::from_secs(2);
+/// Of so many files of a kind the last has a list of editions of its own.
+const OWN_LIST_EVERY: u64 = 4;
+const UNDER_A_LIST: &str = "file_cases";
 
 struct Kind {
     program: &'static str,
-    make: fn(&mut Random) -> Made,
-    expect: fn(&[u8]) -> String,
+    /// what file_cases knows the kind by
+    letter: u8,
+    make: fn(&mut Random, &List) -> Made,
+    expect: fn(&Editions, &[u8]) -> String,
 }
 
-const KINDS: [Kind; 2] =
-    [Kind { program: "hlz", make: grid_file, expect: window_program }, Kind { program: "statement", make: customer_file, expect: statement_program }];
+const KINDS: [Kind; 2] = [
+    Kind { program: "hlz", letter: b'G', make: grid_file, expect: windows_text },
+    Kind { program: "statement", letter: b'C', make: customer_file, expect: statement_text },
+];
 
 struct Plan {
     count: u64,
@@ -68,8 +77,8 @@ impl Plan {
 struct Tally {
     passed: u64,
     failed: u64,
-    /// how often each number was to be answered, for each program
-    numbers: BTreeMap<(&'static str, u8), u64>,
+    /// how often each number was to be answered, for each kind, under today's list or under another
+    numbers: BTreeMap<(&'static str, bool, u8), u64>,
 }
 
 /// The number that an expected text answers.
@@ -83,12 +92,31 @@ fn number_of(text: &str) -> u8 {
     }
 }
 
-fn show_difference(plan: &Plan, kind: &Kind, index: u64, made: &Made, expected: &str, came: &[u8]) -> io::Result<()> {
+/// What a program is given, and how it was made.
+struct Given {
+    program: &'static str,
+    recipe: String,
+    bytes: Vec<u8>,
+    expected: String,
+}
+
+fn given(kind: &Kind, random: &mut Random, own_list: bool) -> Given {
+    let list = if own_list { some_list(random) } else { List::today() };
+    let made = (kind.make)(random, &list);
+    let expected = (kind.expect)(&list.loaded, &made.bytes);
+    if !own_list {
+        return Given { program: kind.program, recipe: made.recipe, bytes: made.bytes, expected };
+    }
+    let bytes = [&[kind.letter][..], &list.bytes(), &made.bytes].concat();
+    Given { program: UNDER_A_LIST, recipe: format!("{}, {} editions given", made.recipe, list.given.len()), bytes, expected }
+}
+
+fn show_difference(plan: &Plan, kind: &Kind, index: u64, given: &Given, came: &[u8]) -> io::Result<()> {
     std::fs::create_dir_all(&plan.kept)?;
     let name = format!("{}-{}-{}", kind.program, plan.seed, index);
-    std::fs::write(plan.kept.join(&name), &made.bytes)?;
-    println!("differs: {} on {} ({}, {} bytes)", kind.program, name, made.recipe, made.bytes.len());
-    println!("  expected: {}", expected.escape_debug());
+    std::fs::write(plan.kept.join(&name), &given.bytes)?;
+    println!("differs: {} on {} ({}, {} bytes)", given.program, name, given.recipe, given.bytes.len());
+    println!("  expected: {}", given.expected.escape_debug());
     println!("  came:     {}", String::from_utf8_lossy(came).escape_debug());
     Ok(())
 }
@@ -96,17 +124,17 @@ fn show_difference(plan: &Plan, kind: &Kind, index: u64, made: &Made, expected: 
 fn compare_one(plan: &Plan, kind: &Kind, index: u64, tally: &mut Tally) -> io::Result<()> {
     // each file has a seed of its own, so that one can be made without those before it
     let mut random = Random::new(Random::new(plan.seed ^ (kind.program.len() as u64) << 56).next() ^ index);
-    let made = (kind.make)(&mut random);
-    let expected = (kind.expect)(&made.bytes);
-    let came = plan.run(kind.program, &made.bytes)?;
-    *tally.numbers.entry((kind.program, number_of(&expected))).or_default() += 1;
-    if came == expected.as_bytes() {
+    let own_list = index % OWN_LIST_EVERY == OWN_LIST_EVERY - 1;
+    let given = given(kind, &mut random, own_list);
+    let came = plan.run(given.program, &given.bytes)?;
+    *tally.numbers.entry((kind.program, own_list, number_of(&given.expected))).or_default() += 1;
+    if came == given.expected.as_bytes() {
         tally.passed += 1;
         return Ok(());
     }
     tally.failed += 1;
     if tally.failed <= MOST_SHOWN {
-        show_difference(plan, kind, index, &made, &expected, &came)?;
+        show_difference(plan, kind, index, &given, &came)?;
     }
     Ok(())
 }
@@ -130,10 +158,10 @@ fn compare_all(plan: &Plan) -> io::Result<Tally> {
 }
 
 fn show_numbers(tally: &Tally) {
-    for kind in &KINDS {
-        let of_kind = tally.numbers.iter().filter(|((program, _), _)| *program == kind.program);
-        let texts: Vec<String> = of_kind.map(|((_, number), times)| format!("{number}: {times}")).collect();
-        println!("{} was to answer {}", kind.program, texts.join(", "));
+    for (kind, own_list) in KINDS.iter().flat_map(|kind| [(kind, false), (kind, true)]) {
+        let of_kind = tally.numbers.iter().filter(|((program, own, _), _)| (*program, *own) == (kind.program, own_list));
+        let texts: Vec<String> = of_kind.map(|((_, _, number), times)| format!("{number}: {times}")).collect();
+        println!("{}{} was to answer {}", kind.program, if own_list { ", under other editions," } else { "" }, texts.join(", "));
     }
 }
 
@@ -142,9 +170,9 @@ fn main() -> ExitCode {
         eprintln!("compare COUNT SEED all|first PROGRAMS KEPT [WORD...]");
         return ExitCode::from(2);
     };
-    let missing = |kind: &&Kind| !Path::new(&plan.programs.join(kind.program)).exists();
-    if let Some(kind) = KINDS.iter().find(missing) {
-        eprintln!("compare: there is no program {} in {}", kind.program, plan.programs.display());
+    let missing = |program: &&str| !Path::new(&plan.programs.join(program)).exists();
+    if let Some(program) = KINDS.iter().map(|kind| kind.program).chain([UNDER_A_LIST]).find(|program| missing(&program)) {
+        eprintln!("compare: there is no program {program} in {}", plan.programs.display());
         return ExitCode::from(2);
     }
     println!("seed {}, {} files of each kind", plan.seed, plan.count);

@@ -4,8 +4,9 @@ use super::damage::{damage, Layout};
 use super::exact::{some_prices, some_target};
 use super::holidays::{broken_holidays, some_holidays};
 use super::series::{calendar_probe, fitted, flat, noise, Year};
-use super::{some_year, spoil, Made, Random};
+use super::{some_year, spoil, List, Made, Random};
 use crate::decision::{Prices, CAPACITY_LIMIT, CUSTOMER_LIMIT, ENERGY_LIMIT};
+use crate::editions::Edition;
 use crate::sheet::{Quarters, Sheet, SHEET_BYTES};
 use crate::QUARTERS;
 
@@ -28,26 +29,26 @@ fn set_at_random(random: &mut Random, count: u32) -> Quarters {
     quarters
 }
 
-fn some_quarters(random: &mut Random) -> Quarters {
+fn some_quarters(random: &mut Random, limit: u8) -> Quarters {
     let mut quarters = Quarters::default();
     match random.below(6) {
         0 => {}
-        1 => quarters = set_at_random(random, 40),
-        2 => (56..96).for_each(|quarter| quarters.set(quarter)),
+        1 => quarters = set_at_random(random, limit as u32),
+        2 => (QUARTERS - limit as usize..QUARTERS).for_each(|quarter| quarters.set(quarter)),
         3 => quarters.set(*random.pick(&[0, 7, 8, 31, 32, 63, 64, 72, 94, 95])),
         _ => {
-            let count = random.between(1, 39) as u32;
+            let count = random.between(1, (limit as u64 - 1).max(1)) as u32;
             quarters = set_at_random(random, count)
         }
     }
     quarters
 }
 
-fn some_seasons(random: &mut Random) -> [Quarters; 4] {
+fn some_seasons(random: &mut Random, limit: u8) -> [Quarters; 4] {
     if random.percent(5) {
         return Default::default();
     }
-    [(); 4].map(|_| some_quarters(random))
+    [(); 4].map(|_| some_quarters(random, limit))
 }
 
 impl Header {
@@ -66,7 +67,7 @@ impl Header {
         }
     }
 
-    fn spoil(&mut self, random: &mut Random, year: u16) -> &'static str {
+    fn spoil(&mut self, random: &mut Random, year: u16, limit: u8) -> &'static str {
         match random.below(12) {
             0 => self.mark = **random.pick(&[b"CUT", b"GRD", b"HLZ", b"cus"]),
             1 => self.version = *random.pick(&[0, 2, 256, 257]),
@@ -76,7 +77,8 @@ impl Header {
             5 => self.sheet[7] = *random.pick(&[0, 8, 255]),
             6 => {
                 let season = 8 + 12 * random.below(4) as usize;
-                let count = *random.pick(&[41, 41, 42, 96]);
+                let above = limit as u32 + 1;
+                let count = (*random.pick(&[above, above, above + 1, 41, 96])).min(QUARTERS as u32);
                 self.sheet[season..season + 12].copy_from_slice(&set_at_random(random, count).to_bytes());
             }
             7 => self.option = *random.pick(&[2, 3, 128, 255]),
@@ -112,10 +114,10 @@ impl Header {
     }
 }
 
-fn some_series(random: &mut Random, level: u8, year: &Year, holidays: &[u16], prices: &mut Prices) -> (&'static str, Vec<u32>) {
+fn some_series(random: &mut Random, edition: &Edition, level: u8, year: &Year, holidays: &[u16], prices: &mut Prices) -> (&'static str, Vec<u32>) {
     match random.below(20) {
         0..=9 => {
-            let (name, target) = some_target(random, level, prices);
+            let (name, target) = some_target(random, edition, level, prices);
             (name, fitted(random, year, &target))
         }
         10..=16 => ("calendar probe", calendar_probe(random, year, holidays)),
@@ -124,16 +126,18 @@ fn some_series(random: &mut Random, level: u8, year: &Year, holidays: &[u16], pr
     }
 }
 
-pub fn customer_file(random: &mut Random) -> Made {
-    let sheet = Sheet { year: some_year(random), level: random.between(1, 7) as u8, seasons: some_seasons(random) };
+pub fn customer_file(random: &mut Random, list: &List) -> Made {
+    let charge_year = some_year(random, list);
+    let edition = list.edition(charge_year);
+    let sheet = Sheet { year: charge_year, level: random.between(1, 7) as u8, seasons: some_seasons(random, edition.limit) };
     let holidays = some_holidays(random, sheet.year);
     let mut prices = some_prices(random);
     let year = Year::new(sheet.year, &sheet.seasons, &holidays);
-    let (name, mut series) = some_series(random, sheet.level, &year, &holidays, &mut prices);
+    let (name, mut series) = some_series(random, &edition, sheet.level, &year, &holidays, &mut prices);
     let mut recipe = format!("customer file, {name}");
     let mut header = Header::new(&sheet, random.percent(50), &holidays, &prices);
     if random.percent(15) {
-        recipe += header.spoil(random, sheet.year);
+        recipe += header.spoil(random, sheet.year, edition.limit);
     }
     if random.percent(6) {
         spoil(random, year.sundays, &mut series, CUSTOMER_LIMIT);

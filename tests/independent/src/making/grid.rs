@@ -1,9 +1,10 @@
-//! Grid files: curves at the line, ties for the forty, peaks at the seasons' borders and about the clock change, bad
-//! readings.
+//! Grid files: curves at the line, ties for the last windows that are kept, peaks at the seasons' borders and about the
+//! clock change, bad readings.
 
 use super::damage::{damage, Layout};
-use super::{about_sundays, near, some_position, some_year, spoil, Made, Random};
-use crate::calendar::{period_months, season_of_month, year_allowed};
+use super::{about_sundays, near, some_position, some_year, spoil, List, Made, Random, MADE_FOR};
+use crate::calendar::{period_months, season_of_month};
+use crate::editions::Edition;
 use crate::layout::{quarters, Sundays};
 use crate::windows::GRID_LIMIT;
 use crate::QUARTERS;
@@ -12,6 +13,7 @@ const HEADER_BORDERS: [usize; 4] = [3, 5, 7, 8];
 
 /// Days count from 1.
 struct Period {
+    edition: Edition,
     days: u16,
     sundays: Sundays,
     /// the days of each season
@@ -21,8 +23,8 @@ struct Period {
 }
 
 impl Period {
-    fn new(year: u16) -> Period {
-        let mut period = Period { days: 0, sundays: Sundays::of_period(year), seasons: Default::default(), borders: Vec::new() };
+    fn new(edition: Edition, year: u16) -> Period {
+        let mut period = Period { edition, days: 0, sundays: Sundays::of_period(year), seasons: Default::default(), borders: Vec::new() };
         for (month, length) in period_months(year) {
             let (first, last) = (period.days + 1, period.days + length);
             period.seasons[season_of_month(month) - 1].extend(first..=last);
@@ -34,6 +36,11 @@ impl Period {
 
     fn readings(&self) -> usize {
         self.days as usize * QUARTERS
+    }
+
+    /// The highest value that is not above the line of a peak.
+    fn line(&self, peak: u32) -> u32 {
+        (self.edition.line as u64 * peak as u64 / 100) as u32
     }
 
     /// A place of the series that stands for a season's quarter.
@@ -60,10 +67,10 @@ fn some_peak(random: &mut Random) -> u32 {
     }
 }
 
-/// Values at the line: 19 twentieths of the peak, one less, one more.
+/// Values at the line, one less, one more.
 fn at_the_line(random: &mut Random, period: &Period) -> Vec<u32> {
     let peak = some_peak(random);
-    let line = (19 * peak as u64 / 20) as u32;
+    let line = period.line(peak);
     let mut series = vec![random.below(line as u64 / 2 + 1) as u32; period.readings()];
     for _ in 0..random.between(1, 120) {
         let (season, quarter) = (random.below(4) as usize, random.below(QUARTERS as u64) as usize);
@@ -75,13 +82,15 @@ fn at_the_line(random: &mut Random, period: &Period) -> Vec<u32> {
     series
 }
 
-/// In each season about forty quarters above the line, with few values among them.
+/// In each season about as many quarters above the line as are kept, with few values among them.
 fn ties(random: &mut Random, period: &Period) -> Vec<u32> {
     let peak = some_peak(random).max(100);
-    let line = (19 * peak as u64 / 20) as u32;
+    let line = period.line(peak);
+    let limit = period.edition.limit as usize;
     let mut series = vec![0; period.readings()];
     for season in 0..4 {
-        let count = *random.pick(&[0, 1, 38, 39, 40, 41, 42, 43, 60, 95, 96]);
+        let count = *random.pick(&[0, 1, limit.saturating_sub(2), limit - 1, limit, limit + 1, limit + 2, limit + 3, 60, 95, 96]);
+        let count = count.min(QUARTERS);
         let spread = *random.pick(&[1, 1, 2, 3, (peak - line) as u64]);
         let first = random.below(QUARTERS as u64) as usize;
         let step = *random.pick(&[1, 1, 5, 7, 11]);
@@ -101,7 +110,7 @@ fn at_the_borders(random: &mut Random, period: &Period) -> Vec<u32> {
     for &day in &period.borders {
         let near_day = (day + random.below(3) as u16 - 1).clamp(1, period.days);
         let position = random.below(period.sundays.length(near_day) as u64) as usize;
-        series[period.sundays.start(near_day) + position] = if random.percent(80) { peak } else { (19 * peak as u64 / 20) as u32 };
+        series[period.sundays.start(near_day) + position] = if random.percent(80) { peak } else { period.line(peak) };
     }
     series
 }
@@ -110,16 +119,16 @@ fn at_the_borders(random: &mut Random, period: &Period) -> Vec<u32> {
 /// another quarter's shows; and often two readings of one doubled quarter, on different sides of the line.
 fn at_the_clock_change(random: &mut Random, period: &Period) -> Vec<u32> {
     let peak = some_peak(random).max(100);
-    let line = (19 * peak as u64 / 20) as u32;
+    let line = period.line(peak);
     let mut series = vec![random.below(line as u64 / 2 + 1) as u32; period.readings()];
     for _ in 0..random.between(1, 10) {
         let day = about_sundays(random, period.sundays);
         let position = some_position(random, period.sundays.length(day));
-        series[period.sundays.start(day) + position] = if random.percent(70) { peak } else { near(random, line as u64) as u32 };
+        series[period.sundays.start(day) + position] = if random.percent(70) { peak } else { near(random, line as u64).min(peak as u64) as u32 };
     }
     if random.percent(60) {
         let first = period.sundays.start(period.sundays.long) + random.between(8, 11) as usize;
-        let (low, high) = (*random.pick(&[0, line / 2, line]), *random.pick(&[line + 1, peak]));
+        let (low, high) = (*random.pick(&[0, line / 2, line]), *random.pick(&[(line + 1).min(peak), peak]));
         (series[first], series[first + 4]) = if random.percent(50) { (low, high) } else { (high, low) };
     }
     series
@@ -168,11 +177,11 @@ fn some_series(random: &mut Random, period: &Period) -> (&'static str, Vec<u32>)
     }
 }
 
-fn header(random: &mut Random) -> (Vec<u8>, u16) {
+fn header(random: &mut Random, list: &List) -> (Vec<u8>, u16) {
     let bad = if random.percent(10) { random.below(4) } else { 4 };
     let mark = if bad == 0 { *random.pick(&[b"GRE", b"HLZ", b"CUS", b"grd", b"\0\0\0"]) } else { b"GRD" };
     let version = if bad == 1 { *random.pick(&[0u16, 2, 256, 257, u16::MAX]) } else { 1 };
-    let year = if bad == 2 { *random.pick(&[2013u16, 2029, 0, 1, u16::MAX, 2014 + 256]) } else { some_year(random) };
+    let year = if bad == 2 { *random.pick(&[2013u16, 2029, 0, 1, u16::MAX, 2014 + 256]) } else { some_year(random, list) };
     let level = if bad == 3 { *random.pick(&[0u8, 8, 9, 255, 128]) } else { random.between(1, 7) as u8 };
     let mut bytes = mark.to_vec();
     bytes.extend(version.to_be_bytes());
@@ -181,9 +190,9 @@ fn header(random: &mut Random) -> (Vec<u8>, u16) {
     (bytes, year)
 }
 
-pub fn grid_file(random: &mut Random) -> Made {
-    let (mut bytes, year) = header(random);
-    let period = Period::new(if year_allowed(year) { year } else { 2020 });
+pub fn grid_file(random: &mut Random, list: &List) -> Made {
+    let (mut bytes, year) = header(random, list);
+    let period = Period::new(list.edition(year), if MADE_FOR.contains(&year) { year } else { 2020 });
     let (name, mut series) = some_series(random, &period);
     let mut recipe = format!("grid file, {name}");
     if random.percent(12) {

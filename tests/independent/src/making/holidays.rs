@@ -59,12 +59,12 @@ pub fn broken_holidays(random: &mut Random, year: u16) -> Vec<u16> {
         list = vec![10, 20, 30];
     }
     let at = random.below(list.len() as u64) as usize;
-    match random.below(6) {
+    match random.below(7) {
         0 => list[0] = 0,
         1 => *list.last_mut().unwrap_or(&mut 0) = year_days(year) + 1,
         2 => list[at] = *random.pick(&[0, year_days(year) + 1, 367, 368, u16::MAX]),
-        3 => list.insert(at, list[at]),
-        4 => list.swap(0, at),
+        3 | 4 => list.insert(at, list[at]),
+        5 => list.swap(0, at),
         _ => list = (1..=random.between(41, 255) as u16).collect(),
     }
     list

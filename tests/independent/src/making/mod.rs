@@ -5,14 +5,17 @@ mod damage;
 mod exact;
 mod grid;
 mod holidays;
+mod lists;
 mod random;
 mod series;
 
 pub use customer::customer_file;
+pub use exact::PRICES;
 pub use grid::grid_file;
+pub use lists::{some_list, List};
 pub use random::Random;
 
-use crate::calendar::{FIRST_YEAR, LAST_YEAR};
+use crate::editions::TODAY;
 use crate::layout::Sundays;
 
 /// A file, and how it was made.
@@ -21,12 +24,33 @@ pub struct Made {
     pub bytes: Vec<u8>,
 }
 
-/// A charge year; leap years and the first and last one often.
-fn some_year(random: &mut Random) -> u16 {
+/// The years that a file may be made for, with an edition or without.
+const MADE_FOR: std::ops::RangeInclusive<u16> = 2014..=2061;
+
+/// A charge year of today's edition; leap years and the first and last one often.
+fn todays_year(random: &mut Random) -> u16 {
     match random.below(4) {
-        0 => *random.pick(&[FIRST_YEAR, LAST_YEAR, 2016, 2017, 2020, 2021, 2024, 2025]),
-        _ => random.between(FIRST_YEAR as u64, LAST_YEAR as u64) as u16,
+        0 => *random.pick(&[TODAY.first, TODAY.last, 2016, 2017, 2020, 2021, 2024, 2025]),
+        _ => random.between(TODAY.first as u64, TODAY.last as u64) as u16,
     }
+}
+
+/// A charge year: of one of the list's records, often of a refused one, and often its first or last one; sometimes a
+/// year beside them, which may have no edition.
+fn some_year(random: &mut Random, list: &List) -> u16 {
+    if list.given == [TODAY] {
+        return todays_year(random);
+    }
+    let refused = list.refused();
+    let among = if !refused.is_empty() && random.percent(40) { &refused } else { &list.given };
+    let record = *random.pick(among);
+    let year = match random.below(10) {
+        0..=2 => record.first,
+        3..=5 => record.last,
+        6 => *random.pick(&[record.first - 1, record.last + 1]),
+        _ => random.between(record.first as u64, record.last.max(record.first) as u64) as u16,
+    };
+    year.clamp(*MADE_FOR.start(), *MADE_FOR.end())
 }
 
 /// A number near one that decides: one less, the number itself, one more.

@@ -6,10 +6,10 @@ use Rattle.cases.proofs.calendars.write_days.Statement.{statement}
 use Rattle.cases.proofs.calendars.write_days.Tie as tie
 
 abbrev Inv-loop : tie.InvT-loop
-Inv-loop line year list day₀ day = day ≤ 368
+Inv-loop editions line year list day₀ day = day ≤ 368
 
 abbrev μ-loop : tie.MeasureT-loop
-μ-loop line year list day₀ day = 368 - day
+μ-loop editions line year list day₀ day = 368 - day
 
 pub write-days-spec : {M : Type 1} → statement M
 write-days-spec =

@@ -6,10 +6,10 @@ use Rattle.cases.proofs.grids.all_calls.Statement.{statement}
 use Rattle.cases.proofs.grids.all_calls.Tie as tie
 
 abbrev Inv-loop : tie.InvT-loop
-Inv-loop series count grid₀ k₀ grid k = k ≤ count
+Inv-loop series count grid₀ list₀ k₀ grid list k = k ≤ count
 
 abbrev μ-loop : tie.MeasureT-loop
-μ-loop series count grid₀ k₀ grid k = count - k
+μ-loop series count grid₀ list₀ k₀ grid list k = count - k
 
 pub all-calls-spec : {M : Type 1} → statement M
 all-calls-spec =
@@ -19,6 +19,8 @@ all-calls-spec =
     μ-loop
     (λ c κs. search needs)  -- open-requires
     (λ c. search needs)  -- loop-holds
+    (λ c κs. search needs)  -- byte-requires
+    (λ c κs. search needs)  -- one-step-requires
     (λ c κs. search needs)  -- one-call-requires
     (λ c. search needs)  -- add-k
     (λ c. search needs)  -- loop-less

@@ -6,10 +6,10 @@ use Rattle.cases.proofs.grids.days.Statement.{statement}
 use Rattle.cases.proofs.grids.days.Tie as tie
 
 abbrev Inv-loop : tie.InvT-loop
-Inv-loop series first count run state₀ k₀ state k = k ≤ count
+Inv-loop editions series first count run state₀ k₀ state k = k ≤ count
 
 abbrev μ-loop : tie.MeasureT-loop
-μ-loop series first count run state₀ k₀ state k = count - k
+μ-loop editions series first count run state₀ k₀ state k = count - k
 
 pub days-spec : {M : Type 1} → statement M
 days-spec =

@@ -13,7 +13,7 @@ returns c =
 
 returns-2 : tie.Need-returns-2
 returns-2 c =
-    let full = c .before .before in
+    let full = c .before .before .before in
     let days = full .before .before in
     close-judged (days .before .before .args .self) (omega (arith, days .year-days .ensures)) (c .judge .ensures)
 

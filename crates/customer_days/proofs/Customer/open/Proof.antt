@@ -13,7 +13,7 @@ use Rattle.customer_days.proofs.Customer.open.Tie as tie
 
 -- the basis that is opened
 abbrev given : tie.After-open → Basis
-given e = let a = e .before .before .before .args in basis (a .sheet .now) (a .holidays .now) (a .prices) (a .option)
+given e = let a = e .before .before .before .args in basis (a .editions) (a .sheet .now) (a .holidays .now) (a .prices) (a .option)
 
 returns : tie.Need-returns
 returns c =

@@ -5,8 +5,9 @@ use borrow.Author.Needs.{needs}
 use lib.ListN.{replicate}
 use Rattle.ranges.specs.Ranges.{joined, anyOver}
 use Rattle.encoding.specs.Bytes.{otherMark}
-use Rattle.sheet.specs.Answers.{readAnswerBy}
+use Rattle.sheet.specs.Answers.{readAnswer}
 use Rattle.terms.specs.Opening.{customerOpenAnswer}
+use Rattle.editions.specs.declared.Editions.{Editions}
 use Rattle.customer_days.specs.Days.{shutCustomer, openCustomer}
 use Rattle.customer_head.specs.Header.{customerHeadMost}
 use Rattle.customer_opening.specs.Opening.{openedIn}
@@ -14,12 +15,14 @@ use Rattle.fields.specs.declared.Stage.the-variants.{Going}
 use Rattle.customer_file.proofs.CustomerFile.start.Statement.{statement}
 use Rattle.customer_file.proofs.CustomerFile.start.Tie as tie
 
-blank : openedIn (replicate customerHeadMost 0) ≡ shutCustomer
-unfolding openedIn openCustomer customerOpenAnswer readAnswerBy otherMark anyOver joined
-blank = refl
+blank : (es : Editions) → openedIn es (replicate customerHeadMost 0) ≡ shutCustomer
+unfolding openedIn openCustomer customerOpenAnswer readAnswer otherMark anyOver joined
+blank es = refl
 
 returns : tie.Need-returns
-returns c = λ i. record { field = 0; head = replicate customerHeadMost 0; customer = (c .opened .ensures ∙ blank) i; stage = Going }
+returns c =
+    let es = c .before .before .args .editions in
+    λ i. record { editions = es; field = 0; head = replicate customerHeadMost 0; customer = (c .opened .ensures ∙ blank es) i; stage = Going }
 
 pub start-spec : {M : Type 1} → statement M
 start-spec =

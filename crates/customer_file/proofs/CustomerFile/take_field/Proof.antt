@@ -18,23 +18,23 @@ use Rattle.customer_file.proofs.CustomerFile.take_field.Tie as tie
 
 -- where the field is laid: the call's beginning
 abbrev first : tie.After-lay → tie.Start
-first e = let held = e .before .before .before .before in held .before .before .before
+first e = let held = e .before .before .before .before in held .before .before .before .before
 
 -- the header with the field in it, the bytes that it takes, and the number of fields taken
 head-at : (e : tie.After-lay) → e .lay .last .0 ≡ headWith customerReader (first e .args .self) (first e .args .b .now)
 head-at e =
     let s = first e .args .self in
     let long : length (s .head) ≡ customerHeadMost = search needs in
-    span-laid customerReader s (fits _ _) (first e .pre .0) _ (omega arith) long (e .lay .ensures)
+    span-laid customerReader s (fits _ _ _) (first e .pre .0) _ (omega arith) long (e .lay .ensures)
 
 held-at : (e : tie.After-lay) → fieldSize customerReader (first e .args .self) ≤ length (first e .args .b .now)
-held-at e = let a = first e .args in span-held customerReader (a .self) (fits _ _) (first e .pre .0) (a .b .now) (omega arith)
+held-at e = let a = first e .args in span-held customerReader (a .self) (fits _ _ _) (first e .pre .0) (a .b .now) (omega arith)
 
 few-at : (e : tie.After-lay) → first e .args .self .field ≤ 56
-few-at e = omega (arith, is-field (fits _ _) (first e .pre .0) (first e .pre .1), count-is (first e .args .self .head))
+few-at e = omega (arith, is-field (fits _ _ _) (first e .pre .0) (first e .pre .1), count-is (first e .args .self .editions) (first e .args .self .head))
 
 returns : tie.Need-returns
-returns c = c .ended .ensures ∙ span-cut customerReader _ (fits _ _) (c .before .before .before .before .pre .0) _ (omega arith)
+returns c = c .ended .ensures ∙ span-cut customerReader _ (fits _ _ _) (c .before .before .before .before .pre .0) _ (omega arith)
 
 returns-2 : tie.Need-returns-2
 returns-2 c =
@@ -45,7 +45,8 @@ returns-3 : tie.Need-returns-3
 returns-3 c =
     let passed = c .before .before in
     let e = passed .before .before .before .before in
-    (λ i. record { field = first e .args .self .field + 1; head = e .lay .last .0; customer = c .opened-after .ensures i; stage = Going })
+    let s = first e .args .self in
+    (λ i. record { editions = s .editions; field = s .field + 1; head = e .lay .last .0; customer = c .opened-after .ensures i; stage = Going })
     ∙ field-taken customerReader _ _ (held-at e) (head-at e) (sym (passed .before .refusal .ensures) ∙ passed .if2 .left)
 
 pub take-field-spec : {M : Type 1} → statement M

@@ -8,7 +8,8 @@ use types.Run.{miss}
 use Rattle.answers.specs.Said.{only}
 use Rattle.periods.proofs.Periods.{period-most}
 use Rattle.grid.specs.Answers.{saidOfGrid}
-use Rattle.grid_days.specs.Days.{gridDayAnswer}
+use Rattle.grid_days.specs.declared.Grid.{Grid}
+use Rattle.grid_days.specs.Days.{gridDayAnswer, gridTaken}
 use Rattle.grid_days.proofs.Steps.{refuses, others, day-left, curves-refused, curves-taken, day-refused, day-taken}
 use Rattle.grid_days.proofs.Grid.day.Statement.{statement}
 use Rattle.grid_days.proofs.Grid.day.Tie as tie
@@ -24,7 +25,7 @@ returns c =
     let z = refuses (said .result) (λ k. miss others 0 tt (rw k at (c .match .keys2))) in
     let kept = day-refused s (a .day .now) _ z (said .ensures .0) in
     let curves = said .ensures .1 ∙ sym (curves-refused (s .year) (s .curves) (s .seen) (a .day .now) _ z (said .ensures .0) .1) in
-    (kept .0, (λ i. record { year = s .year; level = s .level; seen = s .seen; curves = curves i }) ∙ kept .1)
+    (kept .0, (λ i. record { edition = s .edition; year = s .year; level = s .level; seen = s .seen; curves = curves i }) ∙ kept .1)
 
 add-grid : tie.Need-add-grid
 add-grid c =
@@ -37,7 +38,9 @@ returns-2 c =
     let s = a .self in
     let said = c .before .before .take-day in
     let laid = said .ensures .1 ∙ sym (curves-taken (s .year) (s .curves) (s .seen) (a .day .now) (taken-at c) refl .1) in
-    (said .ensures .0, day-taken s (a .day .now) (taken-at c) (λ i. record { year = s .year; level = s .level; seen = s .seen + 1; curves = laid i }) .1)
+    let next : _≡_ {A = Grid} _ (gridTaken s (a .day .now)) =
+    λ i. record { edition = s .edition; year = s .year; level = s .level; seen = s .seen + 1; curves = laid i } in
+    (said .ensures .0, day-taken s (a .day .now) (taken-at c) next .1)
 
 pub day-spec : {M : Type 1} → statement M
 day-spec =

@@ -8,7 +8,7 @@ use Rattle.grid_file.proofs.GridFile.start.Statement.{statement}
 use Rattle.grid_file.proofs.GridFile.start.Tie as tie
 
 returns : tie.Need-returns
-returns c = λ i. record { field = 0; head = replicate gridHeadMost 0; grid = c .opened .ensures i; stage = Going }
+returns c = λ i. record { editions = c .before .before .args .editions; field = 0; head = replicate gridHeadMost 0; grid = c .opened .ensures i; stage = Going }
 
 pub start-spec : {M : Type 1} → statement M
 start-spec =

@@ -1,0 +1,3 @@
+pub mod Picked
+pub mod Refused
+pub mod Lists
