@@ -1,6 +1,8 @@
 // An answer as plain numbers, for a line of text and for a caller in Rust or C, to whom no enum can be handed. It meets
 // specs/Numbers. Rules 8.1 and 10.7.
 // Main theorem: the first figures of the list are the answer's (`line_is`, proofs/Line).
+#![tactic(auto)]
+
 ghost use Rattle.std.specs.Prelude.{◌≡◌, ◌∷◌};
 ghost use Rattle.answers.specs.Said.{only, bad_place};
 ghost use Rattle.answer_numbers.specs.Numbers.{numbers_of};
@@ -9,7 +11,7 @@ use answers::Place;
 
 // An answer's number, how many figures follow it, and the figures, with 0 behind the last.
 #[repr(C)]
-#[derive(Drop)]
+#[derive(Clone, Copy)]
 pub struct Numbers {
     pub number: u64,
     pub count: u64,

@@ -2,6 +2,8 @@
 // whole and by days. Each is the called function under today's list, and no more; its promise is that function's,
 // through the same definitions. It meets `customer`, specs/Answers (whole), and specs/Days (by days), each answer laid
 // out by `answer_numbers`, specs/Numbers.
+#![tactic(auto)]
+
 ghost use Rattle.std.specs.Prelude.{◌≡◌};
 ghost use Rattle.editions.specs.Editions.{todays};
 ghost use Rattle.terms.specs.Basis.{basis};

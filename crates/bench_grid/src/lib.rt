@@ -2,6 +2,8 @@
 // by days, and the choice of quarters alone. Each is the called function under today's list, and no more; its promise
 // is that function's, through the same definitions. It meets `grid`, specs/Answers (whole), and specs/Days (by days),
 // each answer laid out by `answer_numbers`, specs/Numbers; and `windows`, specs/Chosen (the choice).
+#![tactic(auto)]
+
 ghost use Rattle.std.specs.Prelude.{◌≡◌, length};
 ghost use Rattle.periods.specs.Period.{period_days};
 ghost use Rattle.windows.specs.Chosen.{chosen_of};

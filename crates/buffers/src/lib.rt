@@ -1,4 +1,6 @@
 // Bytes in a lent buffer: as many as fit are laid over it. It meets `encoding`, specs/Bytes.
+#![tactic(auto)]
+
 ghost use Rattle.std.specs.Prelude.{◌≡◌, ◌-◌, min};
 ghost use Rattle.encoding.specs.Bytes.{laid};
 

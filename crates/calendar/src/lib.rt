@@ -2,6 +2,8 @@
 // `day_kinds`, specs/Kinds; how listed days are marked inside is in specs/Marks. Days count from 1, weekdays from 0.
 // Main theorem: whatever year, list and day are given, each number is answered exactly when its row of Rule 8.1 says,
 // and nothing else meets the contract (`exactly`, `kind_only`, proofs/Answers).
+#![tactic(auto)]
+
 ghost use Rattle.std.specs.Prelude.{◌≡◌, ◌-◌, ◌≤◌, ◌<◌};
 ghost use Rattle.dates.specs.Dates.{most_days};
 ghost use Rattle.editions.specs.Editions.{edition_of};
@@ -27,7 +29,7 @@ const FRIDAY: u8 = 4;
 const SATURDAY: u8 = 5;
 
 // Of which kind a day is (0), or the refusals 1, 3, 13.
-#[derive(Drop)]
+#[derive(Clone, Copy)]
 pub enum DayAnswer {
     Day(DayKind),
     YearOut,

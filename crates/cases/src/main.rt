@@ -7,6 +7,8 @@
 //   T      tariffs.rt: a year's figures judged
 //   G C    series.rt: a series by its recipe, then calls on it, of the grid (grids.rt) or of a customer (customers.rt)
 // Numbers have their high byte first. tests/cases.py makes the records, and what must come of them by docs/RULES.md.
+#![tactic(auto)]
+
 mod calendars;
 mod customers;
 mod grids;

@@ -38,7 +38,7 @@ fn put(series: &mut [u32], at: usize, value: u32) {
 }
 
 // What a patch sets its readings to.
-#[derive(Drop)]
+#[derive(Clone, Copy)]
 struct Values {
     value: u32,
     spread: u16,

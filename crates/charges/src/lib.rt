@@ -1,5 +1,7 @@
 // Works out the charges of a year's figures. Any figures and any prices have an answer. It meets `tariff`,
 // specs/Charges and specs/Decision. Rules 6.6 and 7.1 to 7.5.
+#![tactic(auto)]
+
 ghost use Rattle.std.specs.Prelude.{◌≡◌, ◌≤◌, max};
 ghost use Rattle.tariff.specs.Prices.{LegalRow, LegalPrices};
 ghost use Rattle.tariff.specs.Charges.{few_hours, row_of, charge_for, charge_most, general, reduced, floor_of};

@@ -2,6 +2,8 @@
 // room `customer_days`.
 // Main theorem: two years that agree in every in-window quarter, with one peak and one energy, are answered the same
 // (`same_answer`, proofs/Demand).
+#![tactic(auto)]
+
 ghost use Rattle.std.specs.Prelude.{◌≡◌};
 ghost use Rattle.tariff.specs.Answers.{said_of};
 ghost use Rattle.terms.specs.Basis.{basis};

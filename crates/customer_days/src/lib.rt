@@ -2,6 +2,8 @@
 // to 9.6. The days taken count from 0, the day that 5 names from 1.
 // Main theorem: days given one by one, refused ones among them, close as the whole series of the taken days
 // (`days_whole`, proofs/Whole).
+#![tactic(auto)]
+
 ghost use Rattle.std.specs.Prelude.{◌≡◌};
 ghost use Rattle.tariff.specs.Answers.{said_of};
 ghost use Rattle.terms.specs.Basis.{basis};
@@ -20,7 +22,7 @@ use terms::Terms;
 const DAY_SUM_MOST: u64 = 100_000_000_000;
 
 // A year that is given day by day: the days taken so far, and their figures.
-#[derive(Drop)]
+#[derive(Clone, Copy)]
 pub struct Customer {
     pub terms: Terms,
     pub seen: u16,
@@ -28,7 +30,7 @@ pub struct Customer {
 }
 
 // An answer, and the next state beside it.
-#[derive(Drop)]
+#[derive(Clone, Copy)]
 pub struct Stepped {
     pub answer: Decision,
     pub customer: Customer,

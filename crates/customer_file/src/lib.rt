@@ -4,6 +4,8 @@
 // specs/Machine; room `customer_text` makes the text that is printed. Rules 10.3 to 10.5.
 // Main theorem: driven over any bytes, the machine gives what the file's bytes are answered, and that is printed (room
 // `printed_proofs`, specs/Printed).
+#![tactic(auto)]
+
 ghost use Rattle.std.specs.Prelude.{◌≡◌, ◌≤◌, ◌<◌};
 ghost use Rattle.fields.specs.Layout.{field_span};
 ghost use Rattle.customer_head.specs.Header.{customer_layout};
@@ -20,7 +22,7 @@ use tariff::Decision;
 
 // A customer file that is being read: the list of editions that it is read by, how many fields are taken, the header's
 // bytes, the customer's year with the days taken, and where the machine stands.
-#[derive(Drop)]
+#[derive(Clone, Copy)]
 pub struct CustomerFile {
     pub editions: Editions,
     pub field: usize,

@@ -1,6 +1,8 @@
 // The header of a customer file: where its fields stand, and the number that refuses each, by the header's bytes. It
 // meets specs/Header, and `fields`, specs/Layout. Fields and places count from 0. Behind the last byte there is 0, so
 // that every call answers for any bytes. Rules 10.3 and 10.4.
+#![tactic(auto)]
+
 ghost use Rattle.std.specs.Prelude.{◌≡◌, not, ◌≤◌, ◌<◌, eqb};
 ghost use Rattle.ranges.specs.Ranges.{number_if};
 ghost use Rattle.editions.specs.declared.Editions.{Editions};

@@ -1,5 +1,7 @@
 // The customer's year that the header of a customer file opens, by the header's bytes. It meets specs/Opening. Behind
 // the last byte there is 0, so that the call answers for any bytes. Rules 9.5 and 10.3.
+#![tactic(auto)]
+
 ghost use Rattle.std.specs.Prelude.{◌≡◌, min, take};
 ghost use Rattle.customer_head.specs.Header.{holiday_count, holidays_of, prices_in};
 ghost use Rattle.customer_opening.specs.Opening.{opened_in};

@@ -1,5 +1,7 @@
 // What the statement program prints once the machine of room `customer_file` has ended: the number and its figures. It
 // meets specs/Text; `lines`, specs/Text, says how a text is put into a lent buffer. Rule 10.7.
+#![tactic(auto)]
+
 ghost use Rattle.std.specs.Prelude.{◌≡◌, ◌≤◌};
 ghost use Rattle.answer_numbers.specs.Numbers.{numbers_of};
 ghost use Rattle.texts.specs.Text.{Put};

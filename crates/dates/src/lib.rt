@@ -2,6 +2,8 @@
 // from 1.
 // Main theorem: the weekday by three divisions is the weekday by counting every day, each 29 February with them, in
 // every year (`weekday_by_leaps`, proofs/Weekdays).
+#![tactic(auto)]
+
 ghost use Rattle.std.specs.Prelude.{◌≡◌, ◌<◌};
 ghost use Rattle.dates.specs.Dates.{leap, leap_day, year_days, days_to, day_number, month_of, weekday_of, last_sunday, season_of, month_left};
 

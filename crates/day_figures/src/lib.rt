@@ -3,6 +3,8 @@
 // quarters q count from 0. Rules 6.3 to 6.5 and 8.2.
 // Main theorem: where a year can have the day, the sum has room for it and it is as long as a day is, the day is taken
 // in (`day_fits`, proofs/Fits); else the answer is 13 or 4.
+#![tactic(auto)]
+
 ghost use Rattle.std.specs.Prelude.{◌≡◌, false, cond, ◌&&◌, ℕ, ◌+◌, ◌%◌, ◌≤◌, ◌<◌, min, eqb, length, get_or};
 ghost use Rattle.std.specs.Int.Bits.{bit_and};
 ghost use Rattle.ranges.specs.Ranges.{first_over, number_if};
@@ -27,14 +29,14 @@ const ALL_ONES: u32 = 4_294_967_295;
 const FOUR_END: u32 = 1_073_741_824;
 
 // The highest reading of a day, and the sum.
-#[derive(Drop)]
+#[derive(Clone, Copy)]
 struct Tops {
     peak: u32,
     sum: u64,
 }
 
 // What taking days into figures answers: 0 with the figures, 4, 13.
-#[derive(Drop)]
+#[derive(Clone, Copy)]
 pub enum Taking {
     Taken(Figures),
     WrongLength,

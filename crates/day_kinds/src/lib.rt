@@ -2,9 +2,10 @@
 // the room `calendar` has the code that meets them. Rules 3.3 and 3.4.
 // Main theorem: a day carries windows exactly when no ground makes it free, and a week has one bridge day at most
 // (`carries_when`, `one_bridge`, proofs/Weeks).
+#![tactic(auto)]
 
 // A day carries windows, or why it is free.
-#[derive(Drop)]
+#[derive(Clone, Copy)]
 pub enum DayKind {
     Windows,
     Weekend,

@@ -2,6 +2,8 @@
 // specs/Asked and specs/Text. The call writes its whole text at the start of a lent buffer and answers the text's
 // length; where the buffer is too short, it writes nothing and answers 0. Lines and places count from 0. Rules 10.9 to
 // 10.11.
+#![tactic(auto)]
+
 ghost use Rattle.std.specs.Prelude.{◌≡◌, ◌+◌, ◌≤◌, ◌<◌, length, take};
 ghost use Rattle.calendar.specs.Answer.{said_of_day};
 ghost use Rattle.day_kinds.specs.Kinds.{kind_code};

@@ -1,5 +1,7 @@
 // The decision over a year's figures: may the customer pay the reduced charge, what is it, and both together. It meets
 // `tariff`, specs/Decision and specs/Answers; what follows from an answer is proved there, too. Rules 7.6, 7.7 and 8.2.
+#![tactic(auto)]
+
 ghost use Rattle.std.specs.Prelude.{◌≡◌, ◌+◌, ltb};
 ghost use Rattle.answers.specs.Ruling.{least_reduction, share_of, Level};
 ghost use Rattle.tariff.specs.declared.Rates.{Rates};

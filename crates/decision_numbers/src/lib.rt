@@ -1,6 +1,8 @@
 // A decision as plain numbers: its number and the figures that follow it. It meets `answer_numbers`, specs/Numbers, and
 // `tariff`, specs/Answers. Rule 8.1.
 // Main theorem: no decision has more than seven figures (`decision_small`, proofs/Line), so its list says all of them.
+#![tactic(auto)]
+
 ghost use Rattle.std.specs.Prelude.{◌≡◌};
 ghost use Rattle.tariff.specs.Answers.{said_of, with_plain, with_peaks, with_charge};
 ghost use Rattle.answer_numbers.specs.Numbers.{numbers_of};

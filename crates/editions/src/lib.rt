@@ -1,6 +1,8 @@
 // The list of editions that calls go by: an empty one, the one with today's edition, loading a record into a list, and
 // the record that holds for a year. It meets specs/Editions and specs/Loading. Rules 2.1, 2.7 and 9.6.
 // Main theorem: a list that loadings made has at most one record for a year (`picked_one`, proofs/Lists).
+#![tactic(auto)]
+
 ghost use Rattle.std.specs.Prelude.{◌≡◌, ◌≤◌};
 ghost use Rattle.answers.specs.Edition.{today};
 ghost use Rattle.editions.specs.Editions.{editions_most, no_editions, todays, loaded_in, edition_of, year_out};
@@ -25,21 +27,21 @@ const HOURS_MOST: u16 = 8_784;
 
 // A list of editions: how many records are loaded, and the places for them, the first at place 0. A list that no call
 // handed back has an answer, too: its first eight records count at most.
-#[derive(Drop)]
+#[derive(Clone, Copy)]
 pub struct Editions {
     pub count: u8,
     pub records: [Edition; EDITIONS_MOST],
 }
 
 // What loading answers: 0, 22.
-#[derive(Drop)]
+#[derive(Clone, Copy)]
 pub enum Loading {
     Taken,
     Refused,
 }
 
 // An answer, and the list beside it.
-#[derive(Drop)]
+#[derive(Clone, Copy)]
 pub struct Loaded {
     pub answer: Loading,
     pub editions: Editions,

@@ -1,6 +1,8 @@
 // Numbers and marks in bytes, for the sheet and for both files: a number has its high byte first (Rules 5.1 and 10.1).
 // It meets specs/Bytes. Places and bytes count from 0. Behind the last byte there is 0, so that every call answers for
 // any bytes and any place.
+#![tactic(auto)]
+
 ghost use Rattle.std.specs.Prelude.{◌≡◌, ◌+◌, ◌<◌, get_or};
 ghost use Rattle.encoding.specs.Bytes.{two_at, four_at};
 ghost use Rattle.encoding.specs.Bytes.{other_mark};

@@ -1,5 +1,7 @@
 // The small steps that machines share which read a file (Rules 10.1, 10.4 and 10.5). They meet `fields`, specs/Series
 // and specs/Stages, and `number_if` of `ranges`.
+#![tactic(auto)]
+
 ghost use Rattle.std.specs.Prelude.{◌≡◌, ℕ, ◌*◌};
 ghost use Rattle.ranges.specs.Ranges.{number_if, table};
 ghost use Rattle.encoding.specs.Bytes.{four_at};

@@ -7,6 +7,8 @@
 // an e file, and only its text is printed: so tests/compare gives it many.
 // What is printed is specified in grid_text and customer_text, specs/Text.
 // tests/file_cases.py makes the files, and what must come of them by docs/RULES.md.
+#![tactic(auto)]
+
 mod lists;
 
 use customer_file::CustomerFile;

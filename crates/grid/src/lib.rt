@@ -1,6 +1,8 @@
 // The high-load windows of a whole grid series, as a sheet. It meets specs/Answers. Rules 4.1 to 4.7 and 8.2; the same
 // day by day is room `grid_days`.
 // Main theorem: each number is answered exactly when its row holds (`windows_exactly`, proofs/Exactly).
+#![tactic(auto)]
+
 ghost use Rattle.std.specs.Prelude.{◌≡◌, List, ℕ, ◌<◌, length};
 ghost use Rattle.answers.specs.Ruling.{day_quarters};
 ghost use Rattle.editions.specs.Editions.{edition_of};
@@ -15,7 +17,7 @@ use readings::Run;
 use sheet::{Sheet, SheetAnswer};
 
 // What each call answers: 0, 14, 1, 2, 4, 5 with its place, 7, 12, 13.
-#[derive(Drop)]
+#[derive(Clone, Copy)]
 pub enum GridAnswer {
     Done,
     Short,

@@ -3,6 +3,8 @@
 // q, from 0, of season s, from 1, at place 96 (s - 1) + q.
 // Main theorem: the highest value of the curves is the period's peak, since every reading goes into one of them
 // (`peak_curves`, proofs/Curves).
+#![tactic(auto)]
+
 ghost use Rattle.std.specs.Prelude.{◌≡◌, ℕ, ◌<◌, ◌≤◌, ◌+◌, min, length};
 ghost use Rattle.periods.specs.Period.{period_days, period_season};
 ghost use Rattle.readings.specs.declared.Run.TheVariants.{Period};

@@ -2,6 +2,8 @@
 // 9.6. The days taken count from 0, the day that 5 names from 1.
 // Main theorem: days given one by one, refused ones among them, close as the whole series of the taken days, sheet
 // bytes included (`days_whole`, proofs/Whole).
+#![tactic(auto)]
+
 ghost use Rattle.std.specs.Prelude.{◌≡◌, length};
 ghost use Rattle.answers.specs.Ruling.{grid_most};
 ghost use Rattle.editions.specs.Editions.{edition_of};
@@ -17,7 +19,7 @@ use readings::Run;
 
 // A series that is given day by day: the edition of its year, the days taken so far, and the curves of their readings,
 // flat.
-#[derive(Drop)]
+#[derive(Clone, Copy)]
 pub struct Grid {
     pub edition: Edition,
     pub year: u16,
@@ -27,7 +29,7 @@ pub struct Grid {
 }
 
 // An answer, and the next state beside it.
-#[derive(Drop)]
+#[derive(Clone, Copy)]
 pub struct Stepped {
     pub answer: GridAnswer,
     pub grid: Grid,

@@ -4,6 +4,8 @@
 // room `grid_text` makes the text that is printed. Rules 10.2, 10.4 and 10.5.
 // Main theorem: driven over any bytes, the machine gives what the file's bytes are answered, and that is printed (room
 // `printed_proofs`, specs/Printed).
+#![tactic(auto)]
+
 ghost use Rattle.std.specs.Prelude.{◌≡◌, ◌≤◌, ◌<◌};
 ghost use Rattle.fields.specs.Layout.{field_span};
 ghost use Rattle.grid.specs.Answers.{said_of_grid};
@@ -20,7 +22,7 @@ use readings::Run;
 
 // A grid file that is being read: the list of editions that it is read by, how many fields are taken, the header's
 // bytes, the grid's series with the days taken, and where the machine stands.
-#[derive(Drop)]
+#[derive(Clone, Copy)]
 pub struct GridFile {
     pub editions: Editions,
     pub field: usize,

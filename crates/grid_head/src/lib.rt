@@ -1,6 +1,8 @@
 // The header of a grid file: where its fields stand, the number that refuses each, and the series that it opens, by the
 // header's bytes. It meets specs/Header, and `fields`, specs/Layout. Fields and places count from 0. Behind the last
 // byte there is 0, so that every call answers for any bytes. Rules 10.2 and 10.4.
+#![tactic(auto)]
+
 ghost use Rattle.std.specs.Prelude.{◌≡◌};
 ghost use Rattle.editions.specs.declared.Editions.{Editions};
 ghost use Rattle.fields.specs.Layout.{field_span};

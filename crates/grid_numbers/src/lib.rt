@@ -1,5 +1,7 @@
 // The answer of a call on a grid's series as plain numbers. It meets `answer_numbers`, specs/Numbers, and `grid`,
 // specs/Answers. Rule 8.1.
+#![tactic(auto)]
+
 ghost use Rattle.std.specs.Prelude.{◌≡◌};
 ghost use Rattle.grid.specs.Answers.{said_of_grid};
 ghost use Rattle.answer_numbers.specs.Numbers.{numbers_of};

@@ -1,5 +1,7 @@
 // What the window program prints once the machine of room `grid_file` has ended: the lines of the windows, or that of a
 // refusal. It meets specs/Text; `lines`, specs/Text, says how a text is put into a lent buffer. Rule 10.6.
+#![tactic(auto)]
+
 ghost use Rattle.std.specs.Prelude.{[], ◌∷◌};
 ghost use Rattle.answers.specs.Said.{bad_place};
 ghost use Rattle.texts.specs.Text.{Put};

@@ -2,6 +2,8 @@
 // is decided here: `want` of room `grid_file` says how many bytes are read next, `feed` tests them, and room
 // `grid_text` makes the text. What is printed is specified in `grid_text`, specs/Text, and that each input has the text
 // of its bytes in `printed_proofs`, specs/Printed. Rules 10.1, 10.2 and 10.6.
+#![tactic(auto)]
+
 use grid_file::GridFile;
 use libc::{STDIN_FILENO, STDOUT_FILENO};
 

@@ -1,6 +1,8 @@
 // Holiday lists, and when they are legal (Rule 2.6). It meets specs/Holidays. Which days carry windows under a list is
 // said in crate `calendar`.
 // Main theorem: a list is accepted exactly when it is legal (`legal_holidays`, proofs/Lists).
+#![tactic(auto)]
+
 ghost use Rattle.std.specs.Prelude.{◌≡◌};
 ghost use Rattle.holidays.specs.Holidays.{bad_holiday, bad_holidays};
 

@@ -2,6 +2,8 @@
 // 8.4). It meets `readings`, specs/Legal.
 // Main theorem: the first illegal reading is found by its day and then by its position, in any series, and nothing is
 // read past the series' end.
+#![tactic(auto)]
+
 ghost use Rattle.std.specs.Prelude.{◌≡◌, get_or};
 ghost use Rattle.readings.specs.Legal.{illegal, highest_of, first_above, first_illegal};
 

@@ -2,6 +2,8 @@
 // whole text at the start of a lent buffer and answers the text's length; the bytes behind it stay. Where the buffer is
 // too short, it writes nothing and answers 0. It meets specs/Figures and `texts`, specs/Text. Rules 10.1, 10.6 and
 // 10.7.
+#![tactic(auto)]
+
 ghost use Rattle.std.specs.Prelude.{◌≡◌, ◌+◌, ◌≤◌, leb, length};
 ghost use Rattle.texts.specs.Text.{Put, Wrote};
 ghost use Rattle.lines.specs.Figures.{decimal_of, field_of, figures_line, refused_line};

@@ -1,4 +1,6 @@
 // The larger of two readings, and the highest of some. It meets `readings`, specs/Legal. Rule 4.3.
+#![tactic(auto)]
+
 ghost use Rattle.std.specs.Prelude.{◌≡◌, max};
 ghost use Rattle.readings.specs.Legal.{highest_of};
 

@@ -2,6 +2,8 @@
 // period's days k count from 1.
 // Main theorem: it begins with 1 September of the year two before the charge year, and ends with 31 August of the year
 // before, in every charge year (`period_first`, `period_last`, proofs/Periods).
+#![tactic(auto)]
+
 ghost use Rattle.std.specs.Prelude.{◌≡◌, ◌-◌};
 ghost use Rattle.periods.specs.Period.{period_days, period_date, period_season, period_left, october_sunday, march_sunday};
 
@@ -9,7 +11,7 @@ ghost use Rattle.periods.specs.Period.{period_days, period_date, period_season, 
 const LATE_DAYS: u16 = 122;
 
 // A day, from 1, of a year.
-#[derive(Drop)]
+#[derive(Clone, Copy)]
 struct Date {
     year: u16,
     day: u16,

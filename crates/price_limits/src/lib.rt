@@ -1,4 +1,6 @@
 // Tests a price list. It meets `tariff`, specs/Prices. Rule 2.1.
+#![tactic(auto)]
+
 ghost use Rattle.std.specs.Prelude.{◌≡◌};
 ghost use Rattle.tariff.specs.Prices.{row_out, prices_out};
 

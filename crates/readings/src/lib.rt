@@ -3,6 +3,8 @@
 // specs/Near.
 // Main theorem: a series is answered the same whole and day by day (Rule 9.4; `Machine`, `as_whole`, `same_bad`,
 // proofs/Machines).
+#![tactic(auto)]
+
 ghost use Rattle.std.specs.Prelude.{◌≡◌, ◌≤◌};
 ghost use Rattle.ranges.specs.Limits.{outside};
 ghost use Rattle.editions.specs.Editions.{edition_of};
@@ -13,21 +15,21 @@ ghost use Rattle.readings.specs.Part.{run_year, no_day, run_part, day_part};
 use editions::Editions;
 
 // The days whose readings a series holds: those of a charge year, or of its reference period.
-#[derive(Drop)]
+#[derive(Clone, Copy)]
 pub enum Run {
     Year(u16),
     Period(u16),
 }
 
 // A run's two Sundays on which the clock is changed, as days from 0: in March a day is short, in October one is long.
-#[derive(Drop)]
+#[derive(Clone, Copy)]
 pub struct Change {
     pub short: u16,
     pub long: u16,
 }
 
 // Where a day of a run stands in its series: behind how many readings, and how many are its own.
-#[derive(Drop)]
+#[derive(Clone, Copy)]
 pub struct DaySpan {
     pub start: usize,
     pub len: usize,

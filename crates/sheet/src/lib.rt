@@ -3,6 +3,7 @@
 // meets them is in crates `sheet_read` and `sheet_write`.
 // Main theorem: what is written reads back as the same meaning, and what is read is written back as the same bytes
 // (Rule 12.2; `read_written`, `bytes_back`, proofs/Back).
+#![tactic(auto)]
 
 // How many bytes a sheet has, and the places, from 0, of its year and where the windows of its seasons begin.
 pub const SHEET_SIZE: usize = 56;
@@ -17,7 +18,7 @@ pub const SEASONS: usize = 4;
 pub const WINDOW_PLACES: usize = 384;
 
 // A sheet's meaning. Quarter q, from 0, of season s, from 1, stands at place 96 (s - 1) + q of the windows.
-#[derive(Drop)]
+#[derive(Clone, Copy)]
 pub struct Sheet {
     pub year: u16,
     pub level: u8,
@@ -25,7 +26,7 @@ pub struct Sheet {
 }
 
 // What reading and writing answer: 0, 14, 1, 2, 12.
-#[derive(Drop)]
+#[derive(Clone, Copy)]
 pub enum SheetAnswer {
     Accepted,
     Short,
@@ -35,7 +36,7 @@ pub enum SheetAnswer {
 }
 
 // An answer, and the sheet beside it: one fixed sheet where the answer is a refusal.
-#[derive(Drop)]
+#[derive(Clone, Copy)]
 pub struct SheetRead {
     pub answer: SheetAnswer,
     pub sheet: Sheet,

@@ -1,5 +1,7 @@
 // Reading a window sheet (Rules 5.1 to 5.3 and 8.2). It meets `sheet`, specs/Answers, by the edition of specs/Editions;
 // on the way it uses `sheet`, specs/Bytes and specs/Windows.
+#![tactic(auto)]
+
 ghost use Rattle.std.specs.Prelude.{◌≡◌, ◌<◌, length};
 ghost use Rattle.sheet.specs.Windows.{too_full};
 ghost use Rattle.sheet.specs.Bytes.{sheet_size, bit_of, windows_in, season_full};

@@ -1,6 +1,8 @@
 // Writing a window sheet into a lent buffer (Rules 5.1, 8.2 and 8.3). It meets `sheet`, specs/Answers; on the way it
 // uses `sheet`, specs/Bytes and specs/Windows. That a written sheet reads back as the same meaning is proved in crate
 // `sheet`.
+#![tactic(auto)]
+
 ghost use Rattle.std.specs.Prelude.{◌≡◌, ◌≤◌, ◌<◌, ◌++◌, length, drop};
 ghost use Rattle.ranges.specs.Limits.{Within};
 ghost use Rattle.editions.specs.Editions.{edition_of};

@@ -2,6 +2,8 @@
 // decided here: `want` of room `customer_file` says how many bytes are read next, `feed` tests them, and room
 // `customer_text` makes the text. What is printed is specified in `customer_text`, specs/Text, and that each input has
 // the text of its bytes in `printed_proofs`, specs/Printed. Rules 10.1, 10.3 and 10.7.
+#![tactic(auto)]
+
 use customer_file::CustomerFile;
 use libc::{STDIN_FILENO, STDOUT_FILENO};
 

@@ -3,11 +3,13 @@
 // `decision` have the code that meets them. Rules 2.5, 6.6, 7.1 to 7.7 and 8.1.
 // Main theorem: a lower in-window peak, with all else the same, never costs more, and an acceptance stays one
 // (`never_more`, `stays`, proofs/Demand).
+#![tactic(auto)]
+
 use answers::Place;
 
 // A row of a price list: the capacity price in cent for one kW a year, the energy price in thousandths of a cent for
 // one kWh.
-#[derive(Drop)]
+#[derive(Clone, Copy)]
 pub struct Row {
     pub capacity: u32,
     pub energy: u32,
@@ -15,7 +17,7 @@ pub struct Row {
 
 // The low row, for customers with fewer hours of use than the edition's, 2,500 today, and the high row, for all others
 // (Rule 2.5).
-#[derive(Drop)]
+#[derive(Clone, Copy)]
 pub struct Prices {
     pub few: Row,
     pub many: Row,
@@ -24,7 +26,7 @@ pub struct Prices {
 // What a year's figures are judged by: the sheet's charge year and level (a code from 1), the customer's option and the
 // price list. The decision does not look at the year: it stands here because it says how many days the customer's
 // series has (room `customer`).
-#[derive(Drop)]
+#[derive(Clone, Copy)]
 pub struct Rates {
     pub year: u16,
     pub level: u8,
@@ -35,7 +37,7 @@ pub struct Rates {
 // A year's figures: the annual peak M, in W; the sum S of all readings; whether the year has an in-window quarter,
 // which an H of 0 does not tell; the in-window peak H, in W, and its place, the day from 1 and the quarter from 0. Day
 // 0 is no place. Rules 6.3 to 6.5.
-#[derive(Drop)]
+#[derive(Clone, Copy)]
 pub struct Figures {
     pub peak: u32,
     pub sum: u64,
@@ -56,7 +58,7 @@ pub const NO_FIGURES: Figures = Figures {
 };
 
 // The figures of 8: the general charge g in cent, M and S.
-#[derive(Drop)]
+#[derive(Clone, Copy)]
 pub struct Plain {
     pub general: u64,
     pub peak: u32,
@@ -64,7 +66,7 @@ pub struct Plain {
 }
 
 // The figures of 9, 10 and 11: those of 8, then H and its place, the day from 1 and the quarter from 0.
-#[derive(Drop)]
+#[derive(Clone, Copy)]
 pub struct Peaks {
     pub plain: Plain,
     pub high: u32,
@@ -73,28 +75,28 @@ pub struct Peaks {
 }
 
 // The figures of 0: the charge c in cent, then those of 9, 10 and 11.
-#[derive(Drop)]
+#[derive(Clone, Copy)]
 pub struct Charged {
     pub charge: u64,
     pub peaks: Peaks,
 }
 
 // A year's charges in cent: the charge c of a customer who is accepted, and the general charge g.
-#[derive(Drop)]
+#[derive(Clone, Copy)]
 pub struct TwoCharges {
     pub charge: u64,
     pub general: u64,
 }
 
 // What the call for the general charge answers: 0 with the cents, or 6.
-#[derive(Drop)]
+#[derive(Clone, Copy)]
 pub enum General {
     Cents(u64),
     PriceOut,
 }
 
 // What the call for both charges answers: 0 with the cents, or 6.
-#[derive(Drop)]
+#[derive(Clone, Copy)]
 pub enum BothCharges {
     Cents(TwoCharges),
     PriceOut,
@@ -103,7 +105,7 @@ pub enum BothCharges {
 // What the decision answers, and the calls around it in the rooms above: 0 with the charge, 0 with yes, 0 of an opening
 // or a day that is taken, 1, 2, 3, 4, 5 with its place, 6, 8, 9, 10, 11, 12, 13. Proofs name a case by its place in
 // this list, from 0: so a new case stands last, and no other moves.
-#[derive(Drop)]
+#[derive(Clone, Copy)]
 pub enum Decision {
     Accepted(Charged),
     Eligible,

@@ -2,6 +2,8 @@
 // list, prices and option, by a list of editions. It meets specs/Opening; specs/Basis has the five as one argument.
 // Rules 8.2, 9.3 and 9.5.
 // Main theorem: an opening gives a number exactly when that number's row holds and no row before it (proofs/Exactly).
+#![tactic(auto)]
+
 ghost use Rattle.std.specs.Prelude.{◌≡◌};
 ghost use Rattle.answers.specs.Said.{or_else};
 ghost use Rattle.sheet.specs.Answers.{said_of_sheet};
@@ -16,7 +18,7 @@ use tariff::{Decision, Prices, Rates, Row};
 
 // What a year is judged under: the edition of the year; its rates; the sheet's windows, season 1 first and of each
 // season quarter 0 first; and which days carry windows, 1 January at place 0.
-#[derive(Drop)]
+#[derive(Clone, Copy)]
 pub struct Terms {
     pub edition: Edition,
     pub rates: Rates,
@@ -25,7 +27,7 @@ pub struct Terms {
 }
 
 // What opening answers, and the terms beside it.
-#[derive(Drop)]
+#[derive(Clone, Copy)]
 pub struct Opening {
     pub answer: Decision,
     pub terms: Terms,

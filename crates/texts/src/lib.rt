@@ -1,4 +1,6 @@
 // Text in a lent buffer, as bytes, all of it or nothing. It meets specs/Text. Rule 10.1.
+#![tactic(auto)]
+
 ghost use Rattle.texts.specs.Text.{Put};
 
 // So many bytes are enough for every text that a program prints: that of windows has never more than 49 for its first

@@ -1,6 +1,8 @@
 // The day program: takes dates from standard input, one to a line, the day asked for and then the listed holidays, and
 // prints why that day is free, or that it carries windows. Nothing is decided here: what is printed is specified in
 // `day_text`, specs/Text. Rules 10.9 to 10.11.
+#![tactic(auto)]
+
 use libc::{STDIN_FILENO, STDOUT_FILENO};
 
 // More than the day asked for and every day of a leap year. Of a longer input the last line is cut off here, so that it

@@ -2,6 +2,8 @@
 // is put into a lent buffer. It meets specs/Runs, and `lines`, specs/Text. Quarters count from 0, seasons from 1. Rule
 // 10.6.
 // Main theorem: the printed examples of Rules 10.6 and 10.7 are what the definitions say (proofs/Cases).
+#![tactic(auto)]
+
 ghost use Rattle.std.specs.Prelude.{◌≡◌, not, ◌+◌, ◌≤◌, ◌<◌, length};
 ghost use Rattle.ranges.specs.Ranges.{any_over};
 ghost use Rattle.answers.specs.Ruling.{day_quarters};

@@ -3,6 +3,8 @@
 // count from 0.
 // Main theorem: under every edition a season keeps exactly the smaller of the limit and the number above the line, and
 // no kept quarter is lower than one left out (`kept_count`, `none_lower`, proofs/Kept).
+#![tactic(auto)]
+
 ghost use Rattle.std.specs.Prelude.{◌≡◌, ℕ, ◌+◌, ◌-◌, ◌<◌, ◌≤◌, ltb, length, get_or};
 ghost use Rattle.ranges.specs.Ranges.{bit, table};
 ghost use Rattle.answers.specs.Ruling.{day_quarters};
@@ -15,14 +17,14 @@ use answers::Edition;
 const VALUE_MOST: u64 = 4_294_967_295;
 
 // Two limits between which a season is cut.
-#[derive(Drop)]
+#[derive(Clone, Copy)]
 struct Limits {
     low: u32,
     high: u32,
 }
 
 // Where a season is cut: the quarters above the limit are kept, and the first `equals` of those that are equal to it.
-#[derive(Drop)]
+#[derive(Clone, Copy)]
 struct Cut {
     limit: u32,
     equals: usize,

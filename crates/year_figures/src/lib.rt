@@ -2,6 +2,8 @@
 // month. It meets specs/Counts and specs/Year. Rules 6.1 to 6.5.
 // Main theorem: by its row a position of a day counts exactly when the day carries windows and the quarter is set in
 // the windows of the day's season (`row_Counts`, proofs/Rows).
+#![tactic(auto)]
+
 ghost use Rattle.std.specs.Prelude.{◌≡◌, ◌+◌, ◌<◌};
 ghost use Rattle.dates.specs.Dates.{most_days, season_of};
 ghost use Rattle.year_figures.specs.Counts.{season_row, day_row};
@@ -12,7 +14,7 @@ use readings::Run;
 use tariff::Figures;
 
 // The figures of a whole year, or 4 for a series of another length.
-#[derive(Drop)]
+#[derive(Clone, Copy)]
 pub enum YearFigures {
     All(Figures),
     WrongLength,

@@ -1,0 +1,37 @@
+-- `calendar::day_kind_by` meets its contract, a law for each return; each test that failed on the way is read once.
+-- Assumes nothing.
+use mathlib.Core.Path.{◌≡◌, sym, ◌∙◌}
+use mathlib.Core.Bool.{false}
+use Rattle.answers.specs.Ruling.{lacks_year}
+use Rattle.holidays.specs.Holidays.{bad_holidays}
+use Rattle.calendar.specs.Answer.{day_out}
+use Rattle.calendar.proofs.Marked.{by_marks}
+use Rattle.calendar.proofs.Answers.{day_inside, said_year, said_list, said_day, said_kind}
+use Rattle.calendar.proofs.day_kind_by.Goals.{Else-bad_holidays, Else-day_out, Else-lacks_year}
+use Rattle.calendar.proofs.day_kind_by.Goals as goal
+
+year_at : (e : Else-lacks_year) → lacks_year e.args.edition e.args.year ≡ false
+year_at e = sym e.lacks_year.ensures ∙ e.if-lacks_year.false
+
+list_at : (e : Else-bad_holidays) → let a = e.args in bad_holidays a.year a.holidays.now ≡ false
+list_at e = sym e.bad_holidays.ensures ∙ e.if-bad_holidays.false
+
+day_at : (e : Else-day_out) → let a = e.args in day_out a.year a.day ≡ false
+day_at e = sym e.day_out.ensures ∙ e.if-day_out.false
+
+pub returns-then-bad_holidays : goal.returns-then-bad_holidays
+returns-then-bad_holidays c = said_list _ _ _ _ (year_at (goal.at.returns-then-bad_holidays c).Else-lacks_year) (sym c.bad_holidays.ensures ∙ c.if-bad_holidays.true)
+
+pub returns-then-day_out : goal.returns-then-day_out
+returns-then-day_out c = said_day _ _ _ _ (year_at (goal.at.returns-then-day_out c).Else-lacks_year) (list_at (goal.at.returns-then-day_out c).Else-bad_holidays) (sym c.day_out.ensures ∙ c.if-day_out.true)
+
+pub returns : goal.returns
+returns c =
+    said_kind _ _ _ _ (year_at (goal.at.returns c).Else-lacks_year) (list_at (goal.at.returns c).Else-bad_holidays) (day_at (goal.at.returns c).Else-day_out)
+    (c.kind.ensures ∙ by_marks _ _ _ _ c.marks-m.ensures (day_inside _ _ (day_at (goal.at.returns c).Else-day_out)).1)
+
+pub returns-then-lacks_year : goal.returns-then-lacks_year
+returns-then-lacks_year c = said_year _ _ _ _ (sym c.lacks_year.ensures ∙ c.if-lacks_year.true)
+
+pub kind-requires : goal.kind-requires
+kind-requires c = day_inside _ _ (day_at (goal.at.kind-requires c).Else-day_out)

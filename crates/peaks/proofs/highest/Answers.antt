@@ -1,0 +1,18 @@
+use mathlib.Core.Path.{◌≡◌, sym}
+use Prim.Native.Nat.{ℕ, ◌≤◌, ◌-◌}
+use native.Mathlib.Omega.{arith}
+use lib.ListN.{length, get_or}
+use Rattle.ranges.specs.Ranges.{largest_over}
+use Rattle.readings.specs.Legal.{highest_of}
+use Rattle.ranges.proofs.Largest.{largest_none, largest_more}
+use Rattle.peaks.proofs.highest.Goals as goal
+
+pub returns : goal.returns
+unfolding highest_of
+returns c = let e : c.loop-i.i ≡ length c.args.readings.now = omega arith in rw e at c.loop-i.invariant.1
+
+pub loop-i-init : goal.loop-i-init
+loop-i-init c = (omega arith, sym (largest_none _))
+
+pub loop-i-preserved : goal.loop-i-preserved
+loop-i-preserved c = (omega arith, rw largest_more (omega arith))

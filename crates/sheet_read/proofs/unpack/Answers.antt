@@ -1,0 +1,18 @@
+use mathlib.Core.Path.{refl}
+use mathlib.Core.Bool.{false}
+use Prim.Native.Nat.{◌-◌}
+use native.Mathlib.Omega.{arith}
+use Rattle.sheet.specs.Windows.{window_places}
+use Rattle.sheet.specs.Bytes.{window_at, windows_in}
+use Rattle.ranges.proofs.Tables.{Filled, filled_none, filled_more, filled_all}
+use Rattle.sheet_read.proofs.unpack.Goals as goal
+
+pub returns : goal.returns
+unfolding windows_in
+returns c = filled_all c.loop-p.invariant (omega arith)
+
+pub loop-p-init : goal.loop-p-init
+loop-p-init c = filled_none refl
+
+pub loop-p-preserved : goal.loop-p-preserved
+loop-p-preserved c = filled_more c.loop-p.invariant (omega arith) c.bit_at.ensures

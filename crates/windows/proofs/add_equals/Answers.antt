@@ -1,0 +1,15 @@
+use mathlib.Core.Path.{refl}
+use Prim.Native.Nat.{◌-◌}
+use native.Mathlib.Omega.{arith}
+use Rattle.answers.specs.Ruling.{day_quarters}
+use Rattle.windows.proofs.Added.{Added, added_none, added_more, added_all}
+use Rattle.windows.proofs.add_equals.Goals as goal
+
+pub loop-q-preserved : goal.loop-q-preserved
+loop-q-preserved c = added_more _ _ _ c.loop-q.invariant (omega arith) refl c.one_if-n.ensures.0 (omega arith)
+
+pub loop-q-init : goal.loop-q-init
+loop-q-init c = added_none _ _ _ c.requires
+
+pub returns : goal.returns
+returns c = added_all _ _ _ c.loop-q.invariant (omega arith)

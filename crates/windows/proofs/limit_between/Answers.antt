@@ -1,0 +1,11 @@
+use mathlib.Core.Path.{◌≡◌}
+use Prim.Native.Nat.{◌≤◌, ◌<◌, ◌-◌}
+use native.Mathlib.Omega.{arith}
+use Rattle.windows.specs.Cuts.{MostBetween}
+use Rattle.windows.proofs.limit_between.Goals as goal
+
+pub returns : goal.returns
+returns c =
+    let loop = c.loop-high in
+    let next : loop.high - 1 ≡ loop.low = omega arith in
+    (omega arith, rw next loop.invariant.2)
