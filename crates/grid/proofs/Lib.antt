@@ -1,3 +1,4 @@
 pub mod Answered
 pub mod Only
 pub mod Exactly
+pub mod RowsLeft

@@ -14,11 +14,11 @@ use Rattle.grid_curves.proofs.lay_held.Goals.{After-smaller-to, After-span_by-sp
 use Rattle.grid_curves.proofs.lay_held.Goals as goal
 
 -- the day's span, which lies far below 64 bits
-record Spans (e : tie.After-span-by) : Type 0 where
-  start_is : e.span-by.result.start ≡ day_start (Period e.before.before.args.year) e.before.before.args.d
-  len_is : e.span-by.result.len ≡ day_len (Period e.before.before.args.year) e.before.before.args.d
-  low : e.span-by.result.start ≤ 36600
-  short : e.span-by.result.len ≤ 100
+record Spans (e : After-span_by-span) : Type 0 where
+  start_is : e.span_by-span.result.start ≡ day_start (Period e.args.year) e.args.d
+  len_is : e.span_by-span.result.len ≡ day_len (Period e.args.year) e.args.d
+  low : e.span_by-span.result.start ≤ 36600
+  short : e.span_by-span.result.len ≤ 100
 
 spans : (e : After-span_by-span) → Spans e
 spans e =
@@ -41,16 +41,9 @@ from_to :
     (e.smaller-from.result ≡ min start (length a.series.now))
     × (e.smaller-to.result ≡ min (start + day_len (Period a.year) a.d) (length a.series.now))
 from_to e =
-    (e.smaller-from.ensures, omega (arith, e.smaller-to.ensures, (let a = e.args in
-    let is = e.span_by-span.ensures ∙ own_span (Period a.year) a.d e.requires.2 in
-    let from = span_start _ _ is in
-    let size = span_len _ _ is in
-    record {
-      start_is = from;
-      len_is = size;
-      low = omega (arith, from, period_most a.year, start_most (Period a.year) a.d);
-      short = omega (arith, size, len_most (Period a.year) a.d);
-    }).len_is))
+    let a = e.args in
+    let len = span_len _ _ (e.span_by-span.ensures ∙ own_span (Period a.year) a.d e.requires.2) in
+    (e.smaller-from.ensures, omega (arith, e.smaller-to.ensures, len))
 
 pub lay-requires : goal.lay-requires
 lay-requires c =

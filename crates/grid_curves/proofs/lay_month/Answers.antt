@@ -21,13 +21,13 @@ stays y from k a b =
     ap (period_season y) e ∙ period_stays y (from + 1) (k - from) (omega arith)
 
 -- so the days up to the month's end are in both
-record Month (e : tie.After-period-left invariant-loop decreases-loop) : Type 0 where
-  inside : e.before.before.before.args.from + 1 + e.period-left.result ≤ period_days e.before.before.before.args.year
+record Month (e : After-period_left) : Type 0 where
+  inside : e.args.from + 1 + e.period_left.result ≤ period_days e.args.year
   alike :
       (k : ℕ)
-      → e.before.before.before.args.from ≤ k
-      → k < e.before.before.before.args.from + 1 + e.period-left.result
-      → period_season e.before.before.before.args.year (k + 1) ≡ e.before.period_season_law.result
+      → e.args.from ≤ k
+      → k < e.args.from + 1 + e.period_left.result
+      → period_season e.args.year (k + 1) ≡ e.period_season-season.result
 
 month : (e : After-period_left) → Month e
 month e =

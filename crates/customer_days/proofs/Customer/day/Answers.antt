@@ -1,0 +1,43 @@
+-- `customer_days::Customer::day` meets its contract: a refusal hands back the state, and a day that is not refused fits
+-- it. Assumes nothing.
+use mathlib.Core.Path.{◌≡◌, sym, ap, ◌∙◌}
+use types.Run.{miss}
+use Rattle.answers.specs.Said.{Said, only}
+use Rattle.tariff.specs.Answers.{said_of}
+use Rattle.tariff.proofs.Taken.{others, untaken}
+use Rattle.customer_days.specs.Days.{customer_day_answer}
+use Rattle.customer_days.proofs.Exactly.{day_fits, day_zero}
+use Rattle.customer_days.proofs.Steps.{day_said, day_refused, day_taken_law}
+use Rattle.customer_days.proofs.Customer.day.Goals.{After-day_answer-answer, In-Taken}
+use Rattle.customer_days.proofs.Customer.day.Goals as goal
+
+answer_at : (e : After-day_answer-answer) → let a = e.args in said_of e.day_answer-answer.result ≡ customer_day_answer a.self a.day.now
+answer_at e = let a = e.args in day_said a.self a.day.now e.day_answer-answer.ensures
+
+taken_at : (e : In-Taken) → let a = e.args in only 0 ≡ customer_day_answer a.self a.day.now
+taken_at e =
+    let answer_at_now : let a = e.args in said_of e.day_answer-answer.result ≡ customer_day_answer a.self a.day.now =
+    let a = e.args in day_said a.self a.day.now e.day_answer-answer.ensures in ap said_of (sym e.in-Taken.is) ∙ answer_at_now
+
+pub returns-in_default : goal.returns-in_default
+returns-in_default c =
+    let a = c.args in
+    let e = answer_at (goal.at.returns-in_default c).After-day_answer-answer in
+    let z =
+    untaken {d = c.day_answer-answer.result} e (day_zero a.self a.day.now)
+    (λ k. c.in_default.not-Taken k)
+    in
+    record { said = e; state = day_refused a.self a.day.now _ z e }
+
+pub add-customer-requires : goal.add-customer-requires
+add-customer-requires c =
+    let a = c.args in
+    day_fits a.self a.day.now (sym (ap (λ (s : Said). s.number) (taken_at c)))
+
+pub returns : goal.returns
+returns c =
+    let a = c.args in
+    record {
+      said = answer_at (goal.at.returns c).After-day_answer-answer;
+      state = day_taken_law a.self a.day.now (taken_at (goal.at.returns c).In-Taken) c.add-customer.ensures;
+    }

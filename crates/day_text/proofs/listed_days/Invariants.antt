@@ -1,0 +1,14 @@
+-- `day_text::listed_days` meets its contract. The loop's invariant: the first j places hold the listed days.
+-- Assumes nothing.
+use mathlib.Core.Path.{refl}
+use Prim.Native.Nat.{ℕ, ◌+◌, ◌-◌, ◌*◌, ◌≤◌}
+use native.Mathlib.Omega.{arith}
+use Rattle.ranges.proofs.Tables.{Filled, filled_none, filled_more, filled_part}
+use Rattle.day_text.specs.Asked.{line_size, listed_at}
+use Rattle.day_text.proofs.listed_days.Given as goal
+
+abbrev pub invariant-loop-j : goal.invariant-loop-j
+invariant-loop-j l = (l.j ≤ l.j-end) × Filled (λ (i : ℕ). listed_at l.b (line_size * (i + 1))) 41 0 l.j l.out
+
+abbrev pub decreases-loop-j : goal.decreases-loop-j
+decreases-loop-j l = l.j-end - l.j
