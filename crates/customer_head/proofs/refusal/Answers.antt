@@ -27,5 +27,5 @@ returns c =
     let a = c.args in
     let n = c.holiday_count-n.ensures.0 in
     c.price_no.ensures
-    ∙ (λ i. (field_at (price_fields a.head.now) (a.k - 12 - n i)).refused_at (c.Span-of.ensures a.editions i).start)
+    ∙ (λ i. (field_at (price_fields a.head.now) (a.k - 12 - n i)).refused_at (c.span_of.ensures a.editions i).start)
     ∙ refusal_rest a.editions a.head.now a.k (omega arith)

@@ -31,7 +31,7 @@ pub returns-in_default : goal.returns-in_default
 returns-in_default c =
     let a = c.args.answer in
     let e = ap (λ (f : Numbers). f.number) c.of_answer-number.ensures in
-    rw (ne_eqb _ 0 (λ z. c.if-number-eq0.false (e ∙ z))) (ap Refused e ∙ not_five a (λ place k. c.in_default.not-BadReading k))
+    rw (ne_eqb _ 0 (λ z. c.if-number-eq0.false (e ∙ z))) (ap Refused e ∙ not_five a (λ place k. c.in_default.not-BadReading place k))
 
 pub returns : goal.returns
 unfolding stage_of

@@ -19,8 +19,8 @@ use Rattle.window_lines.proofs.add_head.Goals as goal
 line :
     (e : After-figures_text-n)
     → let a = e.args in
-    (take e.figures_text-n.result e.figures_text-n.new.buf.0 ≡ figures_line (a.year ∷ a.level ∷ []))
-    × (e.figures_text-n.result ≤ length e.figures_text-n.new.buf.0)
+    (take e.figures_text-n.result e.figures_text-n.new.buf ≡ figures_line (a.year ∷ a.level ∷ []))
+    × (e.figures_text-n.result ≤ length e.figures_text-n.new.buf)
 line e =
     let a = e.args in
     let w = fitted e.figures_text-n.ensures (omega (arith, head_long a.year a.level, head_short a.year a.level)) in
@@ -44,5 +44,5 @@ returns c =
 pub slice_bounds-line-end : goal.slice_bounds-line-end
 slice_bounds-line-end c = (line (goal.at.slice_bounds-line-end c).After-figures_text-n).1
 
-pub UNKNOWN-slice-aggregate-add-bytes-2 : goal.UNKNOWN-slice-aggregate-add-bytes-2
-UNKNOWN-slice-aggregate-add-bytes-2 c = sym (length-take-le _ _ (line c).1)
+pub slice_bounds-add_bytes-end-2 : goal.slice_bounds-add_bytes-end-2
+slice_bounds-add_bytes-end-2 c = sym (length-take-le _ _ (line (goal.at.slice_bounds-add_bytes-end-2 c).After-figures_text-n).1)

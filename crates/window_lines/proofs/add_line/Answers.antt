@@ -6,46 +6,43 @@ use native.Mathlib.Omega.{arith}
 use Rattle.texts.specs.Text.{Wrote}
 use Rattle.window_lines.specs.Runs.{digit, time_of, run_line}
 use Rattle.texts.proofs.Text.{then, fitted}
-use Rattle.window_lines.proofs.add_line.Goals.{After-add_bytes-a, After-add_bytes-c, After-add_time-b, After-add_time-d, Start}
+use Rattle.window_lines.proofs.add_line.Goals.{After-add_bytes-a, After-add_bytes-c, After-add_time-b, After-add_time-d}
 use Rattle.window_lines.proofs.add_line.Goals as goal
 
--- what is written of the line since the call began
-abbrev Since : Start → List ℕ → List ℕ → ℕ → Type 0
-Since s text buf r = Wrote s.args.buf.now s.args.at text buf r
+-- what is written there first
+abbrev numbered : ℕ → List ℕ
+numbered season = digit season ∷ 32 ∷ []
 
--- what is written there
-abbrev numbered : Start → List ℕ
-numbered s = digit s.args.season ∷ 32 ∷ []
-
-number : (e : After-add_bytes-a) → Since e.before.before.before.before (numbered e.before.before.before.before) e.add_bytes-a.new.buf e.add_bytes-a.result
+number : (e : After-add_bytes-a) → Wrote e.args.buf.now e.args.at (numbered e.args.season) e.add_bytes-a.new.buf e.add_bytes-a.result
 number e = fitted e.add_bytes-a.ensures (omega arith)
 
-time : (e : After-add_time-b) → Since e.before.before.before.before.before.before.before.before (numbered e.before.before.before.before.before.before.before.before ++ time_of e.args.from) e.add_time-b.new.buf e.add_time-b.result
+time : (e : After-add_time-b) → Wrote e.args.buf.now e.args.at (numbered e.args.season ++ time_of e.args.from) e.add_time-b.new.buf e.add_time-b.result
 time e =
-    let number_now : Since e.before.before.before.before (numbered e.before.before.before.before) e.add_bytes-a.new.buf e.add_bytes-a.result =
+    let number_now : Wrote e.args.buf.now e.args.at (numbered e.args.season) e.add_bytes-a.new.buf e.add_bytes-a.result =
     fitted e.add_bytes-a.ensures (omega arith) in then number_now e.add_time-b.ensures
 
 dash :
     (e : After-add_bytes-c)
-    → Since e.before.before.before.before.before.before.before.before.before.before.before.before.before.before (numbered e.before.before.before.before.before.before.before.before.before.before.before.before.before.before ++ time_of e.args.from ++ (45 ∷ [])) e.add_bytes-c.new.buf e.add_bytes-c.result
+    → Wrote e.args.buf.now e.args.at (numbered e.args.season ++ time_of e.args.from ++ (45 ∷ [])) e.add_bytes-c.new.buf e.add_bytes-c.result
 unfolding time_of
 dash e =
-    let number_now : Since e.before.before.before.before (numbered e.before.before.before.before) e.add_bytes-a.new.buf e.add_bytes-a.result =
+    let number_now : Wrote e.args.buf.now e.args.at (numbered e.args.season) e.add_bytes-a.new.buf e.add_bytes-a.result =
     fitted e.add_bytes-a.ensures (omega arith) in
-    let time_now : Since e.before.before.before.before.before.before.before.before (numbered e.before.before.before.before.before.before.before.before ++ time_of e.args.from) e.add_time-b.new.buf e.add_time-b.result =
+    let time_now : Wrote e.args.buf.now e.args.at (numbered e.args.season ++ time_of e.args.from) e.add_time-b.new.buf e.add_time-b.result =
     then number_now e.add_time-b.ensures in
     let w = time_now in
     then w (fitted e.add_bytes-c.ensures (omega (arith, w.end, w.same)))
 
 second :
     (e : After-add_time-d)
-    → Since e.before.before.before.before.before.before.before.before.before.before.before.before.before.before.before.before.before.before (numbered e.before.before.before.before.before.before.before.before.before.before.before.before.before.before.before.before.before.before ++ time_of e.args.from ++ (45 ∷ []) ++ time_of e.args.to) e.add_time-d.new.buf e.add_time-d.result
+    → Wrote e.args.buf.now e.args.at (numbered e.args.season ++ time_of e.args.from ++ (45 ∷ []) ++ time_of e.args.to) e.add_time-d.new.buf e.add_time-d.result
+unfolding time_of
 second e =
-    let number_now : Since e.before.before.before.before (numbered e.before.before.before.before) e.add_bytes-a.new.buf e.add_bytes-a.result =
+    let number_now : Wrote e.args.buf.now e.args.at (numbered e.args.season) e.add_bytes-a.new.buf e.add_bytes-a.result =
     fitted e.add_bytes-a.ensures (omega arith) in
-    let time_now : Since e.before.before.before.before.before.before.before.before (numbered e.before.before.before.before.before.before.before.before ++ time_of e.args.from) e.add_time-b.new.buf e.add_time-b.result =
+    let time_now : Wrote e.args.buf.now e.args.at (numbered e.args.season ++ time_of e.args.from) e.add_time-b.new.buf e.add_time-b.result =
     then number_now e.add_time-b.ensures in
-    let dash_now : Since e.before.before.before.before.before.before.before.before.before.before.before.before.before.before (numbered e.before.before.before.before.before.before.before.before.before.before.before.before.before.before ++ time_of e.args.from ++ (45 ∷ [])) e.add_bytes-c.new.buf e.add_bytes-c.result =
+    let dash_now : Wrote e.args.buf.now e.args.at (numbered e.args.season ++ time_of e.args.from ++ (45 ∷ [])) e.add_bytes-c.new.buf e.add_bytes-c.result =
     let w = time_now in
     then w (fitted e.add_bytes-c.ensures (omega (arith, w.end, w.same))) in then dash_now e.add_time-d.ensures
 

@@ -44,5 +44,5 @@ returns c =
 pub slice_bounds-lay-end-2 : goal.slice_bounds-lay-end-2
 slice_bounds-lay-end-2 c = sym (length-take-le _ _ (omega arith))
 
-pub UNKNOWN-add-t7 : goal.UNKNOWN-add-t7
-UNKNOWN-add-t7 c = omega (arith, few_at c)
+pub overflow_add-result : goal.overflow_add-result
+overflow_add-result c = omega (arith, few_at (goal.at.overflow_add-result c).After-lay)

@@ -20,14 +20,14 @@ len_few e =
 
 pub returns-then-size-gt0 : goal.returns-then-size-gt0
 returns-then-size-gt0 c =
-    let span = c.Span-of.ensures _ in (
+    let span = c.span_of-size.ensures _ in (
       span_width (grid_fits _ _ _) span ∙ wants_field grid_reader _ (cc) (is_field (grid_fits _ _ _) span (omega arith)),
       omega (arith, span_few (grid_fits _ _ _) span),
     )
 
 pub returns-then-seen-period_days : goal.returns-then-seen-period_days
 returns-then-seen-period_days c =
-    let span = c.Span-of.ensures _ in (
+    let span = c.span_of-size.ensures _ in (
       ap (λ (n : ℕ). 4 * n) c.day_len.ensures
           ∙ wants_day grid_reader _ (cc) (no_field (grid_fits _ _ _) span (omega arith)) (omega arith),
       omega (arith, len_few c),
@@ -35,7 +35,7 @@ returns-then-seen-period_days c =
 
 pub returns-then-is_going : goal.returns-then-is_going
 returns-then-is_going c =
-    let span = c.Span-of.ensures _ in
+    let span = c.span_of-size.ensures _ in
     (wants_end grid_reader _ (cc) (no_field (grid_fits _ _ _) span (omega arith)) (omega arith), omega arith)
 
 pub returns : goal.returns

@@ -1,7 +1,6 @@
 -- `customer_file::CustomerFile::start` meets its contract, the fixed state, and a header of zeros, which has no sheet.
 -- Assumes nothing.
 use mathlib.Core.Path.{◌≡◌, refl, ◌∙◌}
-use borrow.Author.Rules.{rules}
 use lib.ListN.{replicate}
 use Rattle.ranges.specs.Ranges.{joined, any_over}
 use Rattle.encoding.specs.Bytes.{other_mark}
@@ -12,22 +11,13 @@ use Rattle.customer_days.specs.Days.{shut_customer, open_customer}
 use Rattle.customer_head.specs.Header.{customer_head_most}
 use Rattle.customer_opening.specs.Opening.{opened_in}
 use Rattle.fields.specs.declared.Stage.TheVariants.{Going}
-use Rattle.customer_file.proofs.CustomerFile.start.Statement.{statement}
-use Rattle.customer_file.proofs.CustomerFile.start.Tie as tie
+use Rattle.customer_file.proofs.CustomerFile.start.Goals as goal
 
 blank : (es : Editions) → opened_in es (replicate customer_head_most 0) ≡ shut_customer
 unfolding opened_in open_customer customer_open_answer read_answer other_mark any_over joined
 blank es = refl
 
-returns : tie.Need-returns
+pub returns : goal.returns
 returns c =
-    let es = c.before.before.args.editions in
+    let es = c.args.editions in
     λ i. record { editions = es; field = 0; head = replicate customer_head_most 0; customer = (c.opened.ensures ∙ blank es) i; stage = Going }
-
-pub start_spec : {M : Type 1} → statement M
-start_spec =
-    tie.close
-    (tie.spec
-    (λ c. search rules)  -- slice-aggregate-opened
-    (λ c κs. search rules)  -- opened-requires
-    returns)

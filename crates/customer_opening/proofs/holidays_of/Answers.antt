@@ -1,0 +1,17 @@
+use mathlib.Core.Path.{refl}
+use Prim.Native.Nat.{ℕ, ◌+◌, ◌-◌, ◌*◌, ◌≤◌}
+use native.Mathlib.Omega.{arith}
+use Rattle.answers.specs.Ruling.{holidays_most}
+use Rattle.encoding.specs.Bytes.{two_at}
+use Rattle.customer_head.specs.Header.{holidays_at}
+use Rattle.ranges.proofs.Tables.{Filled, filled_none, filled_more, filled_part}
+use Rattle.customer_opening.proofs.holidays_of.Goals as goal
+
+pub loop-j-preserved : goal.loop-j-preserved
+loop-j-preserved c = (omega arith, filled_more c.loop-j.invariant.1 (omega arith) c.two_at.ensures)
+
+pub loop-j-init : goal.loop-j-init
+loop-j-init c = (omega arith, filled_none refl)
+
+pub returns : goal.returns
+returns c = filled_part _ c.loop-j.invariant.1 (omega arith)

@@ -1,0 +1,30 @@
+-- `grid_text::closed` meets its contract: the sheet that closing writes is read back.
+-- Assumes nothing.
+use mathlib.Core.Path.{◌≡◌, sym, ap, ◌∙◌}
+use Rattle.answers.specs.Said.{Said}
+use Rattle.sheet.specs.Bytes.{sheet_size}
+use Rattle.sheet.specs.Answers.{ReadSaid, read_sheet}
+use Rattle.grid_days.specs.declared.Grid.{Grid}
+use Rattle.grid_days.specs.Days.{grid_close_answer}
+use Rattle.answer_numbers.specs.declared.Numbers.{Numbers}
+use Rattle.texts.proofs.Text.{put_as}
+use Rattle.grid_text.specs.Text.{sheet_text}
+use Rattle.grid_text.proofs.Closing.{closed_refused, closed_done}
+use Rattle.grid_text.proofs.closed.Goals.{After-of_answer-number}
+use Rattle.grid_text.proofs.closed.Goals as goal
+
+-- once the series is closed: the series, and its number
+abbrev series : After-of_answer-number → Grid
+series e = e.args.grid
+
+number : (e : After-of_answer-number) → e.of_answer-number.result.number ≡ (grid_close_answer (series e) sheet_size).number
+number e = ap (λ (f : Numbers). f.number) e.of_answer-number.ensures ∙ ap (λ (x : Said). x.number) e.close.ensures.0
+
+pub returns-then-number-ne0 : goal.returns-then-number-ne0
+returns-then-number-ne0 c =
+    put_as (closed_refused (series (goal.at.returns-then-number-ne0 c).After-of_answer-number) (number (goal.at.returns-then-number-ne0 c).After-of_answer-number) c.if-number-ne0.true) c.refused.ensures
+
+pub returns : goal.returns
+returns c =
+    let sheet = ap (λ (r : ReadSaid). r.sheet) c.read_by.ensures ∙ ap (read_sheet (series (goal.at.returns c).After-of_answer-number).edition) c.close.ensures.1 in
+    put_as (ap sheet_text sheet ∙ closed_done (series (goal.at.returns c).After-of_answer-number) (sym (number (goal.at.returns c).After-of_answer-number) ∙ c.if-number-ne0.false)) c.windows_text.ensures
