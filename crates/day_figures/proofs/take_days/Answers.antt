@@ -69,8 +69,7 @@ day_long e =
 
 pub take_any-figures-requires : goal.take_any-figures-requires
 take_any-figures-requires c =
-    let a = c.args in
-    (
+    let a = c.args in (
       numbered (goal.at.take_any-figures-requires c).In-loop-k,
       lens_over a.change (a.from + c.loop-k.k) (day_long (goal.at.take_any-figures-requires c).After-len_by),
       day_room (goal.at.take_any-figures-requires c).In-loop-k,
