@@ -18,7 +18,6 @@ use Rattle.tariff.specs.declared.Decision.TheVariants.{Accepted, Eligible, Taken
 use Rattle.tariff.specs.Answers.{said_of}
 use Rattle.customer_days.specs.declared.Customer.{Customer}
 use Rattle.customer_days.specs.Days.{overfull, customer_day_answer, day_customer}
-use Rattle.fields.specs.declared.Stage.TheVariants as Stage
 use Rattle.fields.specs.declared.Stage.{Stage}
 use Rattle.fields.specs.Stages.{stage_of, day_stage}
 use Rattle.fields.specs.Machine.{day_given}

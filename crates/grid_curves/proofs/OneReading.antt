@@ -1,7 +1,7 @@
 -- A grid series that has the same reading everywhere but at one place, where it is no lower: its peak and its curves.
 -- Assumes nothing.
-use mathlib.Core.Path.{◌≡◌, refl, sym, ap, ap₂, ◌∙◌}
-use mathlib.Core.Bool.{Bool, true, false}
+use mathlib.Core.Path.{◌≡◌, sym, ap, ap₂, ◌∙◌}
+use mathlib.Core.Bool.{true}
 use mathlib.Core.List.{List}
 use Prim.Native.Nat.{ℕ, ◌+◌, ◌≤◌, ◌<◌}
 use native.Mathlib.Nat.{le_antisymm}
@@ -9,7 +9,6 @@ use native.Mathlib.Decide.{ℕ_discrete}
 use native.Mathlib.Omega.{arith}
 use borrow.Author.Tests.{eqb-true}
 use lib.Dec.{eqb}
-use Rattle.ranges.specs.Ranges.{number_if}
 use Rattle.ranges.proofs.Inside.{number_if_low}
 use Rattle.ranges.proofs.Largest.{largest_le}
 use Rattle.periods.specs.Period.{period_season}

@@ -7,7 +7,6 @@ use Rattle.ranges.specs.Limits.{Within}
 use Rattle.dates.specs.Dates.{leap_day, year_days, days_to, last_sunday}
 use Rattle.dates.proofs.Months.{days_table}
 use Rattle.dates.proofs.Sundays.{march_sunday_law, october_sunday_law}
-use Rattle.periods.specs.declared.Date.{Date}
 use Rattle.periods.specs.Period.{period_date, october_sunday, march_sunday}
 use Rattle.periods.proofs.Periods.{late, early_date, period_late}
 

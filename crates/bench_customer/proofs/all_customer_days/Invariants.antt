@@ -1,19 +1,12 @@
 -- `bench_customer::all_customer_days` meets its contract. The loop's invariant: the state is that after the first d
 -- days of the series.
 -- Assumes nothing.
-use mathlib.Core.Path.{◌≡◌, sym, ap, ◌∙◌}
-use Prim.Native.Nat.{◌≤◌, ◌-◌, ◌+◌}
-use native.Mathlib.Omega.{arith}
+use mathlib.Core.Path.{◌≡◌}
+use Prim.Native.Nat.{◌≤◌, ◌-◌}
 use Rattle.dates.specs.Dates.{year_days}
-use Rattle.editions.specs.Editions.{todays}
 use Rattle.readings.specs.declared.Run.TheVariants.{Year}
 use Rattle.readings.specs.Days.{offered, days_of}
-use Rattle.readings.specs.Part.{run_part}
-use Rattle.terms.specs.Basis.{basis}
-use Rattle.customer_days.specs.declared.Customer.{Customer}
 use Rattle.customer_days.specs.Days.{day_customer}
-use Rattle.bench_customer.specs.Days.{customer_after_days}
-use Rattle.readings.proofs.Given.{days_none, days_more}
 use Rattle.bench_customer.proofs.all_customer_days.Given as goal
 
 abbrev pub invariant-loop-d : goal.invariant-loop-d

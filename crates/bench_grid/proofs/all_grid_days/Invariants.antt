@@ -1,19 +1,12 @@
 -- `bench_grid::all_grid_days` meets its contract. The loop's invariant: the state is that after the first d days of the
 -- series.
 -- Assumes nothing.
-use mathlib.Core.Path.{◌≡◌, sym, ap, ◌∙◌}
-use Prim.Native.Nat.{◌≤◌, ◌-◌, ◌+◌}
-use native.Mathlib.Omega.{arith}
-use Rattle.editions.specs.declared.Editions.{Editions}
-use Rattle.editions.specs.Editions.{edition_of}
+use mathlib.Core.Path.{◌≡◌}
+use Prim.Native.Nat.{◌≤◌, ◌-◌}
 use Rattle.periods.specs.Period.{period_days}
 use Rattle.readings.specs.declared.Run.TheVariants.{Period}
 use Rattle.readings.specs.Days.{offered, days_of}
-use Rattle.readings.specs.Part.{run_part}
-use Rattle.grid_days.specs.declared.Grid.{Grid}
-use Rattle.grid_days.specs.Days.{open_grid, day_grid}
-use Rattle.bench_grid.specs.Days.{grid_after_days}
-use Rattle.readings.proofs.Given.{days_none, days_more}
+use Rattle.grid_days.specs.Days.{day_grid}
 use Rattle.bench_grid.proofs.all_grid_days.Given as goal
 
 abbrev pub invariant-loop-d : goal.invariant-loop-d

@@ -1,6 +1,5 @@
-use Prim.Native.Nat.{◌-◌}
 use native.Mathlib.Omega.{arith}
-use Rattle.encoding.proofs.Bytes.{Laid, laid_none, laid_more, laid_all}
+use Rattle.encoding.proofs.Bytes.{laid_none, laid_more, laid_all}
 use Rattle.buffers.proofs.lay.Goals as goal
 
 pub loop-i-preserved : goal.loop-i-preserved

@@ -1,8 +1,7 @@
 -- `buffers::lay` meets its contract. The loop's invariant: the first i bytes are there.
 -- Assumes nothing.
 use Prim.Native.Nat.{◌-◌}
-use native.Mathlib.Omega.{arith}
-use Rattle.encoding.proofs.Bytes.{Laid, laid_none, laid_more, laid_all}
+use Rattle.encoding.proofs.Bytes.{Laid}
 use Rattle.buffers.proofs.lay.Given as goal
 
 abbrev pub invariant-loop-i : goal.invariant-loop-i

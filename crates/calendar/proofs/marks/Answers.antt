@@ -1,10 +1,9 @@
 use mathlib.Core.Path.{refl}
 use mathlib.Core.Bool.{Bool, false}
-use Prim.Native.Nat.{◌-◌}
 use native.Mathlib.Omega.{arith}
-use lib.ListN.{length, get_or-replicate}
+use lib.ListN.{get_or-replicate}
 use Rattle.calendar.specs.Marks.{mark_places}
-use Rattle.calendar.proofs.Marked.{Marking, marking_none, marking_more, marking_all}
+use Rattle.calendar.proofs.Marked.{marking_none, marking_more, marking_all}
 use Rattle.calendar.proofs.marks.Goals as goal
 
 pub loop-k-preserved : goal.loop-k-preserved

@@ -1,12 +1,8 @@
 -- `calendar::marks` meets its contract. The loop's invariant: the first k entries are marked.
 -- Assumes nothing.
-use mathlib.Core.Path.{refl}
-use mathlib.Core.Bool.{Bool, false}
 use Prim.Native.Nat.{◌-◌}
-use native.Mathlib.Omega.{arith}
-use lib.ListN.{length, get_or-replicate}
-use Rattle.calendar.specs.Marks.{mark_places}
-use Rattle.calendar.proofs.Marked.{Marking, marking_none, marking_more, marking_all}
+use lib.ListN.{length}
+use Rattle.calendar.proofs.Marked.{Marking}
 use Rattle.calendar.proofs.marks.Given as goal
 
 abbrev pub invariant-loop-k : goal.invariant-loop-k

@@ -1,10 +1,7 @@
 use mathlib.Core.Path.{refl, ap, ◌∙◌}
-use mathlib.Core.Bool.{false}
-use Prim.Native.Nat.{ℕ, ◌-◌, ◌+◌}
 use native.Mathlib.Omega.{arith}
-use Rattle.dates.specs.Dates.{most_days}
-use Rattle.day_kinds.specs.Kinds.{is_windows, carries, window_days}
-use Rattle.ranges.proofs.Tables.{Filled, filled_none, filled_more, filled_all}
+use Rattle.day_kinds.specs.Kinds.{is_windows, window_days}
+use Rattle.ranges.proofs.Tables.{filled_none, filled_more, filled_all}
 use Rattle.calendar.proofs.Marked.{by_marks}
 use Rattle.calendar.proofs.window_days.Goals as goal
 

@@ -1,13 +1,10 @@
 -- `calendar::window_days` meets its contract. The loop's invariant: the first k days are filled in.
 -- Assumes nothing.
-use mathlib.Core.Path.{refl, ap, ◌∙◌}
 use mathlib.Core.Bool.{false}
 use Prim.Native.Nat.{ℕ, ◌-◌, ◌+◌}
-use native.Mathlib.Omega.{arith}
 use Rattle.dates.specs.Dates.{most_days}
-use Rattle.day_kinds.specs.Kinds.{is_windows, carries, window_days}
-use Rattle.ranges.proofs.Tables.{Filled, filled_none, filled_more, filled_all}
-use Rattle.calendar.proofs.Marked.{by_marks}
+use Rattle.day_kinds.specs.Kinds.{carries}
+use Rattle.ranges.proofs.Tables.{Filled}
 use Rattle.calendar.proofs.window_days.Given as goal
 
 abbrev pub invariant-loop-k : goal.invariant-loop-k

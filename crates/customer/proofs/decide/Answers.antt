@@ -5,7 +5,6 @@ use mathlib.Core.Path.{◌≡◌, refl, sym, ap, ◌∙◌}
 use mathlib.Core.List.{List}
 use Prim.Native.Nat.{ℕ}
 use native.Mathlib.Omega.{arith}
-use types.Run.{miss}
 use lib.ListN.{length}
 use Rattle.answers.specs.Said.{Said, only}
 use Rattle.dates.specs.Dates.{year_days}
@@ -13,7 +12,7 @@ use Rattle.readings.specs.declared.Run.TheVariants.{Year}
 use Rattle.readings.specs.Runs.{run_readings}
 use Rattle.readings.proofs.Days.{series_length}
 use Rattle.tariff.specs.Answers.{said_of}
-use Rattle.tariff.proofs.Taken.{others, untaken}
+use Rattle.tariff.proofs.Taken.{untaken}
 use Rattle.terms.specs.Basis.{Basis, basis}
 use Rattle.terms.proofs.Exactly.{open_zero}
 use Rattle.year_figures.proofs.Years.{year_told, year_refused}

@@ -9,8 +9,7 @@ use Rattle.answer_numbers.specs.declared.Numbers.{Numbers}
 use Rattle.fields.specs.declared.Stage.TheVariants.{Refused}
 use Rattle.fields.specs.Stages.{stage_of, day_stage}
 use Rattle.decision_numbers.proofs.Line.{decision_small}
-use Rattle.customer_file.proofs.CustomerCases.{others, stage_number}
-use types.Run.{miss}
+use Rattle.customer_file.proofs.CustomerCases.{stage_number}
 use Rattle.customer_file.proofs.stage_of.Goals as goal
 
 pub overflow_cast-number : goal.overflow_cast-number

@@ -1,10 +1,6 @@
 use mathlib.Core.Path.{refl}
-use Prim.Native.Nat.{ℕ, ◌+◌, ◌-◌, ◌*◌, ◌≤◌}
 use native.Mathlib.Omega.{arith}
-use Rattle.answers.specs.Ruling.{holidays_most}
-use Rattle.encoding.specs.Bytes.{two_at}
-use Rattle.customer_head.specs.Header.{holidays_at}
-use Rattle.ranges.proofs.Tables.{Filled, filled_none, filled_more, filled_part}
+use Rattle.ranges.proofs.Tables.{filled_none, filled_more, filled_part}
 use Rattle.customer_opening.proofs.holidays_of.Goals as goal
 
 pub loop-j-preserved : goal.loop-j-preserved

@@ -1,13 +1,11 @@
 -- `customer_opening::holidays_of` meets its contract. The loop's invariant: the first j places hold the file's
 -- holidays.
 -- Assumes nothing.
-use mathlib.Core.Path.{refl}
 use Prim.Native.Nat.{ℕ, ◌+◌, ◌-◌, ◌*◌, ◌≤◌}
-use native.Mathlib.Omega.{arith}
 use Rattle.answers.specs.Ruling.{holidays_most}
 use Rattle.encoding.specs.Bytes.{two_at}
 use Rattle.customer_head.specs.Header.{holidays_at}
-use Rattle.ranges.proofs.Tables.{Filled, filled_none, filled_more, filled_part}
+use Rattle.ranges.proofs.Tables.{Filled}
 use Rattle.customer_opening.proofs.holidays_of.Given as goal
 
 abbrev pub invariant-loop-j : goal.invariant-loop-j

@@ -1,11 +1,7 @@
 -- `dates::month` meets its contract. The loop's invariant: every month before month m has ended before the day.
 -- Assumes nothing.
 use Prim.Native.Nat.{ℕ, ◌+◌, ◌-◌, ◌≤◌, ◌<◌}
-use mathlib.Core.Path.{◌≡◌}
-use native.Mathlib.Decide.{ℕ_discrete}
-use native.Mathlib.Omega.{arith}
 use Rattle.dates.specs.Dates.{days_to}
-use Rattle.dates.proofs.Months.{month_first, month_last}
 use Rattle.dates.proofs.month.Given as goal
 
 abbrev pub invariant-loop-m : goal.invariant-loop-m

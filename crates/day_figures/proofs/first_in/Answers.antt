@@ -1,10 +1,9 @@
 use mathlib.Core.Path.{◌≡◌, sym, ap, ◌∙◌}
 use mathlib.Core.Bool.{Bool, false, ◌&&◌}
-use Prim.Native.Nat.{ℕ, ◌≤◌, ◌-◌}
 use native.Mathlib.Omega.{arith}
 use lib.Dec.{eqb}
-use lib.ListN.{length, get_or}
-use Rattle.ranges.proofs.Tests.{Passed, passed_none, passed_more}
+use lib.ListN.{get_or}
+use Rattle.ranges.proofs.Tests.{passed_none, passed_more}
 use Rattle.ranges.proofs.First.{first_at, first_fails}
 use Rattle.day_figures.specs.Day.{alone}
 use Rattle.day_figures.proofs.first_in.Goals.{After-is_in}

@@ -1,14 +1,11 @@
 -- `day_figures::first_in` meets its contract. The loop's invariant: none of the first p positions counts and has the
 -- value.
 -- Assumes nothing.
-use mathlib.Core.Path.{◌≡◌, sym, ap, ◌∙◌}
-use mathlib.Core.Bool.{Bool, false, ◌&&◌}
+use mathlib.Core.Bool.{false, ◌&&◌}
 use Prim.Native.Nat.{ℕ, ◌≤◌, ◌-◌}
-use native.Mathlib.Omega.{arith}
 use lib.Dec.{eqb}
 use lib.ListN.{length, get_or}
-use Rattle.ranges.proofs.Tests.{Passed, passed_none, passed_more}
-use Rattle.ranges.proofs.First.{first_at, first_fails}
+use Rattle.ranges.proofs.Tests.{Passed}
 use Rattle.day_figures.specs.Day.{alone}
 use Rattle.day_figures.proofs.first_in.Given as goal
 

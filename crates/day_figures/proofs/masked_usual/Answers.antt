@@ -1,11 +1,10 @@
 use mathlib.Core.Path.{◌≡◌, sym, ap, ◌∙◌}
-use Prim.Native.Nat.{ℕ, ◌≤◌, ◌-◌, max}
+use Prim.Native.Nat.{ℕ, max}
 use native.Mathlib.Omega.{arith}
 use lib.Bits.{bit_and}
 use lib.ListN.{length, get_or}
 use Rattle.ranges.specs.Ranges.{largest_over}
 use Rattle.ranges.proofs.Largest.{largest_none, largest_more, largest_cong}
-use Rattle.answers.specs.Ruling.{day_quarters}
 use Rattle.readings.specs.Runs.{quarter_in}
 use Rattle.readings.proofs.Quarters.{quarter_plain}
 use Rattle.day_figures.specs.Day.{alone}

@@ -1,18 +1,13 @@
 -- `day_figures::masked_usual` meets its contract. The loop's invariant: `high` is the highest of what is left of the
 -- first p readings, each of which stands for the quarter of its position.
 -- Assumes nothing.
-use mathlib.Core.Path.{◌≡◌, sym, ap, ◌∙◌}
-use Prim.Native.Nat.{ℕ, ◌≤◌, ◌-◌, max}
-use native.Mathlib.Omega.{arith}
+use mathlib.Core.Path.{◌≡◌}
+use Prim.Native.Nat.{ℕ, ◌≤◌, ◌-◌}
 use lib.Bits.{bit_and}
-use lib.ListN.{length, get_or}
+use lib.ListN.{get_or}
 use Rattle.ranges.specs.Ranges.{largest_over}
-use Rattle.ranges.proofs.Largest.{largest_none, largest_more, largest_cong}
 use Rattle.answers.specs.Ruling.{day_quarters}
-use Rattle.readings.specs.Runs.{quarter_in}
-use Rattle.readings.proofs.Quarters.{quarter_plain}
 use Rattle.day_figures.specs.Day.{alone}
-use Rattle.day_figures.specs.Passes.{masked_high}
 use Rattle.day_figures.proofs.masked_usual.Given as goal
 
 abbrev pub invariant-loop-p : goal.invariant-loop-p

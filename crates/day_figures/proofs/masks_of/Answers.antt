@@ -1,6 +1,5 @@
-use Prim.Native.Nat.{◌-◌}
 use native.Mathlib.Omega.{arith}
-use Rattle.day_figures.proofs.Masks.{Made, made_none, made_more, made_all}
+use Rattle.day_figures.proofs.Masks.{made_none, made_more, made_all}
 use Rattle.day_figures.proofs.masks_of.Goals as goal
 
 pub loop-q-init : goal.loop-q-init

@@ -1,8 +1,7 @@
 -- `day_figures::masks_of` meets its contract. The loop's invariant: the first q masks are made.
 -- Assumes nothing.
 use Prim.Native.Nat.{◌-◌}
-use native.Mathlib.Omega.{arith}
-use Rattle.day_figures.proofs.Masks.{Made, made_none, made_more, made_all}
+use Rattle.day_figures.proofs.Masks.{Made}
 use Rattle.day_figures.proofs.masks_of.Given as goal
 
 abbrev pub invariant-loop-q : goal.invariant-loop-q

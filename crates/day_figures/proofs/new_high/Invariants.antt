@@ -1,22 +1,16 @@
 -- `day_figures::new_high` meets its contract. The loop's invariant: after the first p readings there is an H or none,
 -- this is its reading, and there it stands, for whichever figures the loop began with.
 -- Assumes nothing.
-use mathlib.Core.Path.{◌≡◌, refl, sym, ap, ◌∙◌}
-use mathlib.Core.Bool.{Bool, false, cond, not, ◌&&◌, ◌||◌, or-false}
-use Prim.Native.Nat.{ℕ, ◌+◌, ◌-◌, ◌≤◌, ◌<◌}
-use native.Mathlib.Omega.{arith}
-use borrow.Author.Tests.{le-ltb}
+use mathlib.Core.Path.{◌≡◌}
+use mathlib.Core.Bool.{cond, ◌||◌}
+use Prim.Native.Nat.{ℕ, ◌+◌, ◌-◌, ◌≤◌}
 use lib.Dec.{ltb}
-use lib.ListN.{length, get_or}
-use Rattle.readings.specs.Legal.{highest_of}
-use Rattle.readings.specs.Runs.{quarter_in}
+use lib.ListN.{length}
 use Rattle.tariff.specs.declared.Figures.{Figures}
 use Rattle.figures.specs.Figures.{record_to, taken_in}
-use Rattle.figures.proofs.Readings.{one_reading, readings_none, readings_more}
 use Rattle.day_figures.specs.Day.{alone, in_row, row_if}
-use Rattle.day_figures.specs.Passes.{tops_of, high_at}
-use Rattle.day_figures.proofs.OneDay.{flag_in, high_before}
-use Rattle.day_figures.proofs.Sunday.{plain_to, plain_none, any_next, high_next, taken_next}
+use Rattle.day_figures.specs.Passes.{high_at}
+use Rattle.day_figures.proofs.Sunday.{plain_to}
 use Rattle.day_figures.proofs.new_high.Given as goal
 
 abbrev pub invariant-loop-p : goal.invariant-loop-p

@@ -1,16 +1,12 @@
 -- `day_figures::some_left` meets its contract. The loop's invariant: `any` tells whether one of the first q masks
 -- leaves something.
 -- Assumes nothing.
-use mathlib.Core.Path.{◌≡◌, sym, ap, ◌∙◌}
-use mathlib.Core.Bool.{Bool, ◌||◌}
+use mathlib.Core.Path.{◌≡◌}
 use Prim.Native.Nat.{ℕ, ◌-◌, ◌≤◌}
-use native.Mathlib.Omega.{arith}
 use lib.Dec.{ltb}
 use lib.ListN.{get_or}
 use Rattle.ranges.specs.Ranges.{any_over}
-use Rattle.ranges.proofs.Tests.{any_none, any_more}
 use Rattle.answers.specs.Ruling.{day_quarters}
-use Rattle.day_figures.specs.Passes.{some_left}
 use Rattle.day_figures.proofs.some_left.Given as goal
 
 abbrev pub invariant-loop-q : goal.invariant-loop-q

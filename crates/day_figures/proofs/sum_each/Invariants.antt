@@ -1,11 +1,9 @@
 -- `day_figures::sum_each` meets its contract. The loop's invariant: the sum is that of the first p readings.
 -- Assumes nothing.
-use mathlib.Core.Path.{◌≡◌, sym, ap, ◌∙◌}
+use mathlib.Core.Path.{◌≡◌}
 use Prim.Native.Nat.{◌*◌, ◌-◌, ◌≤◌}
-use native.Mathlib.Omega.{arith}
 use lib.ListN.{length}
 use Rattle.ranges.specs.Ranges.{sum_over}
-use Rattle.ranges.proofs.Sums.{sum_none, sum_more}
 use Rattle.day_figures.specs.Day.{alone}
 use Rattle.day_figures.proofs.sum_each.Given as goal
 

@@ -1,10 +1,8 @@
-use mathlib.Core.Path.{◌≡◌}
-use Prim.Native.Nat.{ℕ, ◌*◌, ◌-◌, ◌≤◌, ◌<◌}
+use Prim.Native.Nat.{ℕ, ◌<◌}
 use native.Mathlib.Omega.{arith}
 use lib.ListN.{length, get_or}
-use Rattle.day_figures.specs.Day.{alone}
 use Rattle.day_figures.specs.Passes.{four_end}
-use Rattle.day_figures.proofs.DaySums.{Fourths, fourths_none, fourths_more, fourths_all, below_peak}
+use Rattle.day_figures.proofs.DaySums.{fourths_none, fourths_more, fourths_all, below_peak}
 use Rattle.day_figures.proofs.sum_fourths.Goals as goal
 
 pub sum_four-sum-requires : goal.sum_four-sum-requires

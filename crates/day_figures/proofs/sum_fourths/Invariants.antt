@@ -2,12 +2,10 @@
 -- fourth.
 -- Assumes nothing.
 use mathlib.Core.Path.{◌≡◌}
-use Prim.Native.Nat.{ℕ, ◌*◌, ◌-◌, ◌≤◌, ◌<◌}
-use native.Mathlib.Omega.{arith}
-use lib.ListN.{length, get_or}
+use Prim.Native.Nat.{◌*◌, ◌-◌, ◌≤◌}
+use lib.ListN.{length}
 use Rattle.day_figures.specs.Day.{alone}
-use Rattle.day_figures.specs.Passes.{four_end}
-use Rattle.day_figures.proofs.DaySums.{Fourths, fourths_none, fourths_more, fourths_all, below_peak}
+use Rattle.day_figures.proofs.DaySums.{Fourths}
 use Rattle.day_figures.proofs.sum_fourths.Given as goal
 
 abbrev pub invariant-loop-p : goal.invariant-loop-p

@@ -1,8 +1,6 @@
 use mathlib.Core.Path.{refl}
-use Prim.Native.Nat.{ℕ, ◌+◌, ◌-◌, ◌*◌, ◌≤◌}
 use native.Mathlib.Omega.{arith}
-use Rattle.ranges.proofs.Tables.{Filled, filled_none, filled_more, filled_part}
-use Rattle.day_text.specs.Asked.{line_size, listed_at}
+use Rattle.ranges.proofs.Tables.{filled_none, filled_more, filled_part}
 use Rattle.day_text.proofs.listed_days.Goals as goal
 
 pub loop-j-preserved : goal.loop-j-preserved

@@ -1,9 +1,7 @@
 -- `day_text::listed_days` meets its contract. The loop's invariant: the first j places hold the listed days.
 -- Assumes nothing.
-use mathlib.Core.Path.{refl}
 use Prim.Native.Nat.{ℕ, ◌+◌, ◌-◌, ◌*◌, ◌≤◌}
-use native.Mathlib.Omega.{arith}
-use Rattle.ranges.proofs.Tables.{Filled, filled_none, filled_more, filled_part}
+use Rattle.ranges.proofs.Tables.{Filled}
 use Rattle.day_text.specs.Asked.{line_size, listed_at}
 use Rattle.day_text.proofs.listed_days.Given as goal
 

@@ -1,9 +1,6 @@
 use mathlib.Core.Path.{sym, ◌∙◌}
-use Prim.Native.Nat.{◌≤◌, ◌-◌}
 use native.Mathlib.Omega.{arith}
-use lib.ListN.{length}
-use Rattle.ranges.proofs.Tests.{Passed, passed_none, passed_more}
-use Rattle.day_text.specs.Asked.{misfits_at}
+use Rattle.ranges.proofs.Tests.{passed_none, passed_more}
 use Rattle.day_text.proofs.Laws.{none, cut, misfit_found, all_fit}
 use Rattle.day_text.proofs.no_dates.Goals as goal
 

@@ -1,9 +1,7 @@
 use mathlib.Core.Path.{sym, ◌∙◌}
-use Prim.Native.Nat.{◌≤◌, ◌-◌}
 use native.Mathlib.Omega.{arith}
 use borrow.Author.Tests.{ne_eqb}
-use Rattle.ranges.proofs.Tests.{Passed, passed_none, passed_more}
-use Rattle.day_text.specs.Asked.{line_count, missing_on}
+use Rattle.ranges.proofs.Tests.{passed_none, passed_more}
 use Rattle.day_text.proofs.Laws.{missing_found, none_missing}
 use Rattle.day_text.proofs.no_such_date.Goals as goal
 

@@ -1,12 +1,8 @@
 -- `day_text::no_such_date` meets its contract. The loop's invariant: the lines before line k have dates of their years.
 -- Assumes nothing.
-use mathlib.Core.Path.{sym, ◌∙◌}
 use Prim.Native.Nat.{◌≤◌, ◌-◌}
-use native.Mathlib.Omega.{arith}
-use borrow.Author.Tests.{ne_eqb}
-use Rattle.ranges.proofs.Tests.{Passed, passed_none, passed_more}
+use Rattle.ranges.proofs.Tests.{Passed}
 use Rattle.day_text.specs.Asked.{line_count, missing_on}
-use Rattle.day_text.proofs.Laws.{missing_found, none_missing}
 use Rattle.day_text.proofs.no_such_date.Given as goal
 
 abbrev pub invariant-loop-k : goal.invariant-loop-k

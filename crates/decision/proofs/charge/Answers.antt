@@ -7,7 +7,6 @@ use Rattle.tariff.specs.Charges.{charges_of}
 use Rattle.tariff.specs.Answers.{said_of_charges}
 use Rattle.tariff.proofs.Limits.{prices_legal}
 use Rattle.tariff.proofs.Answered.{charges_six, charges_cents, charge_prices, charge_legal}
-use borrow.Author.Rules.{rules}
 use Rattle.decision.proofs.charge.Goals.{In-Cents}
 use Rattle.decision.proofs.charge.Goals as goal
 

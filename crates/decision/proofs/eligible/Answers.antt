@@ -9,7 +9,6 @@ use Rattle.tariff.specs.Answers.{said_of_general}
 use Rattle.tariff.specs.Rows.{LegalRates}
 use Rattle.tariff.proofs.Limits.{rates_legal}
 use Rattle.tariff.proofs.Answered.{general_six, general_cents, eligible_level, eligible_prices, eligible_legal}
-use borrow.Author.Rules.{rules}
 use Rattle.decision.proofs.eligible.Goals.{Else-level_out, In-Cents}
 use Rattle.decision.proofs.eligible.Goals as goal
 

@@ -3,10 +3,7 @@
 -- Assumes nothing.
 use mathlib.Core.Path.{◌≡◌, sym, ap, ◌∙◌}
 use mathlib.Core.Bool.{false}
-use mathlib.Core.List.{List, [], ◌∷◌}
-use Prim.Native.Nat.{ℕ}
 use native.Mathlib.Omega.{arith}
-use types.Run.{miss}
 use Rattle.answers.specs.Ruling.{level_out}
 use Rattle.tariff.specs.declared.TwoCharges.{TwoCharges}
 use Rattle.tariff.specs.declared.Decision.TheVariants.{Eligible}
@@ -19,7 +16,6 @@ use Rattle.tariff.proofs.Limits.{rates_legal}
 use Rattle.tariff.proofs.Answered.{number_is, charges_six, charges_cents, eligible_level, eligible_prices, eligible_legal, charge_legal, judge_first, judge_second}
 use Rattle.tariff.proofs.Exactly.{eligible_zero}
 use Rattle.tariff.proofs.Only.{decision_only}
-use borrow.Author.Rules.{rules}
 use Rattle.decision.proofs.judge.Goals.{After-eligible_rules-first, Else-level_out, In-Cents}
 use Rattle.decision.proofs.judge.Goals as goal
 

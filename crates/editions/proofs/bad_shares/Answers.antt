@@ -1,9 +1,7 @@
-use Prim.Native.Nat.{◌≤◌, ◌-◌}
 use native.Mathlib.Omega.{arith}
 use borrow.Author.Tests.{le-ltb}
-use Rattle.ranges.proofs.Tests.{Passed, passed_none, passed_more}
-use Rattle.answers.specs.Ruling.{last_level}
-use Rattle.editions.proofs.Refused.{above, shares_at, shares_none}
+use Rattle.ranges.proofs.Tests.{passed_none, passed_more}
+use Rattle.editions.proofs.Refused.{shares_at, shares_none}
 use Rattle.editions.proofs.bad_shares.Goals as goal
 
 pub returns-then-shares-k-gt-WHOLE_SHARE : goal.returns-then-shares-k-gt-WHOLE_SHARE

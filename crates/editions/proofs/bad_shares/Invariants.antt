@@ -1,11 +1,9 @@
 -- `editions::bad_shares` meets its contract. The loop's invariant: none of the first k shares is above 100 percent.
 -- Assumes nothing.
 use Prim.Native.Nat.{◌≤◌, ◌-◌}
-use native.Mathlib.Omega.{arith}
-use borrow.Author.Tests.{le-ltb}
-use Rattle.ranges.proofs.Tests.{Passed, passed_none, passed_more}
+use Rattle.ranges.proofs.Tests.{Passed}
 use Rattle.answers.specs.Ruling.{last_level}
-use Rattle.editions.proofs.Refused.{above, shares_at, shares_none}
+use Rattle.editions.proofs.Refused.{above}
 use Rattle.editions.proofs.bad_shares.Given as goal
 
 abbrev pub invariant-loop-k : goal.invariant-loop-k

@@ -1,8 +1,7 @@
 use mathlib.Core.Path.{sym, ◌∙◌}
-use Prim.Native.Nat.{◌≤◌, ◌-◌}
 use native.Mathlib.Omega.{arith}
-use Rattle.ranges.proofs.Tests.{Passed, passed_none, passed_more}
-use Rattle.editions.proofs.Refused.{meeting, overlap_at, overlap_none}
+use Rattle.ranges.proofs.Tests.{passed_none, passed_more}
+use Rattle.editions.proofs.Refused.{overlap_at, overlap_none}
 use Rattle.editions.proofs.do_overlap.Goals as goal
 
 pub returns-then-do_meet : goal.returns-then-do_meet

@@ -1,10 +1,8 @@
 -- `editions::do_overlap` meets its contract. The loop's invariant: none of the first k records meets the new one.
 -- Assumes nothing.
-use mathlib.Core.Path.{sym, ◌∙◌}
 use Prim.Native.Nat.{◌≤◌, ◌-◌}
-use native.Mathlib.Omega.{arith}
-use Rattle.ranges.proofs.Tests.{Passed, passed_none, passed_more}
-use Rattle.editions.proofs.Refused.{meeting, overlap_at, overlap_none}
+use Rattle.ranges.proofs.Tests.{Passed}
+use Rattle.editions.proofs.Refused.{meeting}
 use Rattle.editions.proofs.do_overlap.Given as goal
 
 abbrev pub invariant-loop-k : goal.invariant-loop-k

@@ -1,9 +1,8 @@
 use mathlib.Core.Path.{sym, ap, ◌∙◌}
 use mathlib.Core.Bool.{not}
-use Prim.Native.Nat.{◌≤◌, ◌-◌}
 use native.Mathlib.Omega.{arith}
-use Rattle.ranges.proofs.Tests.{Passed, passed_none, passed_more}
-use Rattle.editions.proofs.Picked.{holding, picked_at, picked_none}
+use Rattle.ranges.proofs.Tests.{passed_none, passed_more}
+use Rattle.editions.proofs.Picked.{picked_at, picked_none}
 use Rattle.editions.proofs.pick.Goals as goal
 
 pub returns-then-not-lacks_year : goal.returns-then-not-lacks_year

@@ -1,11 +1,8 @@
 -- `editions::pick` meets its contract. The loop's invariant: none of the first k records holds for the year.
 -- Assumes nothing.
-use mathlib.Core.Path.{sym, ap, ◌∙◌}
-use mathlib.Core.Bool.{not}
 use Prim.Native.Nat.{◌≤◌, ◌-◌}
-use native.Mathlib.Omega.{arith}
-use Rattle.ranges.proofs.Tests.{Passed, passed_none, passed_more}
-use Rattle.editions.proofs.Picked.{holding, picked_at, picked_none}
+use Rattle.ranges.proofs.Tests.{Passed}
+use Rattle.editions.proofs.Picked.{holding}
 use Rattle.editions.proofs.pick.Given as goal
 
 abbrev pub invariant-loop-k : goal.invariant-loop-k

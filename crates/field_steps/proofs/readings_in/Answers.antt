@@ -1,10 +1,6 @@
 use mathlib.Core.Path.{refl}
-use Prim.Native.Nat.{◌-◌, ◌*◌}
 use native.Mathlib.Omega.{arith}
-use Rattle.encoding.specs.Bytes.{four_at}
-use Rattle.readings.specs.Runs.{most_readings}
-use Rattle.fields.specs.Series.{reading_bytes}
-use Rattle.ranges.proofs.Tables.{Filled, filled_none, filled_more, filled_all}
+use Rattle.ranges.proofs.Tables.{filled_none, filled_more, filled_all}
 use Rattle.field_steps.proofs.readings_in.Goals as goal
 
 pub loop-i-init : goal.loop-i-init

@@ -1,12 +1,10 @@
 -- `field_steps::readings_in` meets its contract. The loop's invariant: the first i readings are filled in.
 -- Assumes nothing.
-use mathlib.Core.Path.{refl}
 use Prim.Native.Nat.{◌-◌, ◌*◌}
-use native.Mathlib.Omega.{arith}
 use Rattle.encoding.specs.Bytes.{four_at}
 use Rattle.readings.specs.Runs.{most_readings}
 use Rattle.fields.specs.Series.{reading_bytes}
-use Rattle.ranges.proofs.Tables.{Filled, filled_none, filled_more, filled_all}
+use Rattle.ranges.proofs.Tables.{Filled}
 use Rattle.field_steps.proofs.readings_in.Given as goal
 
 abbrev pub invariant-loop-i : goal.invariant-loop-i

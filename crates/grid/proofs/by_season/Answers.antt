@@ -1,13 +1,7 @@
-use mathlib.Core.Path.{◌≡◌, refl, ap, ◌∙◌}
-use mathlib.Core.List.{List, [], ◌∷◌}
-use Prim.Native.Nat.{ℕ, zero, suc, ◌+◌, ◌-◌, ◌<◌, ◌≤◌}
+use mathlib.Core.Path.{refl}
 use native.Mathlib.Omega.{arith}
-use lib.ListN.{length, get_or, set}
-use lib.Seq.{get_or-set_other}
-use Rattle.answers.specs.Ruling.{day_quarters}
-use Rattle.sheet.specs.Windows.{seasons}
-use Rattle.ranges.proofs.Tables.{Filled, filled_none, filled_more, filled_all}
-use Rattle.grid.specs.Answers.{curve_of, curves_of}
+use Rattle.ranges.proofs.Tables.{filled_none, filled_more, filled_all}
+use Rattle.grid.specs.Answers.{curves_of}
 use borrow.Author.Rules.{rules}
 use Rattle.grid.proofs.RowsLeft.{left_less, left_all}
 use Rattle.grid.proofs.by_season.Goals as goal

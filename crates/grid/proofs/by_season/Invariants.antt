@@ -1,17 +1,11 @@
 -- `grid::by_season` meets its contract. The loop's invariant: the first s seasons are written, and the rows that are
 -- left have a day's quarters.
 -- Assumes nothing.
-use mathlib.Core.Path.{◌≡◌, refl, ap, ◌∙◌}
-use mathlib.Core.List.{List, [], ◌∷◌}
-use Prim.Native.Nat.{ℕ, zero, suc, ◌+◌, ◌-◌, ◌<◌, ◌≤◌}
-use native.Mathlib.Omega.{arith}
-use lib.ListN.{length, get_or, set}
-use lib.Seq.{get_or-set_other}
-use Rattle.answers.specs.Ruling.{day_quarters}
+use mathlib.Core.List.{[]}
+use Prim.Native.Nat.{◌-◌}
 use Rattle.sheet.specs.Windows.{seasons}
-use Rattle.ranges.proofs.Tables.{Filled, filled_none, filled_more, filled_all}
-use Rattle.grid.specs.Answers.{curve_of, curves_of}
-use borrow.Author.Rules.{rules}
+use Rattle.ranges.proofs.Tables.{Filled}
+use Rattle.grid.specs.Answers.{curve_of}
 use Rattle.grid.proofs.RowsLeft.{Left}
 use Rattle.grid.proofs.by_season.Given as goal
 

@@ -1,12 +1,7 @@
 use mathlib.Core.Path.{refl}
-use mathlib.Core.Bool.{false}
-use mathlib.Core.List.{[]}
-use Prim.Native.Nat.{ℕ, ◌-◌, ◌/◌, ◌%◌}
 use native.Mathlib.Omega.{arith}
-use lib.ListN.{get_or}
-use Rattle.answers.specs.Ruling.{day_quarters}
-use Rattle.sheet.specs.Windows.{window_places, flat_windows}
-use Rattle.ranges.proofs.Tables.{Filled, filled_none, filled_more, filled_all}
+use Rattle.sheet.specs.Windows.{flat_windows}
+use Rattle.ranges.proofs.Tables.{filled_none, filled_more, filled_all}
 use Rattle.grid.proofs.flat_windows.Goals as goal
 
 pub returns : goal.returns

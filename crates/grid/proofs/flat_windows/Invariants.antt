@@ -1,14 +1,12 @@
 -- `grid::flat_windows` meets its contract. The loop's invariant: the first p places are filled in.
 -- Assumes nothing.
-use mathlib.Core.Path.{refl}
 use mathlib.Core.Bool.{false}
 use mathlib.Core.List.{[]}
 use Prim.Native.Nat.{ℕ, ◌-◌, ◌/◌, ◌%◌}
-use native.Mathlib.Omega.{arith}
 use lib.ListN.{get_or}
 use Rattle.answers.specs.Ruling.{day_quarters}
-use Rattle.sheet.specs.Windows.{window_places, flat_windows}
-use Rattle.ranges.proofs.Tables.{Filled, filled_none, filled_more, filled_all}
+use Rattle.sheet.specs.Windows.{window_places}
+use Rattle.ranges.proofs.Tables.{Filled}
 use Rattle.grid.proofs.flat_windows.Given as goal
 
 abbrev pub invariant-loop-p : goal.invariant-loop-p

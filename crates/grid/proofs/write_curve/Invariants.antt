@@ -1,12 +1,9 @@
 -- `grid::write_curve` meets its contract. The loop's invariant: the first q values are written.
 -- Assumes nothing.
-use mathlib.Core.Path.{refl}
 use Prim.Native.Nat.{ℕ, ◌-◌, ◌+◌, ◌*◌}
-use native.Mathlib.Omega.{arith}
 use lib.ListN.{get_or}
 use Rattle.answers.specs.Ruling.{day_quarters}
-use Rattle.ranges.proofs.Tables.{Filled, filled_none, filled_more, filled_all}
-use Rattle.grid.specs.Answers.{curve_of}
+use Rattle.ranges.proofs.Tables.{Filled}
 use Rattle.grid.proofs.write_curve.Given as goal
 
 abbrev pub invariant-loop-q : goal.invariant-loop-q

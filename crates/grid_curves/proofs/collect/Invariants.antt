@@ -1,11 +1,9 @@
 -- `grid_curves::collect` meets its contract. The loop's invariant: the curves are those of the first d days.
 -- Assumes nothing.
-use mathlib.Core.Path.{◌≡◌, ap, ◌∙◌}
+use mathlib.Core.Path.{◌≡◌}
 use Prim.Native.Nat.{◌≤◌, ◌-◌}
-use native.Mathlib.Omega.{arith}
 use Rattle.periods.specs.Period.{period_days}
 use Rattle.grid_curves.specs.Curves.{flat_curves}
-use Rattle.grid_curves.proofs.Curves.{curves_none}
 use Rattle.grid_curves.proofs.collect.Given as goal
 
 abbrev pub invariant-loop-d : goal.invariant-loop-d

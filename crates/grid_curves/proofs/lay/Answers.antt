@@ -1,14 +1,12 @@
 use mathlib.Core.Path.{◌≡◌, ap, ◌∙◌}
 use Prim.Native.Nat.{ℕ, ◌<◌, ◌-◌, ◌+◌, ◌*◌}
 use native.Mathlib.Omega.{arith}
-use lib.ListN.{length}
 use Rattle.answers.specs.Ruling.{day_quarters}
-use Rattle.periods.specs.Period.{period_season}
 use Rattle.sheet.specs.Windows.{window_places}
 use Rattle.readings.specs.declared.Run.TheVariants.{Period}
 use Rattle.readings.specs.Runs.{day_len, quarter_in, quarter_of}
 use Rattle.periods.proofs.Periods.{period_season_range}
-use Rattle.grid_curves.proofs.Laid.{reached, reached_in, Laid, laid_none, laid_more, laid_all}
+use Rattle.grid_curves.proofs.Laid.{reached, reached_in, laid_none, laid_more, laid_all}
 use Rattle.grid_curves.proofs.lay.Goals.{After-quarter_in}
 use Rattle.grid_curves.proofs.lay.Goals as goal
 

@@ -1,10 +1,7 @@
-use mathlib.Core.Path.{◌≡◌, ap, ◌∙◌}
-use Prim.Native.Nat.{◌+◌, ◌-◌, ◌*◌, ◌≤◌, max}
+use mathlib.Core.Path.{ap, ◌∙◌}
+use Prim.Native.Nat.{max}
 use native.Mathlib.Omega.{arith}
-use lib.ListN.{length, get_or}
-use Rattle.answers.specs.Ruling.{day_quarters}
-use Rattle.grid_curves.specs.Four.{four_days}
-use Rattle.grid_curves.proofs.Fours.{Over, over_none, over_more, over_all, four_top_law}
+use Rattle.grid_curves.proofs.Fours.{over_none, over_more, over_all, four_top_law}
 use Rattle.grid_curves.proofs.lay_four.Goals as goal
 
 pub loop-q-preserved : goal.loop-q-preserved

@@ -1,13 +1,12 @@
 -- `grid_curves::lay_four` meets its contract. The loop's invariant: the first q quarters of the four days are laid over
 -- the curves.
 -- Assumes nothing.
-use mathlib.Core.Path.{◌≡◌, ap, ◌∙◌}
-use Prim.Native.Nat.{◌+◌, ◌-◌, ◌*◌, ◌≤◌, max}
-use native.Mathlib.Omega.{arith}
-use lib.ListN.{length, get_or}
+use mathlib.Core.Path.{◌≡◌}
+use Prim.Native.Nat.{◌-◌, ◌*◌, ◌≤◌}
+use lib.ListN.{length}
 use Rattle.answers.specs.Ruling.{day_quarters}
 use Rattle.grid_curves.specs.Four.{four_days}
-use Rattle.grid_curves.proofs.Fours.{Over, over_none, over_more, over_all, four_top_law}
+use Rattle.grid_curves.proofs.Fours.{Over}
 use Rattle.grid_curves.proofs.lay_four.Given as goal
 
 abbrev pub invariant-loop-q : goal.invariant-loop-q

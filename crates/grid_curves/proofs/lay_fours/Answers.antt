@@ -7,10 +7,8 @@ use Rattle.ranges.proofs.Bools.{both}
 use Rattle.periods.specs.Period.{period_season}
 use Rattle.periods.proofs.Periods.{period_most, period_season_range}
 use Rattle.readings.specs.declared.Run.TheVariants.{Period}
-use Rattle.readings.specs.Runs.{day_start}
 use Rattle.readings.proofs.Near.{own_span}
 use Rattle.readings.proofs.Runs.{start_most, usual_on, span_start}
-use Rattle.grid_curves.specs.Curves.{flat_curves}
 use Rattle.grid_curves.specs.Four.{four_days}
 use Rattle.grid_curves.proofs.Fours.{four_more}
 use Rattle.grid_curves.proofs.lay_fours.Goals.{At-loop-d, In-loop-d}

@@ -1,21 +1,11 @@
 -- `grid_curves::lay_fours` meets its contract. The loop's invariant: the curves are those of the first d days, and
 -- `at` is where day d stands.
 -- Assumes nothing.
-use mathlib.Core.Path.{◌≡◌, ◌∙◌}
-use Prim.Native.Nat.{◌≤◌, ◌+◌, ◌-◌}
-use native.Mathlib.Omega.{arith}
-use borrow.Author.Tests.{leb-true}
-use lib.ListN.{length, length-take, length-drop}
-use Rattle.ranges.proofs.Bools.{both}
-use Rattle.periods.specs.Period.{period_season}
-use Rattle.periods.proofs.Periods.{period_most, period_season_range}
+use mathlib.Core.Path.{◌≡◌}
+use Prim.Native.Nat.{◌≤◌, ◌-◌}
 use Rattle.readings.specs.declared.Run.TheVariants.{Period}
 use Rattle.readings.specs.Runs.{day_start}
-use Rattle.readings.proofs.Near.{own_span}
-use Rattle.readings.proofs.Runs.{start_most, usual_on, span_start}
 use Rattle.grid_curves.specs.Curves.{flat_curves}
-use Rattle.grid_curves.specs.Four.{four_days}
-use Rattle.grid_curves.proofs.Fours.{four_more}
 use Rattle.grid_curves.proofs.lay_fours.Given as goal
 
 abbrev pub invariant-loop-d : goal.invariant-loop-d

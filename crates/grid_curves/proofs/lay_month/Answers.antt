@@ -4,7 +4,6 @@ use native.Mathlib.Omega.{arith}
 use Rattle.periods.specs.Period.{period_days, period_season, period_left}
 use Rattle.periods.proofs.Periods.{period_most, period_stays, period_room}
 use Rattle.readings.proofs.Spans.{len_usual}
-use Rattle.grid_curves.specs.Curves.{flat_curves}
 use Rattle.grid_curves.proofs.lay_month.Goals.{After-period_left, Start}
 use Rattle.grid_curves.proofs.lay_month.Goals as goal
 

@@ -1,9 +1,7 @@
 -- `grid_curves::season_of` meets its contract: far behind every period there is winter.
 -- Assumes nothing.
-use mathlib.Core.Path.{◌≡◌, sym, ap, ◌∙◌}
-use Prim.Native.Nat.{ℕ, ◌+◌}
+use mathlib.Core.Path.{sym}
 use native.Mathlib.Omega.{arith}
-use Rattle.periods.specs.Period.{period_season}
 use Rattle.periods.proofs.Periods.{period_far}
 use Rattle.grid_curves.proofs.season_of.Goals as goal
 

@@ -1,9 +1,8 @@
 -- `grid_days::take_day` meets its contract: a refusal leaves the curves, and a day that is not refused is laid over
 -- them. Assumes nothing.
 use mathlib.Core.Path.{sym, ap, ◌∙◌}
-use types.Run.{miss}
 use Rattle.grid.specs.Answers.{said_of_grid}
-use Rattle.grid_days.proofs.Steps.{refuses, others, curves_refused, curves_taken}
+use Rattle.grid_days.proofs.Steps.{refuses, curves_refused, curves_taken}
 use Rattle.grid_days.proofs.take_day.Goals as goal
 
 pub returns-in_default : goal.returns-in_default

@@ -12,7 +12,6 @@ use Rattle.fields.specs.Stages.{stage_of, day_stage}
 use Rattle.fields.specs.declared.Stage.TheVariants.{Refused}
 use Rattle.grid_numbers.proofs.Small.{answer_small}
 use Rattle.grid_file.proofs.GridDays.{not_five}
-use types.Run.{miss}
 use Rattle.grid_file.proofs.stage_of.Goals as goal
 
 -- the places of the enum's cases, from 0, without that of `BadReading`, which is 5

@@ -1,9 +1,6 @@
-use mathlib.Core.Path.{◌≡◌, refl, sym, ◌∙◌}
-use Prim.Native.Nat.{◌≤◌, ◌-◌}
+use mathlib.Core.Path.{refl, sym, ◌∙◌}
 use native.Mathlib.Omega.{arith}
-use lib.ListN.{length}
-use Rattle.ranges.proofs.Tests.{Passed, passed_none, passed_more}
-use Rattle.holidays.specs.Holidays.{before, bad_entry}
+use Rattle.ranges.proofs.Tests.{passed_none, passed_more}
 use Rattle.holidays.proofs.Lists.{before_next, entry, bad_long, bad_at_law, bad_none}
 use Rattle.holidays.proofs.bad_holidays.Goals as goal
 

@@ -1,16 +1,11 @@
 -- `legal_readings::any_above` meets its contract. The loop's invariant: `any` tells whether one of the first i readings
 -- is above the limit.
 -- Assumes nothing.
-use mathlib.Core.Path.{◌≡◌, sym, ap, ◌∙◌}
-use mathlib.Core.Bool.{◌||◌}
+use mathlib.Core.Path.{◌≡◌}
 use Prim.Native.Nat.{ℕ, ◌≤◌, ◌-◌}
-use native.Mathlib.Omega.{arith}
 use lib.Dec.{ltb}
 use lib.ListN.{length, get_or}
 use Rattle.ranges.specs.Ranges.{any_over}
-use Rattle.ranges.proofs.Tests.{any_none, any_more}
-use Rattle.ranges.proofs.First.{any_above}
-use Rattle.readings.specs.Legal.{highest_of}
 use Rattle.legal_readings.proofs.any_above.Given as goal
 
 abbrev pub invariant-loop-i : goal.invariant-loop-i

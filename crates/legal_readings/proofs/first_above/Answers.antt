@@ -1,9 +1,8 @@
-use mathlib.Core.Path.{◌≡◌, sym, ◌∙◌}
-use Prim.Native.Nat.{◌≤◌, ◌-◌}
+use mathlib.Core.Path.{sym, ◌∙◌}
 use native.Mathlib.Omega.{arith}
 use borrow.Author.Tests.{le-ltb, ltb-false}
 use lib.ListN.{length}
-use Rattle.ranges.proofs.Tests.{Passed, passed_none, passed_more}
+use Rattle.ranges.proofs.Tests.{passed_none, passed_more}
 use Rattle.ranges.proofs.First.{first_le}
 use Rattle.readings.specs.Legal.{highest_of, first_above}
 use Rattle.readings.proofs.Legal.{above, above_found, above_none, highest_legal}

@@ -1,9 +1,6 @@
-use mathlib.Core.Path.{◌≡◌, refl}
-use Prim.Native.Nat.{◌-◌}
+use mathlib.Core.Path.{refl}
 use native.Mathlib.Omega.{arith}
-use lib.ListN.{length}
-use Rattle.lines.specs.Figures.{field_in}
-use Rattle.texts.proofs.Text.{wrote_as, then, fitted, Laid, laid_none, laid_room, laid_more, laid_all}
+use Rattle.texts.proofs.Text.{wrote_as, then, fitted, laid_none, laid_room, laid_more, laid_all}
 use Rattle.lines.proofs.Figures.{figures_long, figures_is}
 use Rattle.lines.proofs.add_figures.Goals as goal
 

@@ -1,12 +1,10 @@
 -- `lines::add_figures` meets its contract. The loop's invariant: the first i fields are written.
 -- Assumes nothing.
-use mathlib.Core.Path.{◌≡◌, refl}
+use mathlib.Core.Path.{◌≡◌}
 use Prim.Native.Nat.{◌-◌}
-use native.Mathlib.Omega.{arith}
 use lib.ListN.{length}
 use Rattle.lines.specs.Figures.{field_in}
-use Rattle.texts.proofs.Text.{wrote_as, then, fitted, Laid, laid_none, laid_room, laid_more, laid_all}
-use Rattle.lines.proofs.Figures.{figures_long, figures_is}
+use Rattle.texts.proofs.Text.{Laid}
 use Rattle.lines.proofs.add_figures.Given as goal
 
 abbrev pub invariant-loop-i : goal.invariant-loop-i

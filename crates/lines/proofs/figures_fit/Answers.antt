@@ -1,8 +1,6 @@
-use mathlib.Core.Path.{◌≡◌, refl, ap}
-use Prim.Native.Nat.{◌+◌, ◌-◌, ◌≤◌}
+use mathlib.Core.Path.{refl, ap}
 use native.Mathlib.Omega.{arith}
 use lib.ListN.{length}
-use Rattle.texts.specs.Text.{text_over}
 use Rattle.lines.specs.Figures.{field_in}
 use Rattle.texts.proofs.Text.{text_none}
 use Rattle.lines.proofs.Figures.{fit_stops, fit_more, fit_all}

@@ -1,13 +1,10 @@
 -- `lines::figures_fit` meets its contract. The loop's invariant: the first i fields and what is left are the room.
 -- Assumes nothing.
-use mathlib.Core.Path.{◌≡◌, refl, ap}
+use mathlib.Core.Path.{◌≡◌}
 use Prim.Native.Nat.{◌+◌, ◌-◌, ◌≤◌}
-use native.Mathlib.Omega.{arith}
 use lib.ListN.{length}
 use Rattle.texts.specs.Text.{text_over}
 use Rattle.lines.specs.Figures.{field_in}
-use Rattle.texts.proofs.Text.{text_none}
-use Rattle.lines.proofs.Figures.{fit_stops, fit_more, fit_all}
 use Rattle.lines.proofs.figures_fit.Given as goal
 
 abbrev pub invariant-loop-i : goal.invariant-loop-i

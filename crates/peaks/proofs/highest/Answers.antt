@@ -1,8 +1,6 @@
 use mathlib.Core.Path.{◌≡◌, sym}
-use Prim.Native.Nat.{ℕ, ◌≤◌, ◌-◌}
 use native.Mathlib.Omega.{arith}
-use lib.ListN.{length, get_or}
-use Rattle.ranges.specs.Ranges.{largest_over}
+use lib.ListN.{length}
 use Rattle.readings.specs.Legal.{highest_of}
 use Rattle.ranges.proofs.Largest.{largest_none, largest_more}
 use Rattle.peaks.proofs.highest.Goals as goal

@@ -1,12 +1,9 @@
 -- `peaks::highest` meets its contract. The loop's invariant: `top` is the highest of the first i readings.
 -- Assumes nothing.
-use mathlib.Core.Path.{◌≡◌, sym}
+use mathlib.Core.Path.{◌≡◌}
 use Prim.Native.Nat.{ℕ, ◌≤◌, ◌-◌}
-use native.Mathlib.Omega.{arith}
 use lib.ListN.{length, get_or}
 use Rattle.ranges.specs.Ranges.{largest_over}
-use Rattle.readings.specs.Legal.{highest_of}
-use Rattle.ranges.proofs.Largest.{largest_none, largest_more}
 use Rattle.peaks.proofs.highest.Given as goal
 
 abbrev pub invariant-loop-i : goal.invariant-loop-i

@@ -1,10 +1,9 @@
 use mathlib.Core.Path.{◌≡◌, sym, ap, ◌∙◌}
-use Prim.Native.Nat.{◌≤◌, ◌-◌}
 use native.Mathlib.Omega.{arith}
-use Rattle.ranges.specs.Ranges.{bit, count_over}
+use Rattle.ranges.specs.Ranges.{bit}
 use Rattle.answers.specs.Ruling.{day_quarters}
 use Rattle.sheet.specs.Windows.{too_many}
-use Rattle.sheet.specs.Bytes.{bit_at, set_from}
+use Rattle.sheet.specs.Bytes.{set_from}
 use Rattle.ranges.proofs.Tests.{count_none, counted}
 use Rattle.sheet_read.proofs.season_full.Goals as goal
 

@@ -1,13 +1,10 @@
 -- `sheet_read::season_full` meets its contract. The loop's invariant: n quarters of the first q are set.
 -- Assumes nothing.
-use mathlib.Core.Path.{◌≡◌, sym, ap, ◌∙◌}
+use mathlib.Core.Path.{◌≡◌}
 use Prim.Native.Nat.{◌≤◌, ◌-◌}
-use native.Mathlib.Omega.{arith}
-use Rattle.ranges.specs.Ranges.{bit, count_over}
+use Rattle.ranges.specs.Ranges.{count_over}
 use Rattle.answers.specs.Ruling.{day_quarters}
-use Rattle.sheet.specs.Windows.{too_many}
-use Rattle.sheet.specs.Bytes.{bit_at, set_from}
-use Rattle.ranges.proofs.Tests.{count_none, counted}
+use Rattle.sheet.specs.Bytes.{bit_at}
 use Rattle.sheet_read.proofs.season_full.Given as goal
 
 abbrev pub invariant-loop-q : goal.invariant-loop-q

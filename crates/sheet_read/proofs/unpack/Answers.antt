@@ -1,10 +1,7 @@
 use mathlib.Core.Path.{refl}
-use mathlib.Core.Bool.{false}
-use Prim.Native.Nat.{◌-◌}
 use native.Mathlib.Omega.{arith}
-use Rattle.sheet.specs.Windows.{window_places}
-use Rattle.sheet.specs.Bytes.{window_at, windows_in}
-use Rattle.ranges.proofs.Tables.{Filled, filled_none, filled_more, filled_all}
+use Rattle.sheet.specs.Bytes.{windows_in}
+use Rattle.ranges.proofs.Tables.{filled_none, filled_more, filled_all}
 use Rattle.sheet_read.proofs.unpack.Goals as goal
 
 pub returns : goal.returns

@@ -1,8 +1,7 @@
 use mathlib.Core.Path.{◌∙◌}
-use Prim.Native.Nat.{◌-◌}
 use native.Mathlib.Omega.{arith}
-use Rattle.sheet.specs.Bytes.{sheet_size, bytes_of}
-use Rattle.ranges.proofs.Buffers.{Copied, copied_none, copied_more, copied_all}
+use Rattle.sheet.specs.Bytes.{bytes_of}
+use Rattle.ranges.proofs.Buffers.{copied_none, copied_more, copied_all}
 use Rattle.sheet.proofs.Bytes.{length_bytes, byte_at_law}
 use Rattle.sheet_write.proofs.fill.Goals as goal
 

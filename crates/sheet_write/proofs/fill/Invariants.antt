@@ -1,12 +1,9 @@
 -- `sheet_write::fill` meets its contract. The loop's invariant: the first i bytes are
 -- written, and all further ones stay.
 -- Assumes nothing.
-use mathlib.Core.Path.{◌∙◌}
 use Prim.Native.Nat.{◌-◌}
-use native.Mathlib.Omega.{arith}
 use Rattle.sheet.specs.Bytes.{sheet_size, bytes_of}
-use Rattle.ranges.proofs.Buffers.{Copied, copied_none, copied_more, copied_all}
-use Rattle.sheet.proofs.Bytes.{length_bytes, byte_at_law}
+use Rattle.ranges.proofs.Buffers.{Copied}
 use Rattle.sheet_write.proofs.fill.Given as goal
 
 abbrev pub invariant-loop-i : goal.invariant-loop-i

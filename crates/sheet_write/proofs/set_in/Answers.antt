@@ -1,11 +1,7 @@
 use mathlib.Core.Path.{◌≡◌, sym}
-use mathlib.Core.Bool.{false}
-use Prim.Native.Nat.{ℕ, ◌≤◌, ◌-◌}
 use native.Mathlib.Omega.{arith}
-use lib.ListN.{get_or}
-use Rattle.ranges.specs.Ranges.{count_over}
 use Rattle.answers.specs.Ruling.{day_quarters}
-use Rattle.sheet.specs.Windows.{quarter_place, set_in}
+use Rattle.sheet.specs.Windows.{set_in}
 use Rattle.ranges.proofs.Tests.{count_none, counted}
 use Rattle.sheet_write.proofs.set_in.Goals as goal
 

@@ -1,14 +1,12 @@
 -- `sheet_write::set_in` meets its contract. The loop's invariant: n quarters of the first q are set.
 -- Assumes nothing.
-use mathlib.Core.Path.{◌≡◌, sym}
+use mathlib.Core.Path.{◌≡◌}
 use mathlib.Core.Bool.{false}
 use Prim.Native.Nat.{ℕ, ◌≤◌, ◌-◌}
-use native.Mathlib.Omega.{arith}
 use lib.ListN.{get_or}
 use Rattle.ranges.specs.Ranges.{count_over}
 use Rattle.answers.specs.Ruling.{day_quarters}
-use Rattle.sheet.specs.Windows.{quarter_place, set_in}
-use Rattle.ranges.proofs.Tests.{count_none, counted}
+use Rattle.sheet.specs.Windows.{quarter_place}
 use Rattle.sheet_write.proofs.set_in.Given as goal
 
 abbrev pub invariant-loop-q : goal.invariant-loop-q

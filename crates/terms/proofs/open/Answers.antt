@@ -1,13 +1,12 @@
 -- `terms::open` meets its contract: a refusal stands beside the fixed terms, 0 beside those of the basis.
 -- Assumes nothing.
 use mathlib.Core.Path.{◌≡◌, sym, ap, ◌∙◌}
-use types.Run.{miss}
 use Rattle.day_kinds.specs.Kinds.{window_days}
 use Rattle.sheet.specs.declared.Sheet.{Sheet}
 use Rattle.sheet.specs.Answers.{ReadSaid, shown_of, read_of}
 use Rattle.sheet.proofs.Exactly.{read_never}
 use Rattle.tariff.specs.Answers.{said_of}
-use Rattle.tariff.proofs.Taken.{others, untaken}
+use Rattle.tariff.proofs.Taken.{untaken}
 use Rattle.terms.specs.Basis.{Basis, basis, basis_edition}
 use Rattle.terms.specs.Opening.{customer_open_answer}
 use Rattle.terms.proofs.Exactly.{open_zero, open_meaning}

@@ -2,13 +2,12 @@
 -- Assumes nothing.
 use mathlib.Core.Path.{◌≡◌, sym, ap, ◌∙◌}
 use mathlib.Core.Bool.{false}
-use types.Run.{miss}
 use Rattle.answers.specs.Said.{only}
 use Rattle.answers.proofs.Laws.{refusal_stands}
 use Rattle.holidays.specs.Holidays.{bad_holidays}
 use Rattle.sheet.specs.Answers.{said_of_sheet}
 use Rattle.tariff.specs.Answers.{said_of}
-use Rattle.tariff.proofs.Taken.{others, untaken}
+use Rattle.tariff.proofs.Taken.{untaken}
 use Rattle.terms.proofs.Answered.{sheet_zero}
 use Rattle.terms.proofs.open_answer.Goals.{Else-bad_holidays, In-Taken}
 use Rattle.terms.proofs.open_answer.Goals as goal

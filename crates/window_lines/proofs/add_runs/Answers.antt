@@ -1,9 +1,5 @@
-use Prim.Native.Nat.{◌-◌}
 use native.Mathlib.Omega.{arith}
-use Rattle.answers.specs.Ruling.{day_quarters}
-use Rattle.sheet.specs.Windows.{is_set}
-use Rattle.window_lines.specs.Runs.{run_text}
-use Rattle.texts.proofs.Text.{Laid, laid_none, laid_room, laid_more, laid_all}
+use Rattle.texts.proofs.Text.{laid_none, laid_room, laid_more, laid_all}
 use Rattle.window_lines.proofs.add_runs.Goals as goal
 
 pub loop-q-preserved : goal.loop-q-preserved

@@ -1,11 +1,10 @@
 -- `window_lines::add_runs` meets its contract. The loop's invariant: the runs that begin before quarter q are written.
 -- Assumes nothing.
 use Prim.Native.Nat.{◌-◌}
-use native.Mathlib.Omega.{arith}
 use Rattle.answers.specs.Ruling.{day_quarters}
 use Rattle.sheet.specs.Windows.{is_set}
 use Rattle.window_lines.specs.Runs.{run_text}
-use Rattle.texts.proofs.Text.{Laid, laid_none, laid_room, laid_more, laid_all}
+use Rattle.texts.proofs.Text.{Laid}
 use Rattle.window_lines.proofs.add_runs.Given as goal
 
 abbrev pub invariant-loop-q : goal.invariant-loop-q

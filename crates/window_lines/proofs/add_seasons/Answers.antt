@@ -1,8 +1,5 @@
-use Prim.Native.Nat.{◌-◌}
 use native.Mathlib.Omega.{arith}
-use Rattle.sheet.specs.Windows.{seasons}
-use Rattle.window_lines.specs.Runs.{season_in}
-use Rattle.texts.proofs.Text.{Laid, laid_none, laid_room, laid_more, laid_all}
+use Rattle.texts.proofs.Text.{laid_none, laid_room, laid_more, laid_all}
 use Rattle.window_lines.proofs.add_seasons.Goals as goal
 
 pub loop-k-preserved : goal.loop-k-preserved

@@ -1,10 +1,9 @@
 -- `window_lines::add_seasons` meets its contract. The loop's invariant: the lines of the first k seasons are written.
 -- Assumes nothing.
 use Prim.Native.Nat.{◌-◌}
-use native.Mathlib.Omega.{arith}
 use Rattle.sheet.specs.Windows.{seasons}
 use Rattle.window_lines.specs.Runs.{season_in}
-use Rattle.texts.proofs.Text.{Laid, laid_none, laid_room, laid_more, laid_all}
+use Rattle.texts.proofs.Text.{Laid}
 use Rattle.window_lines.proofs.add_seasons.Given as goal
 
 abbrev pub invariant-loop-k : goal.invariant-loop-k

@@ -1,11 +1,9 @@
 use mathlib.Core.Path.{◌≡◌, sym, ap, ◌∙◌}
 use mathlib.Core.Bool.{◌||◌}
-use Prim.Native.Nat.{◌-◌, ◌≤◌}
 use native.Mathlib.Omega.{arith}
 use Rattle.ranges.specs.Ranges.{any_over}
 use Rattle.ranges.proofs.Tests.{any_none, any_more}
 use Rattle.answers.specs.Ruling.{day_quarters}
-use Rattle.sheet.specs.Windows.{is_set}
 use Rattle.window_lines.proofs.any_set.Goals as goal
 
 pub loop-q-preserved : goal.loop-q-preserved

@@ -1,11 +1,8 @@
 -- `window_lines::any_set` meets its contract. The loop's invariant: `any` tells whether a quarter before q is set.
 -- Assumes nothing.
-use mathlib.Core.Path.{◌≡◌, sym, ap, ◌∙◌}
-use mathlib.Core.Bool.{◌||◌}
+use mathlib.Core.Path.{◌≡◌}
 use Prim.Native.Nat.{◌-◌, ◌≤◌}
-use native.Mathlib.Omega.{arith}
 use Rattle.ranges.specs.Ranges.{any_over}
-use Rattle.ranges.proofs.Tests.{any_none, any_more}
 use Rattle.answers.specs.Ruling.{day_quarters}
 use Rattle.sheet.specs.Windows.{is_set}
 use Rattle.window_lines.proofs.any_set.Given as goal

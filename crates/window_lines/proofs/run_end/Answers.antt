@@ -1,9 +1,6 @@
-use mathlib.Core.Path.{◌≡◌, refl, sym, ◌∙◌}
-use mathlib.Core.Bool.{not}
-use Prim.Native.Nat.{◌+◌, ◌-◌, ◌≤◌}
+use mathlib.Core.Path.{refl, sym, ◌∙◌}
 use native.Mathlib.Omega.{arith}
-use Rattle.ranges.proofs.Tests.{Passed, passed_none, passed_more}
-use Rattle.answers.specs.Ruling.{day_quarters}
+use Rattle.ranges.proofs.Tests.{passed_none, passed_more}
 use Rattle.sheet.specs.Windows.{is_set}
 use Rattle.window_lines.proofs.Runs.{run_stops, run_through}
 use Rattle.window_lines.proofs.run_end.Goals as goal

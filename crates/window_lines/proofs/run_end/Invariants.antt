@@ -1,13 +1,11 @@
 -- `window_lines::run_end` meets its contract. The loop's invariant: the first j quarters from q on are set.
 -- Assumes nothing.
-use mathlib.Core.Path.{◌≡◌, refl, sym, ◌∙◌}
+use mathlib.Core.Path.{◌≡◌}
 use mathlib.Core.Bool.{not}
 use Prim.Native.Nat.{◌+◌, ◌-◌, ◌≤◌}
-use native.Mathlib.Omega.{arith}
-use Rattle.ranges.proofs.Tests.{Passed, passed_none, passed_more}
+use Rattle.ranges.proofs.Tests.{Passed}
 use Rattle.answers.specs.Ruling.{day_quarters}
 use Rattle.sheet.specs.Windows.{is_set}
-use Rattle.window_lines.proofs.Runs.{run_stops, run_through}
 use Rattle.window_lines.proofs.run_end.Given as goal
 
 abbrev pub invariant-loop-j : goal.invariant-loop-j

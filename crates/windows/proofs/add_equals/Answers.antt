@@ -1,8 +1,6 @@
 use mathlib.Core.Path.{refl}
-use Prim.Native.Nat.{◌-◌}
 use native.Mathlib.Omega.{arith}
-use Rattle.answers.specs.Ruling.{day_quarters}
-use Rattle.windows.proofs.Added.{Added, added_none, added_more, added_all}
+use Rattle.windows.proofs.Added.{added_none, added_more, added_all}
 use Rattle.windows.proofs.add_equals.Goals as goal
 
 pub loop-q-preserved : goal.loop-q-preserved

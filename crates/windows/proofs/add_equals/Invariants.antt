@@ -1,11 +1,9 @@
 -- `windows::add_equals` meets its contract. The loop's invariant: the first q quarters are
 -- decided, and the equals among them counted.
 -- Assumes nothing.
-use mathlib.Core.Path.{refl}
 use Prim.Native.Nat.{◌-◌}
-use native.Mathlib.Omega.{arith}
 use Rattle.answers.specs.Ruling.{day_quarters}
-use Rattle.windows.proofs.Added.{Added, added_none, added_more, added_all}
+use Rattle.windows.proofs.Added.{Added}
 use Rattle.windows.proofs.add_equals.Given as goal
 
 abbrev pub invariant-loop-q : goal.invariant-loop-q

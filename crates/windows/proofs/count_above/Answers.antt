@@ -1,9 +1,5 @@
 use mathlib.Core.Path.{◌≡◌, sym}
-use Prim.Native.Nat.{ℕ, ◌≤◌, ◌-◌}
 use native.Mathlib.Omega.{arith}
-use lib.Dec.{ltb}
-use lib.ListN.{get_or}
-use Rattle.ranges.specs.Ranges.{count_over}
 use Rattle.answers.specs.Ruling.{day_quarters}
 use Rattle.windows.specs.Cuts.{higher_than}
 use Rattle.ranges.proofs.Tests.{count_none, counted}

@@ -1,14 +1,11 @@
 -- `windows::count_above` meets its contract. The loop's invariant: n of the first p quarters are higher than the limit.
 -- Assumes nothing.
-use mathlib.Core.Path.{◌≡◌, sym}
+use mathlib.Core.Path.{◌≡◌}
 use Prim.Native.Nat.{ℕ, ◌≤◌, ◌-◌}
-use native.Mathlib.Omega.{arith}
 use lib.Dec.{ltb}
 use lib.ListN.{get_or}
 use Rattle.ranges.specs.Ranges.{count_over}
 use Rattle.answers.specs.Ruling.{day_quarters}
-use Rattle.windows.specs.Cuts.{higher_than}
-use Rattle.ranges.proofs.Tests.{count_none, counted}
 use Rattle.windows.proofs.count_above.Given as goal
 
 abbrev pub invariant-loop-p : goal.invariant-loop-p

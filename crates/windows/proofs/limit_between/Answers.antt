@@ -1,7 +1,6 @@
 use mathlib.Core.Path.{◌≡◌}
-use Prim.Native.Nat.{◌≤◌, ◌<◌, ◌-◌}
+use Prim.Native.Nat.{◌-◌}
 use native.Mathlib.Omega.{arith}
-use Rattle.windows.specs.Cuts.{MostBetween}
 use Rattle.windows.proofs.limit_between.Goals as goal
 
 pub returns : goal.returns

@@ -1,9 +1,7 @@
 -- `windows::limit_between` meets its contract. The loop's invariant: `most` or more are higher than
 -- `low`, no more than `most` than `high`.
 -- Assumes nothing.
-use mathlib.Core.Path.{◌≡◌}
 use Prim.Native.Nat.{◌≤◌, ◌<◌, ◌-◌}
-use native.Mathlib.Omega.{arith}
 use Rattle.windows.specs.Cuts.{MostBetween}
 use Rattle.windows.proofs.limit_between.Given as goal
 

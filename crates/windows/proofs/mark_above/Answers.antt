@@ -1,11 +1,6 @@
 use mathlib.Core.Path.{refl}
-use mathlib.Core.Bool.{false}
-use Prim.Native.Nat.{ℕ, ◌-◌}
 use native.Mathlib.Omega.{arith}
-use lib.Dec.{ltb}
-use lib.ListN.{get_or}
-use Rattle.answers.specs.Ruling.{day_quarters}
-use Rattle.ranges.proofs.Tables.{Filled, filled_none, filled_more, filled_all}
+use Rattle.ranges.proofs.Tables.{filled_none, filled_more, filled_all}
 use Rattle.windows.proofs.mark_above.Goals as goal
 
 pub loop-q-init : goal.loop-q-init

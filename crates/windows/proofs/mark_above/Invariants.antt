@@ -1,13 +1,11 @@
 -- `windows::mark_above` meets its contract. The loop's invariant: the first q quarters are decided.
 -- Assumes nothing.
-use mathlib.Core.Path.{refl}
 use mathlib.Core.Bool.{false}
 use Prim.Native.Nat.{ℕ, ◌-◌}
-use native.Mathlib.Omega.{arith}
 use lib.Dec.{ltb}
 use lib.ListN.{get_or}
 use Rattle.answers.specs.Ruling.{day_quarters}
-use Rattle.ranges.proofs.Tables.{Filled, filled_none, filled_more, filled_all}
+use Rattle.ranges.proofs.Tables.{Filled}
 use Rattle.windows.proofs.mark_above.Given as goal
 
 abbrev pub invariant-loop-q : goal.invariant-loop-q

@@ -1,10 +1,9 @@
 -- `customer_days::Customer::day` meets its contract: a refusal hands back the state, and a day that is not refused fits
 -- it. Assumes nothing.
 use mathlib.Core.Path.{◌≡◌, sym, ap, ◌∙◌}
-use types.Run.{miss}
 use Rattle.answers.specs.Said.{Said, only}
 use Rattle.tariff.specs.Answers.{said_of}
-use Rattle.tariff.proofs.Taken.{others, untaken}
+use Rattle.tariff.proofs.Taken.{untaken}
 use Rattle.customer_days.specs.Days.{customer_day_answer}
 use Rattle.customer_days.proofs.Exactly.{day_fits, day_zero}
 use Rattle.customer_days.proofs.Steps.{day_said, day_refused, day_taken_law}

@@ -1,9 +1,8 @@
 -- `customer_days::Customer::open` meets its contract: under the terms that opening hands over, a refusal is the fixed
 -- state, 0 a year without a day. Assumes nothing.
 use mathlib.Core.Path.{sym, ap, ◌∙◌}
-use types.Run.{miss}
 use Rattle.tariff.specs.Answers.{said_of}
-use Rattle.tariff.proofs.Taken.{others, untaken}
+use Rattle.tariff.proofs.Taken.{untaken}
 use Rattle.terms.specs.Basis.{Basis, basis}
 use Rattle.terms.proofs.Exactly.{open_zero}
 use Rattle.customer_days.proofs.Steps.{open_begins, open_shuts}

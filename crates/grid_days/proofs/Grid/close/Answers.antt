@@ -1,6 +1,5 @@
 -- `grid_days::Grid::close` meets its contract, a law for each return.
 -- Assumes nothing.
-use Prim.Native.Nat.{◌-◌}
 use native.Mathlib.Omega.{arith}
 use Rattle.grid_days.proofs.Steps.{close_short, close_early, close_finish}
 use Rattle.grid_days.proofs.Grid.close.Goals as goal

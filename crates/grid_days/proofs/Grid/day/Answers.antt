@@ -3,13 +3,12 @@
 use mathlib.Core.Path.{◌≡◌, refl, sym, ap, ◌∙◌}
 use Prim.Native.Nat.{◌+◌}
 use native.Mathlib.Omega.{arith}
-use types.Run.{miss}
 use Rattle.answers.specs.Said.{only}
 use Rattle.periods.proofs.Periods.{period_most}
 use Rattle.grid.specs.Answers.{said_of_grid}
 use Rattle.grid_days.specs.declared.Grid.{Grid}
 use Rattle.grid_days.specs.Days.{grid_day_answer, grid_taken}
-use Rattle.grid_days.proofs.Steps.{refuses, others, day_left, curves_refused, curves_taken, day_refused, day_taken_law}
+use Rattle.grid_days.proofs.Steps.{refuses, day_left, curves_refused, curves_taken, day_refused, day_taken_law}
 use Rattle.grid_days.proofs.Grid.day.Goals.{In-Done}
 use Rattle.grid_days.proofs.Grid.day.Goals as goal
 
