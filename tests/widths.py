@@ -10,7 +10,7 @@ import re
 import sys
 
 COMMENT, LINE, STEPS = 120, 160, 5
-WALK = re.compile(r"(?: \.before){%d,}" % (STEPS + 1))
+WALK = re.compile(r"(?:\.before){%d,}" % (STEPS + 1))
 # the one line that rt fmt would lay out as a staircase
 STAIRCASE = "crates/demands/proofs/Cases.antt", "    (refl, (refl, "
 
@@ -25,7 +25,7 @@ def faults(line):
 
 
 def places():
-    for path in sorted(path for kind in ("rt", "antt") for path in pathlib.Path("crates").rglob(f"*.{kind}")):
+    for path in sorted(path for kind in ("rt", "antt") for path in pathlib.Path("crates").rglob(f"*.{kind}") if "out" not in path.parts):
         for number, line in enumerate(path.read_text().splitlines(), 1):
             if str(path) != STAIRCASE[0] or not line.startswith(STAIRCASE[1]):
                 yield from (f"{path}:{number}: {fault}" for fault in faults(line))

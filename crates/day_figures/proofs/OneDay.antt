@@ -48,7 +48,8 @@ pub usual_order : (day : List ℕ) → length day ≡ day_quarters → (p : ℕ)
 usual_order day l p = quarter_plain (length day) p (λ e. omega (arith, e, l)) (λ e. omega (arith, e, l))
 
 module _ (row : List Bool) (day : List ℕ) (l : length day ≡ day_quarters) where
-  masked_is : (p v : ℕ) → p < length day → v ≤ all_ones → bit_and v (get_or (masks_of row) (quarter_in (length day) p) 0) ≡ number_if (in_row (length day) row p) v
+  masked_is : (p v : ℕ) → p < length day → v ≤ all_ones
+      → bit_and v (get_or (masks_of row) (quarter_in (length day) p) 0) ≡ number_if (in_row (length day) row p) v
   unfolding masks_of
   masked_is p v m s =
       let q = quarter_in (length day) p in

@@ -105,9 +105,11 @@ nothing_else m n d e =
       charge = λ ed f r. carried_same (same_number (given.charge ed f r) (row.charge ed f r)) (mine.charge ed f r) (other.charge ed f r);
       judge = λ ed f r. carried_same (same_number (given.judge ed f r) (row.judge ed f r)) (mine.judge ed f r) (other.judge ed f r);
       decide = λ k xs. placed_same (one_in _ _ xs) (same_number (given.decide k xs) (row.decide k xs)) (mine.decide k xs) (other.decide k xs);
-      customer_open_law = λ k. carried_same (same_number (given.customer_open_law k) (row.customer_open_law k)) (mine.customer_open_law k) (other.customer_open_law k);
+      customer_open_law = λ k. carried_same (same_number (given.customer_open_law k) (row.customer_open_law k)) (mine.customer_open_law k)
+          (other.customer_open_law k);
       customer_day_law = λ c day.
           placed_same (one_of_day _ c.seen day) (same_number (given.customer_day_law c day) (row.customer_day_law c day))
           (mine.customer_day_law c day) (other.customer_day_law c day);
-      customer_close_law = λ c. carried_same (same_number (given.customer_close_law c) (row.customer_close_law c)) (mine.customer_close_law c) (other.customer_close_law c);
+      customer_close_law = λ c. carried_same (same_number (given.customer_close_law c) (row.customer_close_law c)) (mine.customer_close_law c)
+          (other.customer_close_law c);
     }

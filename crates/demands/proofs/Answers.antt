@@ -104,7 +104,8 @@ curve_is y xs s h =
     ∙ table_cong _ (curve_at y xs (period_days y) s) day_quarters (λ q l.
     let a : (day_quarters * (s - 1) + q) / day_quarters + 1 ≡ s = omega arith in
     let b : (day_quarters * (s - 1) + q) % day_quarters ≡ q = omega arith in
-    get_d_table (λ i. curve_at y xs (period_days y) (i / day_quarters + 1) (i % day_quarters)) window_places (day_quarters * (s - 1) + q) 0 (omega arith) ∙ rw (a, b))
+    get_d_table (λ i. curve_at y xs (period_days y) (i / day_quarters + 1) (i % day_quarters)) window_places (day_quarters * (s - 1) + q) 0
+    (omega arith) ∙ rw (a, b))
 
 -- an accepted series
 module _ (ed : Edition) (y level : ℕ) (xs buffer : List ℕ) (z : (windows_answer ed y level xs (length buffer)).number ≡ 0) where
@@ -159,6 +160,8 @@ to_the_quarter_hour es y level xs buffer z =
       windows_are = λ s q h l peak c i j.
           let shown = ap (λ (x : ReadSaid). is_set x.sheet.windows s q) r ∙ window_is ed y level xs buffer z s q h l in
           rw (shown, ← peak_one y xs peak i)
-          (kept_plain ed peak c (curve_in y xs s) (λ p m. curve_one y xs s c j p m ∙ sym (get_d_table (curve_at y xs (period_days y) s) day_quarters p 0 m)) q l);
-      rest_stays = ap (drop sheet_size) (buffer_is ed y level xs buffer z) ∙ rest_stays ed (laid ed y level xs buffer z) buffer (accepts ed y level xs buffer z);
+          (kept_plain ed peak c (curve_in y xs s) (λ p m. curve_one y xs s c j p m
+          ∙ sym (get_d_table (curve_at y xs (period_days y) s) day_quarters p 0 m)) q l);
+      rest_stays = ap (drop sheet_size) (buffer_is ed y level xs buffer z)
+          ∙ rest_stays ed (laid ed y level xs buffer z) buffer (accepts ed y level xs buffer z);
     }

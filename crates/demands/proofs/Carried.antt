@@ -239,7 +239,8 @@ judged_listed ed f r = judge_listed ed f r (year_column ed f r) _ (λ n e. refl)
 
 decides :
     (k : Basis) (xs : List ℕ)
-    → Carries (decide_answer k xs) (with_place (first_illegal (basis_run k) customer_most xs) (year_column (basis_edition k) (basis_figures k xs) (basis_rates k)))
+    → Carries (decide_answer k xs) (with_place (first_illegal (basis_run k) customer_most xs)
+    (year_column (basis_edition k) (basis_figures k xs) (basis_rates k)))
 unfolding decide_answer whole_answer
 decides k xs =
     let place = first_illegal (basis_run k) customer_most xs in
@@ -329,7 +330,8 @@ decide_place :
     → Found (first_illegal (basis_run k) customer_most xs) (FirstIllegalIn (basis_run k) customer_most xs)
 decide_place k xs e = go ((decide_exactly k xs 5).0 e) refl
   where
-    from_series : {n : ℕ} → SeriesRow (terms_of k) xs n → n ≡ 5 → Found (first_illegal (basis_run k) customer_most xs) (FirstIllegalIn (basis_run k) customer_most xs)
+    from_series : {n : ℕ} → SeriesRow (terms_of k) xs n → n ≡ 5
+        → Found (first_illegal (basis_run k) customer_most xs) (FirstIllegalIn (basis_run k) customer_most xs)
     from_series (four l) e = absurd (omega arith)
     from_series (five l v) e = found_in (basis_run k) customer_most xs v
     from_series (judged l r) e = absurd (judge_five (terms_of k) r e)
@@ -347,7 +349,16 @@ found_today :
 found_today run limit n day (thirteen h) e = absurd (omega arith)
 found_today run limit n day (four h l) e = absurd (omega arith)
 found_today run limit n day (five c v) e =
-    record { on = n; at = first_above limit day; is = refl; first = record { on_day = refl; first = first_illegal_law limit day ((some_illegal limit day).1 v) } }
+    record {
+      on = n;
+      at = first_above limit day;
+      is = refl;
+      first = record {
+        on_day = refl;
+        first = first_illegal_law limit day
+            ((some_illegal limit day).1 v);
+      };
+    }
 found_today run limit n day (zero c v) e = absurd (omega arith)
 
 customer_today :

@@ -158,7 +158,8 @@ module _ (k : Basis) (xs : List ℕ) where
   unfolding figures_of peak_of day_peak
   peak_when b = (
     λ h d p l m. le_trans (reading_le (basis_run k) xs (basis_days k) d p l m) h,
-    λ low. largest_le (day_peak (basis_run k) xs) (basis_days k) b (λ d l. largest_le (reading (basis_run k) xs d) (day_len (basis_run k) d) b (λ p m. low d p l m)),
+    λ low. largest_le (day_peak (basis_run k) xs) (basis_days k) b
+        (λ d l. largest_le (reading (basis_run k) xs d) (day_len (basis_run k) d) b (λ p m. low d p l m)),
   )
 
   sum_is : LegalYear k xs → (basis_figures k xs).sum ≡ sum_over (λ i. get_or xs i 0) (length xs)

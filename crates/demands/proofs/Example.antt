@@ -59,7 +59,8 @@ unfolding leap leap_day days_to weekday_of listed christmas free candidate bridg
 day_two = refl
 
 pub set_there : set_on 2025 (windows_in example) 1 72 ≡ true
-unfolding example set_on is_set season_of month_of days_to leap_day leap quarter_in len_by change_of last_sunday weekday_of windows_in table count_over sum_over joined
+unfolding example set_on is_set season_of month_of days_to leap_day leap quarter_in len_by change_of last_sunday
+    weekday_of windows_in table count_over sum_over joined
 set_there = refl
 
 pub no_holidays : bad_holidays (sheet_in example).year [] ≡ false

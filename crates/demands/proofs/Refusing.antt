@@ -151,7 +151,8 @@ module _ (m : Module) (d : Demands m) where
   grid_whole_law :
       (level : ℕ)
       → (grid_open_answer today 2025 level).number ≡ 0
-      → AsWhole period grid_most m.grid_day m.grid_next (m.grid_opened todays 2025 level) (grid_end m blank_buffer) (grid_whole m todays 2025 level blank_buffer)
+      → AsWhole period grid_most m.grid_day m.grid_next (m.grid_opened todays 2025 level) (grid_end m blank_buffer)
+      (grid_whole m todays 2025 level blank_buffer)
   grid_whole_law level z = d.days_as_whole.grid todays 2025 level blank_buffer (grid_opened_law level z)
 
   abbrev grid_at : ℕ → Grid
@@ -205,7 +206,8 @@ module _ (m : Module) (d : Demands m) where
   -- two levels, and two price lists: an opening that hands back one state closes both alike
   one_grid : (g : Grid) → ((y level : ℕ) → m.grid_opened todays y level ≡ g) → ⊥
   one_grid g fixed =
-      let state : grid_at 5 ≡ grid_at 6 = ap (λ (s : Grid). offered m.grid_next s (days_of period same (run_days period))) (fixed 2025 5 ∙ sym (fixed 2025 6)) in
+      let state : grid_at 5 ≡ grid_at 6 = ap (λ (s : Grid). offered m.grid_next s (days_of period same (run_days period))) (fixed 2025 5
+      ∙ sym (fixed 2025 6)) in
       let laid = ap (λ (c : Said × List ℕ). c.1) (sym (grid_closed 5 opened_5) ∙ ap (grid_end m blank_buffer) state ∙ grid_closed 6 opened_6) in
       let five = (same_laid m d 5 (level_in 5 (omega arith) (omega arith))).level_is in
       let six = (same_laid m d 6 (level_in 6 (omega arith) (omega arith))).level_is in

@@ -72,7 +72,8 @@ first_peak : period_peak 2025 first ≡ 1
 first_peak = rw (← period_run 2025) (start_peak (Period 2025) 1 some_2025)
 
 -- quarter 0 is kept where it has the peak, and a quarter with curve value 0 never is
-kept_top : (peak : ℕ) (curve : List ℕ) → 0 < peak → get_or curve 0 0 ≡ peak → ((p : ℕ) → p < day_quarters → get_or curve p 0 ≤ peak) → kept today peak curve 0 ≡ true
+kept_top : (peak : ℕ) (curve : List ℕ) → 0 < peak → get_or curve 0 0 ≡ peak → ((p : ℕ) → p < day_quarters → get_or curve p 0 ≤ peak)
+    → kept today peak curve 0 ≡ true
 unfolding kept rank above_line comes_before
 kept_top peak curve h e low =
     let none = count_fails (λ p. above_line today peak (get_or curve p 0) && comes_before curve p 0) day_quarters (λ p l. no_one p (low p l)) in

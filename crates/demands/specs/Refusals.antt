@@ -40,8 +40,8 @@ pub record LeftAsBefore (m : Module) : Type 0 where
   pub grid_close_law : (g : Grid) (buffer : List ℕ) → Refused (m.grid_close g (length buffer)) → m.grid_laid g buffer ≡ buffer
   pub customer_day_law : (c : Customer) (day : List ℕ) → Refused (m.customer_day c day) → m.customer_next c day ≡ c
 
--- Rule 9.5: the state of a refused opening is always the same (`shut_grid`, `shut_customer`). To it every day is 13, and
--- so is closing, but a short buffer is 14.
+-- Rule 9.5: the state of a refused opening is always the same (`shut_grid`, `shut_customer`). To it every day is 13,
+-- and so is closing, but a short buffer is 14.
 pub record FixedState (m : Module) : Type 0 where
   -- the sheet beside a refused reading is always the same, too
   pub read : (es : Editions) (b : List ℕ) → Refused (m.read es b) → m.sheet_read es b ≡ blank

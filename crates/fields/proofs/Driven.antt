@@ -244,7 +244,8 @@ module _ {S X : Type 0} {wanted : S → ℕ} {fed : S → List ℕ → S} {said 
     where
       after :
           Passed (stops l bytes) l.count
-          → said (driven wanted fed (run_days run + suc n) (in_head l.count) (drop (head_size l) bytes)) ≡ shown (days_answer run limit (head_size l) done bytes)
+          → said (driven wanted fed (run_days run + suc n) (in_head l.count) (drop (head_size l) bytes))
+          ≡ shown (days_answer run limit (head_size l) done bytes)
       after c =
           let first : head_size l ≡ day_at run (head_size l) 0 = omega (arith, start_none run) in
           ap (λ (s : S). said (driven wanted fed (run_days run + suc n) s (drop (head_size l) bytes))) (m.opened c)

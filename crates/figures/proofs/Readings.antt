@@ -92,7 +92,8 @@ module _ (n : ℕ) (test : ℕ → Bool) (at : ℕ → ℕ) (f : Figures) (d : �
         chosen f.any (any_over test p) (test p) f.high (largest_in test at p) (at p) x h o
         ∙ (λ i. cond (sym (any_more test p) i && (not f.any || ltb f.high (value_more test at p i))) (cond (newer test at p) o h) x)
 
-    pub readings_more : taken_in (taken_in f d (record_to n p test at)) d (one_reading (quarter_in n p) (test p) (at p)) ≡ taken_in f d (record_to n (p + 1) test at)
+    pub readings_more : taken_in (taken_in f d (record_to n p test at)) d (one_reading (quarter_in n p) (test p) (at p))
+        ≡ taken_in f d (record_to n (p + 1) test at)
     unfolding taken_in
     readings_more =
         let next : ℕ → ℕ → ℕ = λ y x. cond (any_over test (p + 1) && (not f.any || ltb f.high (largest_in test at (p + 1)))) y x in

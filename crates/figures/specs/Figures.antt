@@ -1,7 +1,7 @@
 -- The figures of a customer's year: M, the annual peak; S, the sum of its readings; H, the in-window peak, and the day
 -- and quarter in which it is first reached. `in_window d p` says whether position p of day d is in-window; days d and
--- positions p count from 0, and which quarter a position stands for says room `readings` (`quarter_of`, `quarter_in`). A
--- year goes by days, a day by positions. Rules 6.3 to 6.5.
+-- positions p count from 0, and which quarter a position stands for says room `readings` (`quarter_of`,
+-- `quarter_in`). A year goes by days, a day by positions. Rules 6.3 to 6.5.
 use Rattle.std.specs.Prelude.{◌≡◌, Bool, true, false, cond, not, ◌&&◌, ◌||◌, List, ℕ, ◌+◌, ◌≤◌, ◌<◌, max, ltb}
 use Rattle.ranges.specs.Ranges.{largest_over, sum_over, any_over, largest_in, place_in}
 use Rattle.readings.specs.declared.Run.{Run}

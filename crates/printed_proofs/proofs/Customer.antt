@@ -170,7 +170,8 @@ module _ (es : Editions) (bytes : List ℕ) where
     feeds_day :
         (d : ℕ)
         → d < run_days run
-        → FeedsDay customer_wants customer_fed customer_text statement_line run customer_day_answer day_customer inside (held_after run (holding terms) h bytes d) d
+        → FeedsDay customer_wants customer_fed customer_text statement_line run customer_day_answer day_customer inside
+        (held_after run (holding terms) h bytes d) d
     feeds_day d m =
         record {
           size = sym (wants_day customer_reader s refl over left);
@@ -198,7 +199,8 @@ module _ (es : Editions) (bytes : List ℕ) where
         all b o = ap readings_of (sym (take_all (day_size run d) b (omega arith)))
 
     -- the end: what closing says is what the whole series is answered
-    closes : Passed (bad_in run customer_most xs) (run_days run) → length bytes ≡ file_size run h → customer_close_answer (in_days (run_days run)).customer ≡ done
+    closes : Passed (bad_in run customer_most xs) (run_days run) → length bytes ≡ file_size run h
+        → customer_close_answer (in_days (run_days run)).customer ≡ done
     closes c z =
         ap (λ (ys : List ℕ). customer_close_answer (holding terms ys (run_days run))) (series_all run h bytes z)
         ∙ closes_holding terms xs

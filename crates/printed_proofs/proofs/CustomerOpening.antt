@@ -78,7 +78,8 @@ module _ (es : Editions) (bytes : List ℕ) where
 
   -- the number of each field, by the test that the opening makes: the sheet
   pub mark_tested : number_if (unmarked sheet) 12 ≡ l.refusal 2
-  mark_tested = mark_no bytes sheet_at mark (other_mark_same sheet bytes 0 sheet_at mark (λ k o. byte 0 k (omega arith))) ∙ refusal_first es bytes 2 (omega arith)
+  mark_tested = mark_no bytes sheet_at mark (other_mark_same sheet bytes 0 sheet_at mark (λ k o. byte 0 k (omega arith)))
+      ∙ refusal_first es bytes 2 (omega arith)
 
   pub version_tested : number_if (version_out sheet version_at) 12 ≡ l.refusal 3
   version_tested = version_no bytes 8 (two version_at (omega arith)) ∙ refusal_first es bytes 3 (omega arith)
@@ -101,7 +102,8 @@ module _ (es : Editions) (bytes : List ℕ) where
 
   -- the prices, each with its limit
   abbrev pub price_out : ℕ → Bool
-  price_out j = get_or (capacity_out (price_of bytes 0) ∷ energy_out (price_of bytes 1) ∷ capacity_out (price_of bytes 2) ∷ energy_out (price_of bytes 3) ∷ []) j false
+  price_out j = get_or (capacity_out (price_of bytes 0) ∷ energy_out (price_of bytes 1) ∷ capacity_out (price_of bytes 2) ∷ energy_out
+      (price_of bytes 3) ∷ []) j false
 
   pub price_tested : (j : ℕ) → j < 4 → number_if (price_out j) 6 ≡ l.refusal (12 + (n + j))
   price_tested j m = go j m ∙ price_refused es bytes j m

@@ -102,14 +102,16 @@ file_long : length customer_bytes ≡ file_size (Year (customer_year customer_by
 unfolding customer_bytes
 file_long = rw (year_is readings, size_is readings) (header_long readings ∙ omega (arith, bytes_long customer_series, customer_long))
 
-legal : only 0 ≡ series_answer (Year (customer_year customer_bytes)) customer_most (series_in customer_bytes (head_size (customer_layout todays customer_bytes)))
+legal : only 0 ≡ series_answer (Year (customer_year customer_bytes)) customer_most
+    (series_in customer_bytes (head_size (customer_layout todays customer_bytes)))
 unfolding customer_bytes
 legal = rw (year_is readings, series_back) customer_legal
 
 answer_is : customer_answer todays customer_bytes ≡ decide_answer example_basis customer_series
 unfolding customer_answer customer_bytes
 answer_is =
-    sym (file_whole (customer_layout todays customer_bytes) customer_bytes (taken readings) (Year (customer_year customer_bytes)) customer_most _ file_long legal)
+    sym (file_whole (customer_layout todays customer_bytes) customer_bytes (taken readings)
+    (Year (customer_year customer_bytes)) customer_most _ file_long legal)
     ∙ rw (holidays_are readings, prices_are readings, series_back) refl
 
 line_is : statement_line customer_said ≡ example_statement

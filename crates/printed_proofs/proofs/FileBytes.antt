@@ -39,7 +39,8 @@ bytes_long [] = refl
 bytes_long (x ∷ xs) = length-append (four_bytes x) (series_bytes xs) ∙ omega (arith, length_four x, bytes_long xs)
 
 -- byte k of reading i, both from 0
-byte_at_law : (xs : List ℕ) (i k : ℕ) → i < length xs → k < 4 → get_or (series_bytes xs) (reading_bytes * i + k) 0 ≡ digit_of 256 reading_bytes (get_or xs i 0) k
+byte_at_law : (xs : List ℕ) (i k : ℕ) → i < length xs → k < 4
+    → get_or (series_bytes xs) (reading_bytes * i + k) 0 ≡ digit_of 256 reading_bytes (get_or xs i 0) k
 unfolding series_bytes four_bytes
 byte_at_law [] i k l m = absurd (not-suc-le-zero l)
 byte_at_law (x ∷ xs) zero k l m =

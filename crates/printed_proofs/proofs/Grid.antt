@@ -65,7 +65,8 @@ looks_back es bytes =
       refusals = λ k h b e. numbers b k (omega (arith, grid_count es bytes)) e;
     }
   where
-    numbers : (b : List ℕ) (k : ℕ) → k < 4 → Same (start_of (grid_layout es bytes) (k + 1)) b bytes → (grid_layout es b).refusal k ≡ (grid_layout es bytes).refusal k
+    numbers : (b : List ℕ) (k : ℕ) → k < 4 → Same (start_of (grid_layout es bytes) (k + 1)) b bytes
+        → (grid_layout es b).refusal k ≡ (grid_layout es bytes).refusal k
     numbers b zero h e =
         sym (grid_refusal es b 0 (omega arith))
         ∙ mark_own grid_mark b bytes 0 (λ i l. e (0 + i) (omega (arith, grid_start_law es bytes 1 (omega arith))))

@@ -83,7 +83,8 @@ module _ (run : Run) (limit n : ℕ) (day : List ℕ) where
   next_holds : NextRow run limit n day (next_answer run limit n day).number
   next_holds = go (dec_lt n (run_days run)) (ℕ_discrete (length day) (day_len run n)) (dec_lt limit (highest_of day))
     where
-      go : Dec (n < run_days run) → Dec (length day ≡ day_len run n) → Dec (limit < highest_of day) → NextRow run limit n day (next_answer run limit n day).number
+      go : Dec (n < run_days run) → Dec (length day ≡ day_len run n) → Dec (limit < highest_of day)
+          → NextRow run limit n day (next_answer run limit n day).number
       go (no h) l v = let k : run_days run ≤ n = omega arith in rw (← next_out run limit n day k) (thirteen k)
       go (yes h) (no l) v = rw (← next_length run limit n day h l) (four h l)
       go (yes h) (yes l) (yes v) = rw (← next_bad run limit n day h l v refl) (five (record { left = h; long = l }) ((some_illegal limit day).0 v))

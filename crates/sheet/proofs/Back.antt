@@ -172,7 +172,8 @@ buffer_read ed s buffer long e = go ((write_exactly ed s (length buffer) 0).0 e)
     go (zero h y l w) =
         let taken = write_accepted ed s (length buffer) h ((has_year ed _).1 y) ((level_of _).1 l) ((roomy ed _).1 w) in
         let bytes = length_bytes s.year s.level s.windows in
-        ap (read_of ed) (ap (take sheet_size) (sym (write_taken ed s buffer _ taken refl).1) ∙ take_at (sheet_bytes s) (drop sheet_size buffer) sheet_size bytes)
+        ap (read_of ed) (ap (take sheet_size) (sym (write_taken ed s buffer _ taken refl).1)
+        ∙ take_at (sheet_bytes s) (drop sheet_size buffer) sheet_size bytes)
         ∙ read_written ed s (record { long = long; year = y; level = l; room = w })
 
 -- a sheet without a set bit is legal (Rule 5.3)

@@ -36,8 +36,8 @@ parts_for power row sum = capacity_parts * power * row.capacity + sum * row.ener
 unfoldable pub charge_for : ℕ → Row → ℕ → ℕ
 charge_for power row sum = (parts_for power row sum + cent_parts / 2) / cent_parts
 
--- no charge with legal prices, a capacity figure of 32 bits and a sum of 64 bits is above this (`charge_most_law`): so the
--- code's sums fit 64 bits
+-- no charge with legal prices, a capacity figure of 32 bits and a sum of 64 bits is above this (`charge_most_law`):
+-- so the code's sums fit 64 bits
 abbrev pub charge_most : ℕ
 charge_most = 1000000000000000000
 

@@ -20,10 +20,14 @@ day_at : (e : Else-day_out) → let a = e.args in day_out a.year a.day ≡ false
 day_at e = sym e.day_out.ensures ∙ e.if-day_out.false
 
 pub returns-then-bad_holidays : goal.returns-then-bad_holidays
-returns-then-bad_holidays c = said_list _ _ _ _ (year_at (goal.at.returns-then-bad_holidays c).Else-lacks_year) (sym c.bad_holidays.ensures ∙ c.if-bad_holidays.true)
+returns-then-bad_holidays c =
+    let w = goal.at.returns-then-bad_holidays c in
+    said_list _ _ _ _ (year_at w.Else-lacks_year) (sym c.bad_holidays.ensures ∙ c.if-bad_holidays.true)
 
 pub returns-then-day_out : goal.returns-then-day_out
-returns-then-day_out c = said_day _ _ _ _ (year_at (goal.at.returns-then-day_out c).Else-lacks_year) (list_at (goal.at.returns-then-day_out c).Else-bad_holidays) (sym c.day_out.ensures ∙ c.if-day_out.true)
+returns-then-day_out c =
+    let w = goal.at.returns-then-day_out c in
+    said_day _ _ _ _ (year_at w.Else-lacks_year) (list_at w.Else-bad_holidays) (sym c.day_out.ensures ∙ c.if-day_out.true)
 
 pub returns : goal.returns
 returns c =

@@ -44,13 +44,15 @@ under :
     → said ≡ decide_answer (let a = e.args in basis a.editions a.sheet.now a.holidays.now a.prices a.option) e.args.series.now
 under e =
     let opens = e.open-opening.ensures in
-    decide_under (let a = e.args in basis a.editions a.sheet.now a.holidays.now a.prices a.option) e.args.series.now (ap said_of (sym e.in-Taken.is) ∙ opens.said) opens.terms
+    decide_under (let a = e.args in basis a.editions a.sheet.now a.holidays.now a.prices a.option) e.args.series.now
+    (ap said_of (sym e.in-Taken.is) ∙ opens.said) opens.terms
 
 pub returns-in_default-collected : goal.returns-in_default-collected
 returns-in_default-collected c =
+    let w = goal.at.returns-in_default-collected c in
     let t = c.open-opening.result.terms in
-    let other = year_refused t.rates.year t.carrying t.windows (readings (goal.at.returns-in_default-collected c).After-open-opening) c.year_figures-collected.ensures c.in_default-collected.is in
-    under (goal.at.returns-in_default-collected c).In-Taken (whole_series t (readings (goal.at.returns-in_default-collected c).After-open-opening) (only 4) refl (series_length _ _ (readings (goal.at.returns-in_default-collected c).After-open-opening) other))
+    let other = year_refused t.rates.year t.carrying t.windows (readings w.After-open-opening) c.year_figures-collected.ensures c.in_default-collected.is in
+    under w.In-Taken (whole_series t (readings w.After-open-opening) (only 4) refl (series_length _ _ (readings w.After-open-opening) other))
 
 -- the series has the year's length, and the figures are those of all its days
 told :
@@ -63,8 +65,11 @@ told e =
 
 pub returns-then-figures-gt-CUSTOMER_MOST : goal.returns-then-figures-gt-CUSTOMER_MOST
 returns-then-figures-gt-CUSTOMER_MOST c =
-    under (goal.at.returns-then-figures-gt-CUSTOMER_MOST c).In-Taken (whole_bad c.open-opening.result.terms (readings (goal.at.returns-then-figures-gt-CUSTOMER_MOST c).After-open-opening) (told (goal.at.returns-then-figures-gt-CUSTOMER_MOST c).In-All).0 (told (goal.at.returns-then-figures-gt-CUSTOMER_MOST c).In-All).1 (omega arith) c.first_illegal.ensures)
+    let w = goal.at.returns-then-figures-gt-CUSTOMER_MOST c in
+    under w.In-Taken (whole_bad c.open-opening.result.terms (readings w.After-open-opening) (told w.In-All).0
+    (told w.In-All).1 (omega arith) c.first_illegal.ensures)
 
 pub returns : goal.returns
 returns c =
-    under (goal.at.returns c).In-Taken (whole_legal c.open-opening.result.terms (readings (goal.at.returns c).After-open-opening) (told (goal.at.returns c).In-All).0 (told (goal.at.returns c).In-All).1 (omega arith) c.judge.ensures)
+    let w = goal.at.returns c in
+    under w.In-Taken (whole_legal c.open-opening.result.terms (readings w.After-open-opening) (told w.In-All).0 (told w.In-All).1 (omega arith) c.judge.ensures)

@@ -64,11 +64,12 @@ overflow_cast-result c =
 
 pub returns-then-first-day : goal.returns-then-first-day
 returns-then-first-day c =
+    let w = goal.at.returns-then-first-day c in
     let a = c.args in
     let first = c.first_above-first.ensures in
     let bad = found_illegal customer_most a.day.now (omega (arith, first)) in
-    fair (goal.at.returns-then-first-day c).Else-seen-sum
-    (next_bad (Year a.year) customer_most a.seen a.day.now (left (goal.at.returns-then-first-day c).Else-year_days-seen) (long (goal.at.returns-then-first-day c).Else-day-day_len) bad first)
+    fair w.Else-seen-sum
+    (next_bad (Year a.year) customer_most a.seen a.day.now (left w.Else-year_days-seen) (long w.Else-day-day_len) bad first)
 
 pub returns : goal.returns
 returns c =

@@ -29,6 +29,7 @@ listed_are e = ap (λ (n : ℕ). take n e.holidays_of-list.result) e.holiday_cou
 pub returns : goal.returns
 unfolding opened_in
 returns c =
+    let w = goal.at.returns c in
     let a = c.args in
     let b = a.head.now in
     let from = c.earlier-from.ensures in
@@ -36,4 +37,4 @@ returns c =
     let sheet = (λ i. take (to i - from i) (drop (from i) b)) ∙ sheet_held b in
     let prices = c.prices_of-prices.ensures in
     let option = c.byte_at-option.ensures in
-    c.open-step.ensures.state ∙ (λ i. open_customer (basis a.editions (sheet i) (listed_are (goal.at.returns c).After-holidays_of-list i) (prices i) (eqb (option i) 1)))
+    c.open-step.ensures.state ∙ (λ i. open_customer (basis a.editions (sheet i) (listed_are w.After-holidays_of-list i) (prices i) (eqb (option i) 1)))

@@ -22,7 +22,8 @@ invariant-loop-p l =
     → f.any ≡ l.initial.any
     → f.high ≡ l.initial.high
     → (d : ℕ)
-    → high_at (plain_to f l.day l.p) d l.day l.at ≡ taken_in f (d + 1) (record_to (length l.day) l.p (in_row (length l.day) (row_if l.flag l.row)) (alone l.day)))
+    → high_at (plain_to f l.day l.p) d l.day l.at
+    ≡ taken_in f (d + 1) (record_to (length l.day) l.p (in_row (length l.day) (row_if l.flag l.row)) (alone l.day)))
 
 abbrev pub decreases-loop-p : goal.decreases-loop-p
 decreases-loop-p l = length l.day - l.p

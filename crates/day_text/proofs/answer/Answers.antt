@@ -38,10 +38,11 @@ listed_are e = ap (λ (n : ℕ). take n e.listed_days-list.result) e.list_count-
 
 pub returns : goal.returns
 returns c =
+    let w = goal.at.returns c in
     let year = c.year_at-year.ensures in
     c.day_kind.ensures
-    ∙ (λ i. calendar_answer (edition_of (c.todays-editions.ensures i) (year i)) (year i) (listed_are (goal.at.returns c).After-listed_days-list i) (c.day_at.ensures i))
-    ∙ calendar_told _ (sym (tested (goal.at.returns c).After-year_out) ∙ c.if-year_out.false) (sym c.no_such_date.ensures ∙ c.if-no_such_date.false)
+    ∙ (λ i. calendar_answer (edition_of (c.todays-editions.ensures i) (year i)) (year i) (listed_are w.After-listed_days-list i) (c.day_at.ensures i))
+    ∙ calendar_told _ (sym (tested w.After-year_out) ∙ c.if-year_out.false) (sym c.no_such_date.ensures ∙ c.if-no_such_date.false)
 
 pub returns-then-year_out : goal.returns-then-year_out
 returns-then-year_out c = year_told _ (sym (tested (goal.at.returns-then-year_out c).After-year_out) ∙ c.if-year_out.true)

@@ -47,7 +47,8 @@ spaced e =
 name :
     (e : After-add_weekday-name)
     → let b = e.args.b.now in
-    Wrote e.add_bytes-space.new.buf e.add_bytes-space.result (weekday_name (weekday_of (year_at b 0) (day_at b 0))) e.add_weekday-name.new.buf e.add_weekday-name.result
+    Wrote e.add_bytes-space.new.buf e.add_bytes-space.result
+    (weekday_name (weekday_of (year_at b 0) (day_at b 0))) e.add_weekday-name.new.buf e.add_weekday-name.result
 name e =
     let year = e.year_at.ensures in
     let is = e.weekday-weekday.ensures ∙ (λ i. weekday_of (year i) (e.day_at.ensures i)) in
@@ -85,7 +86,8 @@ gap e =
     let v = date_now in
     (omega (arith, w.end, v.end, ten_now), omega (arith, w.same, v.same)) in
     let name_now : let b = e.args.b.now in
-    Wrote e.add_bytes-space.new.buf e.add_bytes-space.result (weekday_name (weekday_of (year_at b 0) (day_at b 0))) e.add_weekday-name.new.buf e.add_weekday-name.result =
+    Wrote e.add_bytes-space.new.buf e.add_bytes-space.result
+    (weekday_name (weekday_of (year_at b 0) (day_at b 0))) e.add_weekday-name.new.buf e.add_weekday-name.result =
     let year = e.year_at.ensures in
     let is = e.weekday-weekday.ensures ∙ (λ i. weekday_of (year i) (e.day_at.ensures i)) in
     wrote_as (ap weekday_name is) e.add_weekday-name.ensures in
@@ -93,7 +95,8 @@ gap e =
     let w = name_now in
     let v = spaced_now in
     let b = e.args.b.now in
-    (omega (arith, w.end, v, weekday_short (weekday_of (year_at b 0) (day_at b 0))), omega (arith, w.same, v)) in fitted e.add_bytes-gap.ensures (omega (arith, named_now))
+    (omega (arith, w.end, v, weekday_short (weekday_of (year_at b 0) (day_at b 0))), omega (arith, w.same, v)) in fitted e.add_bytes-gap.ensures
+    (omega (arith, named_now))
 
 gapped : (e : After-add_bytes-gap) → (e.add_bytes-gap.result ≤ 21) × (length e.add_bytes-gap.new.buf ≡ 40)
 gapped e =
@@ -108,7 +111,8 @@ gapped e =
     let v = date_now in
     (omega (arith, w.end, v.end, ten_now), omega (arith, w.same, v.same)) in
     let name_now : let b = e.args.b.now in
-    Wrote e.add_bytes-space.new.buf e.add_bytes-space.result (weekday_name (weekday_of (year_at b 0) (day_at b 0))) e.add_weekday-name.new.buf e.add_weekday-name.result =
+    Wrote e.add_bytes-space.new.buf e.add_bytes-space.result
+    (weekday_name (weekday_of (year_at b 0) (day_at b 0))) e.add_weekday-name.new.buf e.add_weekday-name.result =
     let year = e.year_at.ensures in
     let is = e.weekday-weekday.ensures ∙ (λ i. weekday_of (year i) (e.day_at.ensures i)) in
     wrote_as (ap weekday_name is) e.add_weekday-name.ensures in
@@ -134,7 +138,8 @@ worded e =
     let v = date_now in
     (omega (arith, w.end, v.end, ten_now), omega (arith, w.same, v.same)) in
     let name_now : let b = e.args.b.now in
-    Wrote e.add_bytes-space.new.buf e.add_bytes-space.result (weekday_name (weekday_of (year_at b 0) (day_at b 0))) e.add_weekday-name.new.buf e.add_weekday-name.result =
+    Wrote e.add_bytes-space.new.buf e.add_bytes-space.result
+    (weekday_name (weekday_of (year_at b 0) (day_at b 0))) e.add_weekday-name.new.buf e.add_weekday-name.result =
     let year = e.year_at.ensures in
     let is = e.weekday-weekday.ensures ∙ (λ i. weekday_of (year i) (e.day_at.ensures i)) in
     wrote_as (ap weekday_name is) e.add_weekday-name.ensures in
@@ -167,7 +172,8 @@ end e =
     let v = date_now in
     (omega (arith, w.end, v.end, ten_now), omega (arith, w.same, v.same)) in
     let name_now : let b = e.args.b.now in
-    Wrote e.add_bytes-space.new.buf e.add_bytes-space.result (weekday_name (weekday_of (year_at b 0) (day_at b 0))) e.add_weekday-name.new.buf e.add_weekday-name.result =
+    Wrote e.add_bytes-space.new.buf e.add_bytes-space.result
+    (weekday_name (weekday_of (year_at b 0) (day_at b 0))) e.add_weekday-name.new.buf e.add_weekday-name.result =
     let year = e.year_at.ensures in
     let is = e.weekday-weekday.ensures ∙ (λ i. weekday_of (year i) (e.day_at.ensures i)) in
     wrote_as (ap weekday_name is) e.add_weekday-name.ensures in
@@ -184,7 +190,8 @@ end e =
     let worded_now : (e.add_kind-word.result ≤ 31) × (length e.add_kind-word.new.buf ≡ 40) =
     let w = e.add_kind-word.ensures in
     let kind = e.args.kind in
-    (omega (arith, w.end, gapped_now, word_short (kind_code kind)), omega (arith, w.same, gapped_now)) in fitted e.add_bytes-end.ensures (omega (arith, worded_now))
+    (omega (arith, w.end, gapped_now, word_short (kind_code kind)), omega (arith, w.same, gapped_now)) in fitted e.add_bytes-end.ensures
+    (omega (arith, worded_now))
 
 ended : (e : After-add_bytes-end) → e.add_bytes-end.result ≤ length e.add_bytes-end.new.buf
 ended e =
@@ -199,7 +206,8 @@ ended e =
     let v = date_now in
     (omega (arith, w.end, v.end, ten_now), omega (arith, w.same, v.same)) in
     let name_now : let b = e.args.b.now in
-    Wrote e.add_bytes-space.new.buf e.add_bytes-space.result (weekday_name (weekday_of (year_at b 0) (day_at b 0))) e.add_weekday-name.new.buf e.add_weekday-name.result =
+    Wrote e.add_bytes-space.new.buf e.add_bytes-space.result
+    (weekday_name (weekday_of (year_at b 0) (day_at b 0))) e.add_weekday-name.new.buf e.add_weekday-name.result =
     let year = e.year_at.ensures in
     let is = e.weekday-weekday.ensures ∙ (λ i. weekday_of (year i) (e.day_at.ensures i)) in
     wrote_as (ap weekday_name is) e.add_weekday-name.ensures in
@@ -216,14 +224,17 @@ ended e =
     let worded_now : (e.add_kind-word.result ≤ 31) × (length e.add_kind-word.new.buf ≡ 40) =
     let w = e.add_kind-word.ensures in
     let kind = e.args.kind in
-    (omega (arith, w.end, gapped_now, word_short (kind_code kind)), omega (arith, w.same, gapped_now)) in let w = end e in omega (arith, w.end, w.same, worded_now)
+    (omega (arith, w.end, gapped_now, word_short (kind_code kind)), omega (arith, w.same, gapped_now)) in let w = end e in omega
+    (arith, w.end, w.same, worded_now)
 
 pub returns : goal.returns
 unfolding day_line
 returns c =
+    let w = goal.at.returns c in
     let line =
-    then (date (goal.at.returns c).After-add_bytes-date)
-    (then (space (goal.at.returns c).After-add_bytes-space) (then (name (goal.at.returns c).After-add_weekday-name) (then (gap (goal.at.returns c).After-add_bytes-gap) (then c.add_kind-word.ensures (end (goal.at.returns c).After-add_bytes-end))))) in
+    then (date w.After-add_bytes-date)
+    (then (space w.After-add_bytes-space) (then (name w.After-add_weekday-name)
+    (then (gap w.After-add_bytes-gap) (then c.add_kind-word.ensures (end w.After-add_bytes-end))))) in
     put_as (taken line) c.add_bytes.ensures
 
 pub slice_bounds-add_bytes-end-2 : goal.slice_bounds-add_bytes-end-2

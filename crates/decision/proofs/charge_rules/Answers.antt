@@ -17,8 +17,9 @@ returns-then-not-figures c rates e = ap with_plain c.plain_of.ensures ∙ charge
 
 pub returns-then-reduction_short : goal.returns-then-reduction_short
 returns-then-reduction_short c rates e =
+    let w = goal.at.returns-then-reduction_short c in
     ap (with_peaks 11) c.peaks_of-peaks.ensures
-    ∙ charge_reduction _ _ rates e (some_at (goal.at.returns-then-reduction_short c).Else-not-figures) (ltb-true _ _ (sym c.reduction_short.ensures ∙ c.if-reduction_short.true))
+    ∙ charge_reduction _ _ rates e (some_at w.Else-not-figures) (ltb-true _ _ (sym c.reduction_short.ensures ∙ c.if-reduction_short.true))
 
 pub returns : goal.returns
 returns c rates e =

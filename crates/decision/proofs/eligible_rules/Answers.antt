@@ -35,8 +35,9 @@ returns-then-share_short c =
 
 pub returns-then-moved_out-edition : goal.returns-then-moved_out-edition
 returns-then-moved_out-edition c =
+    let w = goal.at.returns-then-moved_out-edition c in
     ap (with_peaks 10) c.peaks_of-then-moved_out-edition.ensures
-    ∙ eligible_move _ _ _ c.requires.1 (some_at (goal.at.returns-then-moved_out-edition c).Else-not-figures) (share_at (goal.at.returns-then-moved_out-edition c).Else-share_short) (omega arith)
+    ∙ eligible_move _ _ _ c.requires.1 (some_at w.Else-not-figures) (share_at w.Else-share_short) (omega arith)
 
 pub returns : goal.returns
 returns c =

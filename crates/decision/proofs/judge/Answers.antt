@@ -42,7 +42,10 @@ first_at :
     → let a = c.args in
     said_of c.eligible_rules-first.result ≡ eligible_answer a.edition a.figures a.rates
 first_at c =
-    c.eligible_rules-first.ensures ∙ eligible_legal _ _ _ (rates_legal (sym c.level_out.ensures ∙ c.if-level_out.false) (charges_cents _ _ _ (ap said_of_charges (sym c.in-Cents.is) ∙ c.both_charges-asked.ensures)).0)
+    c.eligible_rules-first.ensures
+    ∙ eligible_legal _ _ _
+    (rates_legal (sym c.level_out.ensures ∙ c.if-level_out.false) (charges_cents _ _ _
+    (ap said_of_charges (sym c.in-Cents.is) ∙ c.both_charges-asked.ensures)).0)
 
 pub returns-in_default : goal.returns-in_default
 returns-in_default c =
@@ -51,8 +54,9 @@ returns-in_default c =
 
 pub returns-in-Eligible : goal.returns-in-Eligible
 returns-in-Eligible c =
-    let z = number_is (sym (first_at (goal.at.returns-in-Eligible c).After-eligible_rules-first) ∙ ap said_of c.in-Eligible.is) in
-    judge_second _ _ _ z (c.charge_rules.ensures _ (cents_at (goal.at.returns-in-Eligible c).In-Cents).1 ∙ charge_legal _ _ _ (legal_at (goal.at.returns-in-Eligible c).In-Cents).legal_prices)
+    let w = goal.at.returns-in-Eligible c in
+    let z = number_is (sym (first_at w.After-eligible_rules-first) ∙ ap said_of c.in-Eligible.is) in
+    judge_second _ _ _ z (c.charge_rules.ensures _ (cents_at w.In-Cents).1 ∙ charge_legal _ _ _ (legal_at w.In-Cents).legal_prices)
 
 pub returns : goal.returns
 returns c =

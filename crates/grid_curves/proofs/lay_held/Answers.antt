@@ -47,8 +47,9 @@ from_to e =
 
 pub lay-requires : goal.lay-requires
 lay-requires c =
-    let h = from_to (goal.at.lay-requires c).After-smaller-to in
-    ((spans (goal.at.lay-requires c).After-span_by-span).len_is, simp (length-take, length-drop) (omega (arith, (spans (goal.at.lay-requires c).After-span_by-span).len_is)), c.requires.1)
+    let w = goal.at.lay-requires c in
+    let h = from_to w.After-smaller-to in
+    ((spans w.After-span_by-span).len_is, simp (length-take, length-drop) (omega (arith, (spans w.After-span_by-span).len_is)), c.requires.1)
 
 pub returns : goal.returns
 returns c =

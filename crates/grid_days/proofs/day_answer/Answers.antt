@@ -45,10 +45,11 @@ overflow_cast-result c =
 
 pub returns-then-first-day : goal.returns-then-first-day
 returns-then-first-day c =
+    let w = goal.at.returns-then-first-day c in
     let a = c.args in
     let first = c.first_above-first.ensures in
     let bad = found_illegal grid_most a.day.now (omega (arith, first)) in
-    next_bad (Period a.year) grid_most a.seen a.day.now (left (goal.at.returns-then-first-day c).Else-period_days-seen) (long (goal.at.returns-then-first-day c).Else-day-day_len) bad first
+    next_bad (Period a.year) grid_most a.seen a.day.now (left w.Else-period_days-seen) (long w.Else-day-day_len) bad first
 
 pub returns : goal.returns
 returns c =

@@ -22,9 +22,12 @@ number e = ap (λ (f : Numbers). f.number) e.of_answer-number.ensures ∙ ap (λ
 
 pub returns-then-number-ne0 : goal.returns-then-number-ne0
 returns-then-number-ne0 c =
-    put_as (closed_refused (series (goal.at.returns-then-number-ne0 c).After-of_answer-number) (number (goal.at.returns-then-number-ne0 c).After-of_answer-number) c.if-number-ne0.true) c.refused.ensures
+    let w = goal.at.returns-then-number-ne0 c in
+    put_as (closed_refused (series w.After-of_answer-number) (number w.After-of_answer-number) c.if-number-ne0.true) c.refused.ensures
 
 pub returns : goal.returns
 returns c =
-    let sheet = ap (λ (r : ReadSaid). r.sheet) c.read_by.ensures ∙ ap (read_sheet (series (goal.at.returns c).After-of_answer-number).edition) c.close.ensures.1 in
-    put_as (ap sheet_text sheet ∙ closed_done (series (goal.at.returns c).After-of_answer-number) (sym (number (goal.at.returns c).After-of_answer-number) ∙ c.if-number-ne0.false)) c.windows_text.ensures
+    let w = goal.at.returns c in
+    let sheet = ap (λ (r : ReadSaid). r.sheet) c.read_by.ensures ∙ ap (read_sheet (series w.After-of_answer-number).edition) c.close.ensures.1 in
+    put_as (ap sheet_text sheet ∙ closed_done (series w.After-of_answer-number) (sym (number w.After-of_answer-number) ∙ c.if-number-ne0.false))
+    c.windows_text.ensures

@@ -28,8 +28,9 @@ spaced e =
 
 pub add_number-requires-2 : goal.add_number-requires-2
 add_number-requires-2 c =
+    let w = goal.at.add_number-requires-2 c in
     let a = c.args in
-    omega (arith, ap length (field_next a.i a.x c.if-i-eq0.false), (spaced (goal.at.add_number-requires-2 c).After-add_bytes-n).end, (spaced (goal.at.add_number-requires-2 c).After-add_bytes-n).same)
+    omega (arith, ap length (field_next a.i a.x c.if-i-eq0.false), (spaced w.After-add_bytes-n).end, (spaced w.After-add_bytes-n).same)
 
 pub returns : goal.returns
 returns c =

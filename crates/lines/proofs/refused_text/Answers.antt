@@ -18,9 +18,15 @@ marked e = fitted e.add_bytes-n.ensures (omega arith)
 
 pub add_figures-requires : goal.add_figures-requires
 add_figures-requires c =
+    let w = goal.at.add_figures-requires c in
     let a = c.args in
     let fit = sym c.figures_fit.ensures ∙ c.if-figures_fit.true in
-    omega (arith, leb-true (length (figures_line a.figures.now)) (length a.buf.now - 8) fit, (marked (goal.at.add_figures-requires c).After-add_bytes-n).end, (marked (goal.at.add_figures-requires c).After-add_bytes-n).same)
+    omega (
+      arith,
+      leb-true (length (figures_line a.figures.now)) (length a.buf.now - 8) fit,
+      (marked w.After-add_bytes-n).end,
+      (marked w.After-add_bytes-n).same,
+    )
 
 pub returns-then-figures_fit : goal.returns-then-figures_fit
 returns-then-figures_fit c =

@@ -45,7 +45,8 @@ overflow_add-end c =
 
 pub returns-then-series-end : goal.returns-then-series-end
 returns-then-series-end c =
-    part_past _ _ _ (there (goal.at.returns-then-series-end c).Else-no_day) (omega (arith, (spans (goal.at.returns-then-series-end c).After-span_by-span).2, c.if-series-end.true))
+    let w = goal.at.returns-then-series-end c in
+    part_past _ _ _ (there w.Else-no_day) (omega (arith, (spans w.After-span_by-span).2, c.if-series-end.true))
 
 pub returns : goal.returns
 returns c =

@@ -57,21 +57,27 @@ returns-then-two_at-ne-FORMAT_VERSION c =
 
 pub returns-then-lacks_year : goal.returns-then-lacks_year
 returns-then-lacks_year c =
+    let w = goal.at.returns-then-lacks_year c in
     let out = rw c.two_at-year.ensures at (sym c.lacks_year.ensures ∙ c.if-lacks_year.true) in
-    ap shown_of c.refused-then-lacks_year.ensures ∙ read_refused _ _ (read_year _ _ (formed_at (goal.at.returns-then-lacks_year c).Else-two_at-ne-FORMAT_VERSION) out) refl
+    ap shown_of c.refused-then-lacks_year.ensures ∙ read_refused _ _ (read_year _ _ (formed_at w.Else-two_at-ne-FORMAT_VERSION) out) refl
 
 pub returns-then-level_out : goal.returns-then-level_out
 returns-then-level_out c =
+    let w = goal.at.returns-then-level_out c in
     let out = sym c.level_out.ensures ∙ c.if-level_out.true in
-    ap shown_of c.refused-then-level_out.ensures ∙ read_refused _ _ (read_level _ _ (formed_at (goal.at.returns-then-level_out c).Else-two_at-ne-FORMAT_VERSION) (legal_year (goal.at.returns-then-level_out c).Else-lacks_year) out) refl
+    ap shown_of c.refused-then-level_out.ensures
+    ∙ read_refused _ _ (read_level _ _ (formed_at w.Else-two_at-ne-FORMAT_VERSION) (legal_year w.Else-lacks_year) out) refl
 
 pub returns-then-bytes_full : goal.returns-then-bytes_full
 returns-then-bytes_full c =
+    let w = goal.at.returns-then-bytes_full c in
     let full = sym c.bytes_full.ensures ∙ c.if-bytes_full.true in
-    ap shown_of c.refused-then-bytes_full.ensures ∙ read_refused _ _ (read_full _ _ (formed_at (goal.at.returns-then-bytes_full c).Else-two_at-ne-FORMAT_VERSION) (legal_year (goal.at.returns-then-bytes_full c).Else-lacks_year) (legal_level (goal.at.returns-then-bytes_full c).Else-level_out) full) refl
+    ap shown_of c.refused-then-bytes_full.ensures
+    ∙ read_refused _ _ (read_full _ _ (formed_at w.Else-two_at-ne-FORMAT_VERSION) (legal_year w.Else-lacks_year) (legal_level w.Else-level_out) full) refl
 
 pub returns : goal.returns
 returns c =
+    let w = goal.at.returns c in
     let roomy = sym c.bytes_full.ensures ∙ c.if-bytes_full.false in
     rw (c.two_at-year.ensures, c.unpack-windows.ensures)
-    (read_taken _ _ (read_accepted _ _ (formed_at (goal.at.returns c).Else-two_at-ne-FORMAT_VERSION) (legal_year (goal.at.returns c).Else-lacks_year) (legal_level (goal.at.returns c).Else-level_out) roomy))
+    (read_taken _ _ (read_accepted _ _ (formed_at w.Else-two_at-ne-FORMAT_VERSION) (legal_year w.Else-lacks_year) (legal_level w.Else-level_out) roomy))

@@ -34,14 +34,20 @@ returns-then-lacks_year c =
 
 pub returns-then-level_out : goal.returns-then-level_out
 returns-then-level_out c =
-    write_refused _ (dated (goal.at.returns-then-level_out c).Else-lacks_year) _ (write_level _ (dated (goal.at.returns-then-level_out c).Else-lacks_year) _ (omega arith) (year_at (goal.at.returns-then-level_out c).Else-lacks_year) (sym c.level_out.ensures ∙ c.if-level_out.true)) refl
+    let w = goal.at.returns-then-level_out c in
+    write_refused _ (dated w.Else-lacks_year) _
+    (write_level _ (dated w.Else-lacks_year) _ (omega arith) (year_at w.Else-lacks_year) (sym c.level_out.ensures ∙ c.if-level_out.true)) refl
 
 pub returns-then-too_full : goal.returns-then-too_full
 returns-then-too_full c =
+    let w = goal.at.returns-then-too_full c in
     let full = sym c.too_full.ensures ∙ c.if-too_full.true in
-    write_refused _ (dated (goal.at.returns-then-too_full c).Else-lacks_year) _ (write_full _ (dated (goal.at.returns-then-too_full c).Else-lacks_year) _ (omega arith) (year_at (goal.at.returns-then-too_full c).Else-lacks_year) (level_at (goal.at.returns-then-too_full c).Else-level_out) full) refl
+    write_refused _ (dated w.Else-lacks_year) _
+    (write_full _ (dated w.Else-lacks_year) _ (omega arith) (year_at w.Else-lacks_year) (level_at w.Else-level_out) full) refl
 
 pub returns : goal.returns
 returns c =
+    let w = goal.at.returns c in
     let roomy = sym c.too_full.ensures ∙ c.if-too_full.false in
-    write_taken _ (dated (goal.at.returns c).Else-lacks_year) _ _ (write_accepted _ (dated (goal.at.returns c).Else-lacks_year) _ (omega arith) (year_at (goal.at.returns c).Else-lacks_year) (level_at (goal.at.returns c).Else-level_out) roomy) c.fill.ensures
+    write_taken _ (dated w.Else-lacks_year) _ _
+    (write_accepted _ (dated w.Else-lacks_year) _ (omega arith) (year_at w.Else-lacks_year) (level_at w.Else-level_out) roomy) c.fill.ensures

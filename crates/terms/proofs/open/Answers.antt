@@ -37,9 +37,10 @@ answer_at e = e.open_answer-answer.ensures ∙ open_said (given e) (read_at e)
 
 pub returns-in_default : goal.returns-in_default
 returns-in_default c =
-    let k = given (goal.at.returns-in_default c).After-open_answer-answer in
-    let z = untaken {d = c.open_answer-answer.result} (answer_at (goal.at.returns-in_default c).After-open_answer-answer) (open_zero k) (λ t. c.in_default.not-Taken t) in
-    record { said = answer_at (goal.at.returns-in_default c).After-open_answer-answer; terms = c.no_terms.ensures ∙ open_refused k _ z (answer_at (goal.at.returns-in_default c).After-open_answer-answer) }
+    let w = goal.at.returns-in_default c in
+    let k = given w.After-open_answer-answer in
+    let z = untaken {d = c.open_answer-answer.result} (answer_at w.After-open_answer-answer) (open_zero k) (λ t. c.in_default.not-Taken t) in
+    record { said = answer_at w.After-open_answer-answer; terms = c.no_terms.ensures ∙ open_refused k _ z (answer_at w.After-open_answer-answer) }
 
 pub returns : goal.returns
 returns c =

@@ -33,7 +33,8 @@ returns-then-bad_holidays c = rw (← read_at (goal.at.returns-then-bad_holidays
 
 pub returns-then-prices_out : goal.returns-then-prices_out
 returns-then-prices_out c =
-    rw (← read_at (goal.at.returns-then-prices_out c).In-Taken, legal_at (goal.at.returns-then-prices_out c).Else-bad_holidays, sym c.prices_out.ensures ∙ c.if-prices_out.true)
+    let w = goal.at.returns-then-prices_out c in
+    rw (← read_at w.In-Taken, legal_at w.Else-bad_holidays, sym c.prices_out.ensures ∙ c.if-prices_out.true)
 
 pub returns : goal.returns
 returns c =

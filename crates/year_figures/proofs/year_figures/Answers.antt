@@ -70,7 +70,8 @@ whole_year l =
 in_at :
     (t : After-take_days-taking)
     → let a = t.args in
-    days_out t.year_days-days.result t.loop-d.d (length (take (let d = t.loop-d.d in d + 1 + t.month_left.result - d) (drop t.loop-d.d a.carrying.now))) t.loop-d.figures.sum ≡ false
+    days_out t.year_days-days.result t.loop-d.d
+    (length (take (let d = t.loop-d.d in d + 1 + t.month_left.result - d) (drop t.loop-d.d a.carrying.now))) t.loop-d.figures.sum ≡ false
 in_at t =
     let at = t.loop-d in
     let a = t.args in
@@ -87,8 +88,9 @@ in_at t =
 
 pub returns-in_default : goal.returns-in_default
 returns-in_default c =
-    let other = days_refused _ _ _ _ _ _ _ (in_at (goal.at.returns-in_default c).After-take_days-taking) c.take_days-taking.ensures (λ g k. c.in_default.not-Taken g k) in
-    year_none _ _ _ _ (λ e. other (e ∙ sym (whole_year (goal.at.returns-in_default c).At-loop-d)))
+    let w = goal.at.returns-in_default c in
+    let other = days_refused _ _ _ _ _ _ _ (in_at w.After-take_days-taking) c.take_days-taking.ensures (λ g k. c.in_default.not-Taken g k) in
+    year_none _ _ _ _ (λ e. other (e ∙ sym (whole_year w.At-loop-d)))
 
 pub loop-d-preserved : goal.loop-d-preserved
 loop-d-preserved c =

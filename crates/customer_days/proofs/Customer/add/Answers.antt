@@ -35,8 +35,10 @@ overflow_add-result c =
 
 pub returns : goal.returns
 returns c =
+    let w = goal.at.returns c in
     let self = c.args.self in
-    let fits = day_taken_law _ _ _ _ (in_at (goal.at.returns c).After-take_day-taking) c.take_day-taking.ensures (a_day (change_of (Year self.terms.rates.year)) self.seen c.requires.next.long) in
+    let fits = day_taken_law _ _ _ _ (in_at w.After-take_day-taking) c.take_day-taking.ensures
+    (a_day (change_of (Year self.terms.rates.year)) self.seen c.requires.next.long) in
     let row = row_taken self.terms.rates.year self.terms.carrying self.terms.windows self.seen self.figures _
     c.day_row-row.ensures c.requires.next.long in
     λ i. record {

@@ -34,13 +34,16 @@ returns-then-b-span c = c.ended.ensures ∙ span_cut customer_reader _ (fits _ _
 
 pub returns-then-number-ne0 : goal.returns-then-number-ne0
 returns-then-number-ne0 c =
-    c.ended-then-number-ne0.ensures ∙ field_refused customer_reader _ _ (held_at (goal.at.returns-then-number-ne0 c).After-lay) (head_at (goal.at.returns-then-number-ne0 c).After-lay) c.refusal-number.ensures c.if-number-ne0.true
+    let w = goal.at.returns-then-number-ne0 c in
+    c.ended-then-number-ne0.ensures
+    ∙ field_refused customer_reader _ _ (held_at w.After-lay) (head_at w.After-lay) c.refusal-number.ensures c.if-number-ne0.true
 
 pub returns : goal.returns
 returns c =
+    let w = goal.at.returns c in
     let s = c.args.self in
     (λ i. record { editions = s.editions; field = s.field + 1; head = c.lay.new.out; customer = c.opened_after.ensures i; stage = Going })
-    ∙ field_taken customer_reader _ _ (held_at (goal.at.returns c).After-lay) (head_at (goal.at.returns c).After-lay) (sym c.refusal-number.ensures ∙ c.if-number-ne0.false)
+    ∙ field_taken customer_reader _ _ (held_at w.After-lay) (head_at w.After-lay) (sym c.refusal-number.ensures ∙ c.if-number-ne0.false)
 
 pub slice_bounds-lay-end-2 : goal.slice_bounds-lay-end-2
 slice_bounds-lay-end-2 c = sym (length-take-le _ _ (omega arith))
