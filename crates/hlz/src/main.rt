@@ -5,7 +5,8 @@
 #![tactic(auto)]
 
 use grid_file::GridFile;
-use libc::{STDIN_FILENO, STDOUT_FILENO};
+use std::io;
+use std::io::Read;
 
 // A part is a field or a day. `want` never asks for more bytes than this, which the long Sunday has.
 const PART_MOST: usize = 400;
@@ -14,35 +15,35 @@ const PART_MOST: usize = 400;
 const PARTS: u32 = 371;
 
 // Hands the machine what came: fewer bytes than it wants where the input ends.
-fn read_into(file: GridFile, part: &mut [u8]) -> GridFile {
-    let n = io::read_full(STDIN_FILENO, part);
-    file.feed(&part[0..n])
+fn read_into<R: Read>(input: &mut R, file: GridFile, part: &mut [u8]) -> io::Result<GridFile> {
+    let n = inputs::read_full(input, part)?;
+    Ok(file.feed(&part[0..n]))
 }
 
 // One field or one day. A part is tested before the next is asked for (Rules 10.4 and 10.5).
-fn next(file: GridFile) -> GridFile {
+fn next<R: Read>(input: &mut R, file: GridFile) -> io::Result<GridFile> {
     let mut part = [0u8; PART_MOST];
     let want = file.want();
-    read_into(file, &mut part[..want])
+    read_into(input, file, &mut part[..want])
 }
 
 // Part after part. A machine that has ended wants nothing, so its answer is printed at once, whatever the input still
 // has.
-fn run() -> GridFile {
+fn run<R: Read>(input: &mut R) -> io::Result<GridFile> {
     let mut file = GridFile::start(editions::todays());
     let mut left = PARTS;
     while left > 0 {
         if file.want() == 0 {
-            return file;
+            return Ok(file);
         }
-        file = next(file);
+        file = next(input, file)?;
         left -= 1;
     }
-    file
+    Ok(file)
 }
 
-fn main() {
+fn main(rt: HostRuntime) -> io::Result<()> {
     let mut text = [0u8; texts::TEXT_MOST];
-    let n = grid_text::text(run(), &mut text);
-    io::write_all(STDOUT_FILENO, &text[0..n]);
+    let n = grid_text::text(run(&mut rt.stdin())?, &mut text);
+    rt.write_all(&text[0..n])
 }

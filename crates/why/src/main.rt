@@ -3,16 +3,16 @@
 // `day_text`, specs/Text. Rules 10.9 to 10.11.
 #![tactic(auto)]
 
-use libc::{STDIN_FILENO, STDOUT_FILENO};
+use std::io;
 
 // More than the day asked for and every day of a leap year. Of a longer input the last line is cut off here, so that it
 // is no dates at all.
 const INPUT_MOST: usize = 4096;
 
-fn main() {
+fn main(rt: HostRuntime) -> io::Result<()> {
     let mut input = [0u8; INPUT_MOST];
-    let n = io::read_full(STDIN_FILENO, &mut input);
+    let n = inputs::read_full(&mut rt.stdin(), &mut input)?;
     let mut text = [0u8; texts::TEXT_MOST];
     let m = day_text::text(&input[0..n], &mut text);
-    io::write_all(STDOUT_FILENO, &text[0..m]);
+    rt.write_all(&text[0..m])
 }
