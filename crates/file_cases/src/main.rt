@@ -14,7 +14,10 @@ mod lists;
 use customer_file::CustomerFile;
 use editions::Editions;
 use grid_file::GridFile;
-use libc::{STDIN_FILENO, STDOUT_FILENO};
+use std::env::FillError;
+use std::io::Read;
+use std::rt::{Env, Files};
+use std::{fs, io};
 
 // No field and no day has more bytes.
 const PART_MOST: usize = 400;
@@ -22,110 +25,136 @@ const PART_MOST: usize = 400;
 // Parts that a file has at most: 16 fields, 40 holidays, 366 days, and what is left over after them.
 const PARTS: u32 = 423;
 
+// No path has more bytes.
+const NAME_MOST: usize = 4096;
+
 // Hands the machine what came: fewer bytes than the part has where the file ends.
-fn feed_grid(fd: i32, file: GridFile, part: &mut [u8]) -> GridFile {
-    let n = io::read_full(fd, part);
-    file.feed(&part[0..n])
+fn feed_grid<R: Read>(input: &mut R, file: GridFile, part: &mut [u8]) -> io::Result<GridFile> {
+    let n = inputs::read_full(input, part)?;
+    Ok(file.feed(&part[0..n]))
 }
 
-fn next_grid(fd: i32, file: GridFile) -> GridFile {
+fn next_grid<R: Read>(input: &mut R, file: GridFile) -> io::Result<GridFile> {
     let mut part = [0u8; PART_MOST];
     let want = file.want();
-    feed_grid(fd, file, &mut part[..want])
+    feed_grid(input, file, &mut part[..want])
 }
 
-fn run_grid(fd: i32, editions: Editions) -> GridFile {
+fn run_grid<R: Read>(input: &mut R, editions: Editions) -> io::Result<GridFile> {
     let mut file = GridFile::start(editions);
     let mut left = PARTS;
     while left > 0 {
         if file.want() == 0 {
-            return file;
+            return Ok(file);
         }
-        file = next_grid(fd, file);
+        file = next_grid(input, file)?;
         left -= 1;
     }
-    file
+    Ok(file)
 }
 
-fn print_windows(fd: i32, editions: Editions) {
+fn print_windows<R: Read>(rt: &impl Print, input: &mut R, editions: Editions) -> io::Result<()> {
     let mut text = [0u8; texts::TEXT_MOST];
-    let n = grid_text::text(run_grid(fd, editions), &mut text);
-    io::write_all(STDOUT_FILENO, &text[0..n]);
+    let n = grid_text::text(run_grid(input, editions)?, &mut text);
+    rt.write_all(&text[0..n])
 }
 
-fn feed_customer(fd: i32, file: CustomerFile, part: &mut [u8]) -> CustomerFile {
-    let n = io::read_full(fd, part);
-    file.feed(&part[0..n])
+fn feed_customer<R: Read>(
+    input: &mut R,
+    file: CustomerFile,
+    part: &mut [u8],
+) -> io::Result<CustomerFile> {
+    let n = inputs::read_full(input, part)?;
+    Ok(file.feed(&part[0..n]))
 }
 
-fn next_customer(fd: i32, file: CustomerFile) -> CustomerFile {
+fn next_customer<R: Read>(input: &mut R, file: CustomerFile) -> io::Result<CustomerFile> {
     let mut part = [0u8; PART_MOST];
     let want = file.want();
-    feed_customer(fd, file, &mut part[..want])
+    feed_customer(input, file, &mut part[..want])
 }
 
-fn run_customer(fd: i32, editions: Editions) -> CustomerFile {
+fn run_customer<R: Read>(input: &mut R, editions: Editions) -> io::Result<CustomerFile> {
     let mut file = CustomerFile::start(editions);
     let mut left = PARTS;
     while left > 0 {
         if file.want() == 0 {
-            return file;
+            return Ok(file);
         }
-        file = next_customer(fd, file);
+        file = next_customer(input, file)?;
         left -= 1;
     }
-    file
+    Ok(file)
 }
 
-fn print_statement(fd: i32, editions: Editions) {
+fn print_statement<R: Read>(rt: &impl Print, input: &mut R, editions: Editions) -> io::Result<()> {
     let mut text = [0u8; texts::TEXT_MOST];
-    let n = customer_text::text(run_customer(fd, editions), &mut text);
-    io::write_all(STDOUT_FILENO, &text[0..n]);
+    let n = customer_text::text(run_customer(input, editions)?, &mut text);
+    rt.write_all(&text[0..n])
 }
 
-fn print_text(grid: bool, fd: i32, editions: Editions) {
+fn print_text<R: Read>(
+    rt: &impl Print,
+    grid: bool,
+    input: &mut R,
+    editions: Editions,
+) -> io::Result<()> {
     if grid {
-        print_windows(fd, editions);
+        print_windows(rt, input, editions)
     } else {
-        print_statement(fd, editions);
+        print_statement(rt, input, editions)
     }
 }
 
-fn print_listed(fd: i32) {
-    let kind = lists::byte(fd);
-    print_text(kind == b'G', fd, lists::list(fd));
+fn print_listed<R: Read>(rt: &impl Print, input: &mut R) -> io::Result<()> {
+    let kind = lists::byte(input)?;
+    let editions = lists::list(input)?;
+    print_text(rt, kind == b'G', input, editions)
 }
 
-fn print_file(letter: u8, fd: i32) {
+fn print_file<R: Read>(rt: &impl Print, letter: u8, input: &mut R) -> io::Result<()> {
     if letter == b'e' {
-        print_listed(fd);
+        print_listed(rt, input)
     } else {
-        print_text(letter == b'g', fd, editions::todays());
+        print_text(rt, letter == b'g', input, editions::todays())
     }
 }
 
-// Argument i, from 1: a file that cannot be opened is told on standard error, and its lines are missing.
-fn one(i: usize) {
-    let mut name = io::buffer();
-    let n = os::arg(i, &mut name);
-    let fd = os::open_read(&name[..n]);
-    if fd < 0 {
-        os::fail(&name[..n]);
-        return;
+// A file that cannot be opened is told on standard error, and its lines are missing.
+fn print_named(rt: &(impl Files + Print + Eprint), name: &str) -> io::Result<()> {
+    match fs::open(rt, name) {
+        Ok(mut file) => {
+            rt.println(name)?;
+            let letter = name.as_bytes().first().copied().unwrap_or(0);
+            print_file(rt, letter, &mut file)
+        }
+        Err(error) => eprintln!(rt; "{name}: {error}"),
     }
-    io::write_all(STDOUT_FILENO, &name[..n]);
-    io::write_all(STDOUT_FILENO, b"\n");
-    print_file(name[0], fd);
-    libc::close(fd);
 }
 
-fn main() {
+// Argument i, from 1: false where there is none. One that is no name of a file is told as such a file is.
+fn one(rt: &(impl Env + Files + Print + Eprint), i: usize) -> io::Result<bool> {
+    let mut name = [0u8; NAME_MOST];
+    match rt.arg(i, &mut name) {
+        Ok(n) => match str::from_utf8(&name[..n]) {
+            Ok(name) => print_named(rt, name)?,
+            Err(error) => eprintln!(rt; "argument {i}: {error}")?,
+        },
+        Err(FillError::TooLong) => eprintln!(rt; "argument {i}: too long")?,
+        Err(FillError::NotPresent) => return Ok(false),
+    }
+    Ok(true)
+}
+
+fn main(rt: HostRuntime) -> io::Result<()> {
     // the first word is the program's own name
-    let count = os::arg_count();
-    if count < 2 {
-        print_listed(STDIN_FILENO);
+    if !one(&rt, 1)? {
+        return print_listed(&rt, &mut rt.stdin());
     }
-    for i in 1..count {
-        one(i);
+    for i in 2..usize::MAX {
+        if !one(&rt, i)? {
+            break;
+        }
     }
+    Ok(())
 }
