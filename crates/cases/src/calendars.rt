@@ -10,6 +10,8 @@ use super::{input, output};
 use calendar::DayAnswer;
 use day_kinds::DayKind;
 use editions::Editions;
+use std::io;
+use std::io::Read;
 
 fn digit(n: u8) -> u8 {
     if n < 10 { b'0' + n } else { b'?' }
@@ -50,61 +52,85 @@ fn letter_of(editions: Editions, line: u8, year: u16, list: &[u16], day: u16) ->
 }
 
 // Day 0 and the days behind the year's end, too.
-fn write_days(editions: Editions, line: u8, year: u16, list: &[u16]) {
+fn write_days(
+    rt: &impl Print,
+    editions: Editions,
+    line: u8,
+    year: u16,
+    list: &[u16],
+) -> io::Result<()> {
     for day in 0..368 {
-        output::letter(letter_of(editions, line, year, list, day));
+        output::letter(rt, letter_of(editions, line, year, list, day))?;
     }
-    output::letter(b'\n');
+    output::letter(rt, b'\n')
 }
 
 // Y: a whole year.
-fn whole_year(editions: Editions, year: u16, list: &[u16]) {
-    output::letter(b'Y');
-    output::next(year as u64);
-    output::next(dates::year_days(year) as u64);
-    output::next(periods::period_days(year) as u64);
-    output::letter(b'\n');
-    write_days(editions, b'W', year, list);
-    write_days(editions, b'S', year, list);
-    write_days(editions, b'P', year, list);
-    write_days(editions, b'A', year, list);
+fn whole_year(rt: &impl Print, editions: Editions, year: u16, list: &[u16]) -> io::Result<()> {
+    output::letter(rt, b'Y')?;
+    output::next(rt, year as u64)?;
+    output::next(rt, dates::year_days(year) as u64)?;
+    output::next(rt, periods::period_days(year) as u64)?;
+    output::letter(rt, b'\n')?;
+    write_days(rt, editions, b'W', year, list)?;
+    write_days(rt, editions, b'S', year, list)?;
+    write_days(rt, editions, b'P', year, list)?;
+    write_days(rt, editions, b'A', year, list)
 }
 
-fn write_signs(days: [bool; 366]) {
+fn write_signs(rt: &impl Print, days: [bool; 366]) -> io::Result<()> {
     for k in 0..366 {
-        output::letter(sign(days[k]));
+        output::letter(rt, sign(days[k]))?;
     }
-    output::letter(b'\n');
+    output::letter(rt, b'\n')
 }
 
 // L: a holiday list.
-fn whole_list(editions: Editions, year: u16, list: &[u16]) {
-    output::letter(b'L');
-    output::next(year as u64);
-    output::letter(sign(!holidays::bad_holidays(year, list)));
-    output::letter(b'\n');
-    write_days(editions, b'A', year, list);
-    write_signs(calendar::window_days(year, list));
+fn whole_list(rt: &impl Print, editions: Editions, year: u16, list: &[u16]) -> io::Result<()> {
+    output::letter(rt, b'L')?;
+    output::next(rt, year as u64)?;
+    output::letter(rt, sign(!holidays::bad_holidays(year, list)))?;
+    output::letter(rt, b'\n')?;
+    write_days(rt, editions, b'A', year, list)?;
+    write_signs(rt, calendar::window_days(year, list))
 }
 
 // D: one day.
-fn one_day(editions: Editions, year: u16, list: &[u16], day: u16) {
-    output::letter(letter_of(editions, b'A', year, list, day));
-    output::letter(b'\n');
+fn one_day(
+    rt: &impl Print,
+    editions: Editions,
+    year: u16,
+    list: &[u16],
+    day: u16,
+) -> io::Result<()> {
+    output::letter(rt, letter_of(editions, b'A', year, list, day))?;
+    output::letter(rt, b'\n')
 }
 
-fn one_kind(editions: Editions, kind: u8, year: u16, list: &[u16], day: u16) {
+fn one_kind(
+    rt: &impl Print,
+    editions: Editions,
+    kind: u8,
+    year: u16,
+    list: &[u16],
+    day: u16,
+) -> io::Result<()> {
     match kind {
-        b'Y' => whole_year(editions, year, list),
-        b'L' => whole_list(editions, year, list),
-        _ => one_day(editions, year, list, day),
+        b'Y' => whole_year(rt, editions, year, list),
+        b'L' => whole_list(rt, editions, year, list),
+        _ => one_day(rt, editions, year, list, day),
     }
 }
 
-pub(crate) fn one_list(editions: Editions, kind: u8) {
-    let year = input::two();
-    let day = input::two();
-    let count = input::count();
-    let list = input::list(count);
-    one_kind(editions, kind, year, &list[0..count], day);
+pub(crate) fn one_list<R: Read>(
+    rt: &impl Print,
+    input: &mut R,
+    editions: Editions,
+    kind: u8,
+) -> io::Result<()> {
+    let year = input::two(input)?;
+    let day = input::two(input)?;
+    let count = input::count(input)?;
+    let list = input::list(input, count)?;
+    one_kind(rt, editions, kind, year, &list[0..count], day)
 }

@@ -17,35 +17,45 @@ use super::{input, lists, output, series};
 use customer_days::Customer;
 use editions::Editions;
 use readings::Run;
+use std::io;
+use std::io::Read;
 use tariff::{Decision, Prices};
 
 // A: the whole series, and an opening under the same terms.
 fn asked(
+    rt: &impl Print,
     editions: Editions,
     series: &[u32],
     sheet: &[u8],
     holidays: &[u16],
     prices: Prices,
     option: bool,
-) -> Customer {
+) -> io::Result<Customer> {
     write_answer(
+        rt,
         b'W',
         customer::decide(editions, sheet, holidays, prices, option, series),
-    );
+    )?;
     let opened = Customer::open(editions, sheet, holidays, prices, option);
     let answer = opened.answer;
-    write_answer(b'O', answer);
-    opened.customer
+    write_answer(rt, b'O', answer)?;
+    Ok(opened.customer)
 }
 
-fn ask(editions: Editions, series: &[u32]) -> Customer {
-    let len = input::room();
-    let sheet = input::bytes(len);
-    let count = input::room();
-    let holidays = input::list(count);
-    let prices = next_prices();
-    let option = input::byte() != 0;
+fn ask<R: Read>(
+    rt: &impl Print,
+    input: &mut R,
+    editions: Editions,
+    series: &[u32],
+) -> io::Result<Customer> {
+    let len = input::room(input)?;
+    let sheet = input::bytes(input, len)?;
+    let count = input::room(input)?;
+    let holidays = input::list(input, count)?;
+    let prices = next_prices(input)?;
+    let option = input::byte(input)? != 0;
     asked(
+        rt,
         editions,
         series,
         &sheet[0..len],
@@ -55,17 +65,23 @@ fn ask(editions: Editions, series: &[u32]) -> Customer {
     )
 }
 
-fn write_days(taken: u16, answer: Decision) {
-    output::letter(b'D');
-    output::next(taken as u64);
-    output::answer(decision_numbers::of_decision(answer));
-    output::letter(b'\n');
+fn write_days(rt: &impl Print, taken: u16, answer: Decision) -> io::Result<()> {
+    output::letter(rt, b'D')?;
+    output::next(rt, taken as u64)?;
+    output::answer(rt, decision_numbers::of_decision(answer))?;
+    output::letter(rt, b'\n')
 }
 
 // D: days of the series one after the other, until one is refused.
-fn days(editions: Editions, series: &[u32], customer: Customer) -> Customer {
-    let first = input::size();
-    let count = input::two();
+fn days<R: Read>(
+    rt: &impl Print,
+    input: &mut R,
+    editions: Editions,
+    series: &[u32],
+    customer: Customer,
+) -> io::Result<Customer> {
+    let first = input::size(input)?;
+    let count = input::two(input)?;
     let run = Run::Year(customer.terms.rates.year);
     let mut state = customer;
     for k in 0..count {
@@ -73,54 +89,80 @@ fn days(editions: Editions, series: &[u32], customer: Customer) -> Customer {
         let answer = stepped.answer;
         state = stepped.customer;
         let Decision::Taken = answer else {
-            write_days(k, answer);
-            return state;
+            write_days(rt, k, answer)?;
+            return Ok(state);
         };
     }
-    write_days(count, Decision::Taken);
-    state
+    write_days(rt, count, Decision::Taken)?;
+    Ok(state)
 }
 
 // P: a part of the series as a day, whatever its length.
-fn part(series: &[u32], customer: Customer) -> Customer {
-    let stepped = customer.day(series::part(series));
+fn part<R: Read>(
+    rt: &impl Print,
+    input: &mut R,
+    series: &[u32],
+    customer: Customer,
+) -> io::Result<Customer> {
+    let stepped = customer.day(series::part(input, series)?);
     let answer = stepped.answer;
-    write_answer(b'P', answer);
-    stepped.customer
+    write_answer(rt, b'P', answer)?;
+    Ok(stepped.customer)
 }
 
 // L: a day's part of the series. The state of the days is handed on.
-fn lent(editions: Editions, series: &[u32], customer: Customer) -> Customer {
-    series::write_day(editions, Run::Year(input::two()), series);
-    customer
+fn lent<R: Read>(
+    rt: &impl Print,
+    input: &mut R,
+    editions: Editions,
+    series: &[u32],
+    customer: Customer,
+) -> io::Result<Customer> {
+    let run = Run::Year(input::two(input)?);
+    series::write_day(rt, input, editions, run, series)?;
+    Ok(customer)
 }
 
 // C: a closing.
-fn closing(customer: Customer) -> Customer {
-    write_answer(b'C', customer.close());
-    customer
+fn closing(rt: &impl Print, customer: Customer) -> io::Result<Customer> {
+    write_answer(rt, b'C', customer.close())?;
+    Ok(customer)
 }
 
-fn one_call(editions: Editions, kind: u8, series: &[u32], customer: Customer) -> Customer {
+fn one_call<R: Read>(
+    rt: &impl Print,
+    input: &mut R,
+    editions: Editions,
+    kind: u8,
+    series: &[u32],
+    customer: Customer,
+) -> io::Result<Customer> {
     match kind {
-        b'A' => ask(editions, series),
-        b'D' => days(editions, series, customer),
-        b'P' => part(series, customer),
-        b'L' => lent(editions, series, customer),
-        _ => closing(customer),
+        b'A' => ask(rt, input, editions, series),
+        b'D' => days(rt, input, editions, series, customer),
+        b'P' => part(rt, input, series, customer),
+        b'L' => lent(rt, input, editions, series, customer),
+        _ => closing(rt, customer),
     }
 }
 
 // The calls of a record: terms first, so that there is a state.
-pub(crate) fn all_calls(editions: Editions, series: &[u32], count: u8) {
-    let mut customer = ask(editions, series);
+pub(crate) fn all_calls<R: Read>(
+    rt: &impl Print,
+    input: &mut R,
+    editions: Editions,
+    series: &[u32],
+    count: u8,
+) -> io::Result<()> {
+    let mut customer = ask(rt, input, editions, series)?;
     let mut list = editions;
-    for k in 0..count {
-        let kind = input::byte();
+    for _ in 0..count {
+        let kind = input::byte(input)?;
         if kind == b'E' {
-            list = lists::one_step(list);
+            list = lists::one_step(rt, input, list)?;
         } else {
-            customer = one_call(list, kind, series, customer);
+            customer = one_call(rt, input, list, kind, series, customer)?;
         }
     }
+    Ok(())
 }

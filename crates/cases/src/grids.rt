@@ -17,52 +17,71 @@ use editions::Editions;
 use grid::GridAnswer;
 use grid_days::Grid;
 use readings::Run;
+use std::io;
+use std::io::Read;
 
-fn write_answer(call: u8, answer: GridAnswer) {
-    output::letter(call);
-    output::answer(grid_numbers::of_answer(answer));
-    output::letter(b'\n');
+fn write_answer(rt: &impl Print, call: u8, answer: GridAnswer) -> io::Result<()> {
+    output::letter(rt, call)?;
+    output::answer(rt, grid_numbers::of_answer(answer))?;
+    output::letter(rt, b'\n')
 }
 
 // What a call that was lent a buffer did.
-fn write_sheet(call: u8, answer: GridAnswer, buffer: [u8; ROOM]) {
-    output::letter(call);
-    output::answer(grid_numbers::of_answer(answer));
-    output::bytes(buffer);
-    output::letter(b'\n');
+fn write_sheet(
+    rt: &impl Print,
+    call: u8,
+    answer: GridAnswer,
+    buffer: [u8; ROOM],
+) -> io::Result<()> {
+    output::letter(rt, call)?;
+    output::answer(rt, grid_numbers::of_answer(answer))?;
+    output::bytes(rt, buffer)?;
+    output::letter(rt, b'\n')
 }
 
 // W: the whole series. The state of the days is handed on.
-fn whole(editions: Editions, series: &[u32], grid: Grid) -> Grid {
-    let year = input::two();
-    let level = input::byte();
-    let room = input::room();
+fn whole<R: Read>(
+    rt: &impl Print,
+    input: &mut R,
+    editions: Editions,
+    series: &[u32],
+    grid: Grid,
+) -> io::Result<Grid> {
+    let year = input::two(input)?;
+    let level = input::byte(input)?;
+    let room = input::room(input)?;
     let mut buffer = [170u8; ROOM];
     let answer = grid::windows(editions, year, level, series, &mut buffer[0..room]);
-    write_sheet(b'W', answer, buffer);
-    grid
+    write_sheet(rt, b'W', answer, buffer)?;
+    Ok(grid)
 }
 
 // O: an opening.
-fn opening(editions: Editions) -> Grid {
-    let year = input::two();
-    let opened = Grid::open(editions, year, input::byte());
+fn opening<R: Read>(rt: &impl Print, input: &mut R, editions: Editions) -> io::Result<Grid> {
+    let year = input::two(input)?;
+    let opened = Grid::open(editions, year, input::byte(input)?);
     let answer = opened.answer;
-    write_answer(b'O', answer);
-    opened.grid
+    write_answer(rt, b'O', answer)?;
+    Ok(opened.grid)
 }
 
-fn write_days(taken: u16, answer: GridAnswer) {
-    output::letter(b'D');
-    output::next(taken as u64);
-    output::answer(grid_numbers::of_answer(answer));
-    output::letter(b'\n');
+fn write_days(rt: &impl Print, taken: u16, answer: GridAnswer) -> io::Result<()> {
+    output::letter(rt, b'D')?;
+    output::next(rt, taken as u64)?;
+    output::answer(rt, grid_numbers::of_answer(answer))?;
+    output::letter(rt, b'\n')
 }
 
 // D: days of the series one after the other, until one is refused.
-fn days(editions: Editions, series: &[u32], grid: Grid) -> Grid {
-    let first = input::size();
-    let count = input::two();
+fn days<R: Read>(
+    rt: &impl Print,
+    input: &mut R,
+    editions: Editions,
+    series: &[u32],
+    grid: Grid,
+) -> io::Result<Grid> {
+    let first = input::size(input)?;
+    let count = input::two(input)?;
     let run = Run::Period(grid.year);
     let mut state = grid;
     for k in 0..count {
@@ -70,59 +89,80 @@ fn days(editions: Editions, series: &[u32], grid: Grid) -> Grid {
         let answer = stepped.answer;
         state = stepped.grid;
         let GridAnswer::Done = answer else {
-            write_days(k, answer);
-            return state;
+            write_days(rt, k, answer)?;
+            return Ok(state);
         };
     }
-    write_days(count, GridAnswer::Done);
-    state
+    write_days(rt, count, GridAnswer::Done)?;
+    Ok(state)
 }
 
 // P: a part of the series as a day, whatever its length.
-fn part(series: &[u32], grid: Grid) -> Grid {
-    let stepped = grid.day(series::part(series));
+fn part<R: Read>(rt: &impl Print, input: &mut R, series: &[u32], grid: Grid) -> io::Result<Grid> {
+    let stepped = grid.day(series::part(input, series)?);
     let answer = stepped.answer;
-    write_answer(b'P', answer);
-    stepped.grid
+    write_answer(rt, b'P', answer)?;
+    Ok(stepped.grid)
 }
 
 // L: a day's part of the series. The state of the days is handed on.
-fn lent(editions: Editions, series: &[u32], grid: Grid) -> Grid {
-    series::write_day(editions, Run::Period(input::two()), series);
-    grid
+fn lent<R: Read>(
+    rt: &impl Print,
+    input: &mut R,
+    editions: Editions,
+    series: &[u32],
+    grid: Grid,
+) -> io::Result<Grid> {
+    let run = Run::Period(input::two(input)?);
+    series::write_day(rt, input, editions, run, series)?;
+    Ok(grid)
 }
 
 // C: a closing.
-fn closing(grid: Grid) -> Grid {
-    let room = input::room();
+fn closing<R: Read>(rt: &impl Print, input: &mut R, grid: Grid) -> io::Result<Grid> {
+    let room = input::room(input)?;
     let mut buffer = [170u8; ROOM];
     let answer = grid.close(&mut buffer[0..room]);
-    write_sheet(b'C', answer, buffer);
-    grid
+    write_sheet(rt, b'C', answer, buffer)?;
+    Ok(grid)
 }
 
-fn one_call(editions: Editions, kind: u8, series: &[u32], grid: Grid) -> Grid {
+fn one_call<R: Read>(
+    rt: &impl Print,
+    input: &mut R,
+    editions: Editions,
+    kind: u8,
+    series: &[u32],
+    grid: Grid,
+) -> io::Result<Grid> {
     match kind {
-        b'W' => whole(editions, series, grid),
-        b'O' => opening(editions),
-        b'D' => days(editions, series, grid),
-        b'P' => part(series, grid),
-        b'L' => lent(editions, series, grid),
-        _ => closing(grid),
+        b'W' => whole(rt, input, editions, series, grid),
+        b'O' => opening(rt, input, editions),
+        b'D' => days(rt, input, editions, series, grid),
+        b'P' => part(rt, input, series, grid),
+        b'L' => lent(rt, input, editions, series, grid),
+        _ => closing(rt, input, grid),
     }
 }
 
 // The calls of a record: the first ones, up to an opening, are made on the state of a refused opening.
-pub(crate) fn all_calls(editions: Editions, series: &[u32], count: u8) {
+pub(crate) fn all_calls<R: Read>(
+    rt: &impl Print,
+    input: &mut R,
+    editions: Editions,
+    series: &[u32],
+    count: u8,
+) -> io::Result<()> {
     let refused = Grid::open(editions, 0, 0);
     let mut grid = refused.grid;
     let mut list = editions;
-    for k in 0..count {
-        let kind = input::byte();
+    for _ in 0..count {
+        let kind = input::byte(input)?;
         if kind == b'E' {
-            list = lists::one_step(list);
+            list = lists::one_step(rt, input, list)?;
         } else {
-            grid = one_call(list, kind, series, grid);
+            grid = one_call(rt, input, list, kind, series, grid)?;
         }
     }
+    Ok(())
 }

@@ -1,13 +1,16 @@
 // What a record is read by: the next number or the next bytes of standard input, 0 behind its end.
-ghost use Rattle.std.specs.Prelude.{◌<◌, ◌≤◌};
+ghost use Rattle.std.specs.Prelude.{◌<◌, ◌≤◌, IfOk};
+
+use std::io;
+use std::io::Read;
 
 // Bytes that are lent to a call or taken for a sheet, and holidays of a customer's list: at most as many.
 pub(crate) const ROOM: usize = 64;
 
-pub(crate) fn byte() -> u8 {
+pub(crate) fn byte<R: Read>(input: &mut R) -> io::Result<u8> {
     let mut b = [0u8; 1];
-    io::read_full(0, &mut b);
-    b[0]
+    inputs::read_full(input, &mut b)?;
+    Ok(b[0])
 }
 
 fn wide(x: u8) -> u16
@@ -16,9 +19,9 @@ fn wide(x: u8) -> u16
     x as u16
 }
 
-pub(crate) fn two() -> u16 {
-    let high = wide(byte());
-    256 * high + wide(byte())
+pub(crate) fn two<R: Read>(input: &mut R) -> io::Result<u16> {
+    let high = wide(byte(input)?);
+    Ok(256 * high + wide(byte(input)?))
 }
 
 pub(crate) fn wider(x: u16) -> u32
@@ -27,9 +30,9 @@ pub(crate) fn wider(x: u16) -> u32
     x as u32
 }
 
-pub(crate) fn four() -> u32 {
-    let high = wider(two());
-    65536 * high + wider(two())
+pub(crate) fn four<R: Read>(input: &mut R) -> io::Result<u32> {
+    let high = wider(two(input)?);
+    Ok(65536 * high + wider(two(input)?))
 }
 
 pub(crate) fn widest(x: u32) -> u64
@@ -38,23 +41,23 @@ pub(crate) fn widest(x: u32) -> u64
     x as u64
 }
 
-pub(crate) fn eight() -> u64 {
-    let high = widest(four());
-    4294967296 * high + widest(four())
+pub(crate) fn eight<R: Read>(input: &mut R) -> io::Result<u64> {
+    let high = widest(four(input)?);
+    Ok(4294967296 * high + widest(four(input)?))
 }
 
 // A count of a byte.
-pub(crate) fn count() -> usize
-    ensures { result < 256 }
+pub(crate) fn count<R: Read>(input: &mut R) -> io::Result<usize>
+    ensures { IfOk result (λ n. n < 256) }
 {
-    byte() as usize
+    Ok(byte(input)? as usize)
 }
 
 // A place, from 0, or a count: two of them multiplied and one more added stay far below what a usize holds.
-pub(crate) fn size() -> usize
-    ensures { result < 65536 }
+pub(crate) fn size<R: Read>(input: &mut R) -> io::Result<usize>
+    ensures { IfOk result (λ n. n < 65536) }
 {
-    two() as usize
+    Ok(two(input)? as usize)
 }
 
 pub(crate) fn smaller(a: usize, b: usize) -> usize
@@ -64,28 +67,28 @@ pub(crate) fn smaller(a: usize, b: usize) -> usize
 }
 
 // A count of a byte that the room has.
-pub(crate) fn room() -> usize
-    ensures { result ≤ 64 }
+pub(crate) fn room<R: Read>(input: &mut R) -> io::Result<usize>
+    ensures { IfOk result (λ n. n ≤ 64) }
 {
-    smaller(count(), ROOM)
+    Ok(smaller(count(input)?, ROOM))
 }
 
 // So many bytes, and 0 behind them.
-pub(crate) fn bytes(n: usize) -> [u8; ROOM]
+pub(crate) fn bytes<R: Read>(input: &mut R, n: usize) -> io::Result<[u8; ROOM]>
     requires { n ≤ 64 }
 {
     let mut bytes = [0u8; ROOM];
-    io::read_full(0, &mut bytes[0..n]);
-    bytes
+    inputs::read_full(input, &mut bytes[0..n])?;
+    Ok(bytes)
 }
 
 // So many numbers of 16 bits, and 0 behind them.
-pub(crate) fn list(count: usize) -> [u16; 255]
+pub(crate) fn list<R: Read>(input: &mut R, count: usize) -> io::Result<[u16; 255]>
     requires { count < 256 }
 {
     let mut list = [0u16; 255];
     for k in 0..count {
-        list[k] = two();
+        list[k] = two(input)?;
     }
-    list
+    Ok(list)
 }

@@ -9,31 +9,33 @@
 //   F  count (a byte), place (a byte, from 0, at most 7), an edition: puts the edition at that place and the count into
 //      the list, loaded or not: a list that no loading made. Prints the count.
 // tests/editions.py makes them, and what must come of them, for edition_cases.py and others beside it.
-ghost use Rattle.std.specs.Prelude.{◌<◌};
+ghost use Rattle.std.specs.Prelude.{◌<◌, IfOk};
 
 use super::{input, output};
 use answers::Edition;
 use editions::{Editions, Loading};
+use std::io;
+use std::io::Read;
 
-fn next_shares() -> [u8; 7] {
+fn next_shares<R: Read>(input: &mut R) -> io::Result<[u8; 7]> {
     let mut shares = [0u8; 7];
     for k in 0..7 {
-        shares[k] = input::byte();
+        shares[k] = input::byte(input)?;
     }
-    shares
+    Ok(shares)
 }
 
-fn next_edition() -> Edition {
-    let first = input::two();
-    let last = input::two();
-    let line = input::byte();
-    let limit = input::byte();
-    let shares = next_shares();
-    let least_move = input::four();
-    let floor = input::byte();
-    let least_reduction = input::four();
-    let hours = input::two();
-    Edition {
+fn next_edition<R: Read>(input: &mut R) -> io::Result<Edition> {
+    let first = input::two(input)?;
+    let last = input::two(input)?;
+    let line = input::byte(input)?;
+    let limit = input::byte(input)?;
+    let shares = next_shares(input)?;
+    let least_move = input::four(input)?;
+    let floor = input::byte(input)?;
+    let least_reduction = input::four(input)?;
+    let hours = input::two(input)?;
+    Ok(Edition {
         first,
         last,
         line,
@@ -43,26 +45,27 @@ fn next_edition() -> Edition {
         floor,
         least_reduction,
         hours,
-    }
+    })
 }
 
-fn write_shares(shares: [u8; 7]) {
+fn write_shares(rt: &impl Print, shares: [u8; 7]) -> io::Result<()> {
     for k in 0..7 {
-        output::next(shares[k] as u64);
+        output::next(rt, shares[k] as u64)?;
     }
+    Ok(())
 }
 
-fn write_edition(edition: Edition) {
+fn write_edition(rt: &impl Print, edition: Edition) -> io::Result<()> {
     let shares = edition.shares;
-    output::next(edition.first as u64);
-    output::next(edition.last as u64);
-    output::next(edition.line as u64);
-    output::next(edition.limit as u64);
-    write_shares(shares);
-    output::next(edition.least_move as u64);
-    output::next(edition.floor as u64);
-    output::next(edition.least_reduction as u64);
-    output::next(edition.hours as u64);
+    output::next(rt, edition.first as u64)?;
+    output::next(rt, edition.last as u64)?;
+    output::next(rt, edition.line as u64)?;
+    output::next(rt, edition.limit as u64)?;
+    write_shares(rt, shares)?;
+    output::next(rt, edition.least_move as u64)?;
+    output::next(rt, edition.floor as u64)?;
+    output::next(rt, edition.least_reduction as u64)?;
+    output::next(rt, edition.hours as u64)
 }
 
 fn number(answer: Loading) -> u64 {
@@ -73,62 +76,66 @@ fn number(answer: Loading) -> u64 {
 }
 
 // The line of an operation that leaves a list: how many records it has.
-fn write_count(operation: u8, list: Editions) {
-    output::letter(operation);
-    output::next(list.count as u64);
-    output::letter(b'\n');
+fn write_count(rt: &impl Print, operation: u8, list: Editions) -> io::Result<()> {
+    output::letter(rt, operation)?;
+    output::next(rt, list.count as u64)?;
+    output::letter(rt, b'\n')
 }
 
 // N, T: a list anew.
-fn anew(operation: u8, list: Editions) -> Editions {
-    write_count(operation, list);
-    list
+fn anew(rt: &impl Print, operation: u8, list: Editions) -> io::Result<Editions> {
+    write_count(rt, operation, list)?;
+    Ok(list)
 }
 
 // I: a loading.
-fn load(list: Editions) -> Editions {
-    let loaded = editions::load(list, next_edition());
+fn load<R: Read>(rt: &impl Print, input: &mut R, list: Editions) -> io::Result<Editions> {
+    let loaded = editions::load(list, next_edition(input)?);
     let answer = loaded.answer;
     let after = loaded.editions;
-    output::letter(b'I');
-    output::next(number(answer));
-    output::next(after.count as u64);
-    output::letter(b'\n');
-    after
+    output::letter(rt, b'I')?;
+    output::next(rt, number(answer))?;
+    output::next(rt, after.count as u64)?;
+    output::letter(rt, b'\n')?;
+    Ok(after)
 }
 
 // Y: the edition of a year. The list is handed on.
-fn pick(list: Editions) -> Editions {
-    let edition = editions::pick(list, input::two());
-    output::letter(b'Y');
-    write_edition(edition);
-    output::letter(b'\n');
-    list
+fn pick<R: Read>(rt: &impl Print, input: &mut R, list: Editions) -> io::Result<Editions> {
+    let edition = editions::pick(list, input::two(input)?);
+    output::letter(rt, b'Y')?;
+    write_edition(rt, edition)?;
+    output::letter(rt, b'\n')?;
+    Ok(list)
 }
 
 // A place of the list.
-fn next_place() -> usize
-    ensures { result < 8 }
+fn next_place<R: Read>(input: &mut R) -> io::Result<usize>
+    ensures { IfOk result (λ n. n < 8) }
 {
-    input::smaller(input::count(), 7)
+    Ok(input::smaller(input::count(input)?, 7))
 }
 
 // F: a list that no loading made.
-fn forge(list: Editions) -> Editions {
-    let count = input::byte();
-    let place = next_place();
+fn forge<R: Read>(rt: &impl Print, input: &mut R, list: Editions) -> io::Result<Editions> {
+    let count = input::byte(input)?;
+    let place = next_place(input)?;
     let mut records = list.records;
-    records[place] = next_edition();
-    anew(b'F', Editions { count, records })
+    records[place] = next_edition(input)?;
+    anew(rt, b'F', Editions { count, records })
 }
 
-pub(crate) fn one_step(list: Editions) -> Editions {
-    let operation = input::byte();
+pub(crate) fn one_step<R: Read>(
+    rt: &impl Print,
+    input: &mut R,
+    list: Editions,
+) -> io::Result<Editions> {
+    let operation = input::byte(input)?;
     match operation {
-        b'N' => anew(b'N', editions::none()),
-        b'I' => load(list),
-        b'Y' => pick(list),
-        b'F' => forge(list),
-        _ => anew(b'T', editions::todays()),
+        b'N' => anew(rt, b'N', editions::none()),
+        b'I' => load(rt, input, list),
+        b'Y' => pick(rt, input, list),
+        b'F' => forge(rt, input, list),
+        _ => anew(rt, b'T', editions::todays()),
     }
 }

@@ -20,30 +20,39 @@ mod sheets;
 mod tariffs;
 
 use editions::Editions;
+use std::io;
+use std::io::Read;
 
 // One record of calls: false where the input is at its end.
-fn one_record(editions: Editions, kind: u8) -> bool {
+fn one_record<R: Read>(
+    rt: &impl Print,
+    input: &mut R,
+    editions: Editions,
+    kind: u8,
+) -> io::Result<bool> {
     match kind {
-        b'Y' | b'L' | b'D' => calendars::one_list(editions, kind),
-        b'W' => sheets::one_writing(editions),
-        b'R' => sheets::one_reading(editions),
-        b'T' => tariffs::one_set(editions),
-        b'G' | b'C' => series::one_series(editions, kind),
-        _ => return false,
+        b'Y' | b'L' | b'D' => calendars::one_list(rt, input, editions, kind)?,
+        b'W' => sheets::one_writing(rt, input, editions)?,
+        b'R' => sheets::one_reading(rt, input, editions)?,
+        b'T' => tariffs::one_set(rt, input, editions)?,
+        b'G' | b'C' => series::one_series(rt, input, editions, kind)?,
+        _ => return Ok(false),
     }
-    true
+    Ok(true)
 }
 
-fn main() {
+fn main(rt: HostRuntime) -> io::Result<()> {
+    let input = &mut rt.stdin();
     let mut list = editions::todays();
     let mut turns: u32 = 100000;
     while turns > 0 {
-        let kind = input::byte();
+        let kind = input::byte(input)?;
         if kind == b'E' {
-            list = lists::one_step(list);
-        } else if !one_record(list, kind) {
-            return;
+            list = lists::one_step(&rt, input, list)?;
+        } else if !one_record(&rt, input, list, kind)? {
+            return Ok(());
         }
         turns -= 1;
     }
+    Ok(())
 }

@@ -10,6 +10,8 @@ ghost use Rattle.std.specs.Prelude.{◌<◌, ◌≤◌};
 use super::{customers, grids, input, output};
 use editions::Editions;
 use readings::Run;
+use std::io;
+use std::io::Read;
 
 // More than a day beyond the longest year.
 const MOST: usize = 35_500;
@@ -58,13 +60,13 @@ fn set_every(series: &mut [u32], first: usize, count: usize, step: usize, values
     }
 }
 
-fn patch(series: &mut [u32]) {
-    let first = input::size();
-    let count = input::size();
-    let step = input::size();
-    let value = input::four();
-    let spread = input::two();
-    let seed = input::two();
+fn patch<R: Read>(input: &mut R, series: &mut [u32]) -> io::Result<()> {
+    let first = input::size(input)?;
+    let count = input::size(input)?;
+    let step = input::size(input)?;
+    let value = input::four(input)?;
+    let spread = input::two(input)?;
+    let seed = input::two(input)?;
     set_every(
         series,
         first,
@@ -76,12 +78,14 @@ fn patch(series: &mut [u32]) {
             seed,
         },
     );
+    Ok(())
 }
 
-fn all_patches(series: &mut [u32], count: u8) {
-    for k in 0..count {
-        patch(series);
+fn all_patches<R: Read>(input: &mut R, series: &mut [u32], count: u8) -> io::Result<()> {
+    for _ in 0..count {
+        patch(input, series)?;
     }
+    Ok(())
 }
 
 fn end_of(at: usize, size: usize, len: usize) -> usize
@@ -92,41 +96,59 @@ fn end_of(at: usize, size: usize, len: usize) -> usize
 }
 
 // A part of the series by its place, from 0, and its length, as much as there is of it.
-pub(crate) fn part(series: &[u32]) -> &[u32] {
-    let at = input::smaller(input::size(), series.len());
-    let end = end_of(at, input::size(), series.len());
-    &series[at..end]
+pub(crate) fn part<'a, R: Read>(input: &mut R, series: &'a [u32]) -> io::Result<&'a [u32]> {
+    let at = input::smaller(input::size(input)?, series.len());
+    let end = end_of(at, input::size(input)?, series.len());
+    Ok(&series[at..end])
 }
 
 // A day's part of the series, by its number, from 1: how many readings it has, and its first and last where it has
 // some.
-pub(crate) fn write_day(editions: Editions, run: Run, series: &[u32]) {
-    let part = readings::day_part(editions, run, series, input::size());
-    output::letter(b'L');
-    output::next(part.len() as u64);
+pub(crate) fn write_day<R: Read>(
+    rt: &impl Print,
+    input: &mut R,
+    editions: Editions,
+    run: Run,
+    series: &[u32],
+) -> io::Result<()> {
+    let part = readings::day_part(editions, run, series, input::size(input)?);
+    output::letter(rt, b'L')?;
+    output::next(rt, part.len() as u64)?;
     if part.len() > 0 {
-        output::next(input::widest(part[0]));
-        output::next(input::widest(part[part.len() - 1]));
+        output::next(rt, input::widest(part[0]))?;
+        output::next(rt, input::widest(part[part.len() - 1]))?;
     }
-    output::letter(b'\n');
+    output::letter(rt, b'\n')
 }
 
-fn all_calls(editions: Editions, kind: u8, series: &[u32], calls: u8) {
-    output::letter(b'S');
-    output::next(series.len() as u64);
-    output::letter(b'\n');
+fn all_calls<R: Read>(
+    rt: &impl Print,
+    input: &mut R,
+    editions: Editions,
+    kind: u8,
+    series: &[u32],
+    calls: u8,
+) -> io::Result<()> {
+    output::letter(rt, b'S')?;
+    output::next(rt, series.len() as u64)?;
+    output::letter(rt, b'\n')?;
     match kind {
-        b'G' => grids::all_calls(editions, series, calls),
-        _ => customers::all_calls(editions, series, calls),
+        b'G' => grids::all_calls(rt, input, editions, series, calls),
+        _ => customers::all_calls(rt, input, editions, series, calls),
     }
 }
 
-pub(crate) fn one_series(editions: Editions, kind: u8) {
-    let len = input::smaller(input::size(), MOST);
-    let base = input::four();
-    let patches = input::byte();
-    let calls = input::byte();
+pub(crate) fn one_series<R: Read>(
+    rt: &impl Print,
+    input: &mut R,
+    editions: Editions,
+    kind: u8,
+) -> io::Result<()> {
+    let len = input::smaller(input::size(input)?, MOST);
+    let base = input::four(input)?;
+    let patches = input::byte(input)?;
+    let calls = input::byte(input)?;
     let mut series = [base; MOST];
-    all_patches(&mut series, patches);
-    all_calls(editions, kind, &series[0..len], calls);
+    all_patches(input, &mut series, patches)?;
+    all_calls(rt, input, editions, kind, &series[0..len], calls)
 }

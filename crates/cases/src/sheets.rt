@@ -5,12 +5,14 @@
 //   R  length (at most 64) and as many bytes: they are read as a sheet. Prints the number, year, level and each set
 //      quarter as season (from 1) and quarter (from 0).
 // tests/sheet_cases.py makes them, and what must come of them.
-ghost use Rattle.std.specs.Prelude.{◌<◌};
+ghost use Rattle.std.specs.Prelude.{◌<◌, IfOk};
 
 use super::input::ROOM;
 use super::{input, output};
 use editions::Editions;
 use sheet::{Sheet, SheetAnswer};
+use std::io;
+use std::io::Read;
 
 fn number(answer: SheetAnswer) -> u64 {
     match answer {
@@ -23,29 +25,34 @@ fn number(answer: SheetAnswer) -> u64 {
 }
 
 // A season and a quarter, both from 0, as a place in all windows: season by season, 96 each.
-fn next_place() -> usize
-    ensures { result < 384 }
+fn next_place<R: Read>(input: &mut R) -> io::Result<usize>
+    ensures { IfOk result (λ n. n < 384) }
 {
-    let season = input::smaller(input::count(), 3);
-    answers::DAY_QUARTERS * season + input::smaller(input::count(), 95)
+    let season = input::smaller(input::count(input)?, 3);
+    Ok(answers::DAY_QUARTERS * season + input::smaller(input::count(input)?, 95))
 }
 
 // The quarters that the input chooses.
-fn next_windows(count: u16) -> [bool; sheet::WINDOW_PLACES] {
+fn next_windows<R: Read>(input: &mut R, count: u16) -> io::Result<[bool; sheet::WINDOW_PLACES]> {
     let mut windows = [false; sheet::WINDOW_PLACES];
     for k in 0..count {
-        let at = next_place();
+        let at = next_place(input)?;
         windows[at] = true;
     }
-    windows
+    Ok(windows)
 }
 
 // W: a meaning is written.
-pub(crate) fn one_writing(editions: Editions) {
-    let year = input::two();
-    let level = input::byte();
-    let room = input::room();
-    let windows = next_windows(input::two());
+pub(crate) fn one_writing<R: Read>(
+    rt: &impl Print,
+    input: &mut R,
+    editions: Editions,
+) -> io::Result<()> {
+    let year = input::two(input)?;
+    let level = input::byte(input)?;
+    let room = input::room(input)?;
+    let count = input::two(input)?;
+    let windows = next_windows(input, count)?;
     let mut buffer = [170u8; ROOM];
     let answer = sheet_write::write(
         editions,
@@ -56,38 +63,44 @@ pub(crate) fn one_writing(editions: Editions) {
         },
         &mut buffer[0..room],
     );
-    output::letter(b'W');
-    output::next(number(answer));
-    output::bytes(buffer);
-    output::letter(b'\n');
+    output::letter(rt, b'W')?;
+    output::next(rt, number(answer))?;
+    output::bytes(rt, buffer)?;
+    output::letter(rt, b'\n')
 }
 
-fn write_if_set(set: bool, place: u64) {
+fn write_if_set(rt: &impl Print, set: bool, place: u64) -> io::Result<()> {
     if set {
-        output::next(place / 96 + 1);
-        output::letter(b':');
-        output::number(place % 96);
+        output::next(rt, place / 96 + 1)?;
+        output::letter(rt, b':')?;
+        output::number(rt, place % 96)?;
     }
+    Ok(())
 }
 
-fn write_windows(windows: [bool; sheet::WINDOW_PLACES]) {
+fn write_windows(rt: &impl Print, windows: [bool; sheet::WINDOW_PLACES]) -> io::Result<()> {
     for place in 0..sheet::WINDOW_PLACES {
-        write_if_set(windows[place], place as u64);
+        write_if_set(rt, windows[place], place as u64)?;
     }
+    Ok(())
 }
 
 // R: bytes are read as a sheet.
-pub(crate) fn one_reading(editions: Editions) {
-    let n = input::room();
-    let bytes = input::bytes(n);
+pub(crate) fn one_reading<R: Read>(
+    rt: &impl Print,
+    input: &mut R,
+    editions: Editions,
+) -> io::Result<()> {
+    let n = input::room(input)?;
+    let bytes = input::bytes(input, n)?;
     let got = sheet_read::read(editions, &bytes[0..n]);
     let answer = got.answer;
     let meaning = got.sheet;
     let windows = meaning.windows;
-    output::letter(b'R');
-    output::next(number(answer));
-    output::next(meaning.year as u64);
-    output::next(meaning.level as u64);
-    write_windows(windows);
-    output::letter(b'\n');
+    output::letter(rt, b'R')?;
+    output::next(rt, number(answer))?;
+    output::next(rt, meaning.year as u64)?;
+    output::next(rt, meaning.level as u64)?;
+    write_windows(rt, windows)?;
+    output::letter(rt, b'\n')
 }

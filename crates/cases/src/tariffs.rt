@@ -11,66 +11,72 @@
 // tests/tariff_cases.py makes them, and what must come of them, and edition_figures.py beside it by other editions.
 use super::{input, output};
 use editions::Editions;
+use std::io;
+use std::io::Read;
 use tariff::{Decision, Figures, Prices, Rates, Row};
 
-fn next_figures() -> Figures {
-    let peak = input::four();
-    let sum = input::eight();
-    let any = input::byte() != 0;
-    let high = input::four();
-    let day = input::two();
-    let quarter = input::byte();
-    Figures {
+fn next_figures<R: Read>(input: &mut R) -> io::Result<Figures> {
+    let peak = input::four(input)?;
+    let sum = input::eight(input)?;
+    let any = input::byte(input)? != 0;
+    let high = input::four(input)?;
+    let day = input::two(input)?;
+    let quarter = input::byte(input)?;
+    Ok(Figures {
         peak,
         sum,
         any,
         high,
         day,
         quarter,
-    }
+    })
 }
 
-pub(crate) fn next_prices() -> Prices {
+pub(crate) fn next_prices<R: Read>(input: &mut R) -> io::Result<Prices> {
     let few = Row {
-        capacity: input::four(),
-        energy: input::four(),
+        capacity: input::four(input)?,
+        energy: input::four(input)?,
     };
     let many = Row {
-        capacity: input::four(),
-        energy: input::four(),
+        capacity: input::four(input)?,
+        energy: input::four(input)?,
     };
-    Prices { few, many }
+    Ok(Prices { few, many })
 }
 
-fn next_rates(year: u16) -> Rates {
-    let level = input::byte();
-    let prices = next_prices();
-    let option = input::byte() != 0;
-    Rates {
+fn next_rates<R: Read>(input: &mut R, year: u16) -> io::Result<Rates> {
+    let level = input::byte(input)?;
+    let prices = next_prices(input)?;
+    let option = input::byte(input)? != 0;
+    Ok(Rates {
         year,
         level,
         option,
         prices,
-    }
+    })
 }
 
 // A call's letter, then its answer.
-pub(crate) fn write_answer(call: u8, answer: Decision) {
-    output::letter(call);
-    output::answer(decision_numbers::of_decision(answer));
-    output::letter(b'\n');
+pub(crate) fn write_answer(rt: &impl Print, call: u8, answer: Decision) -> io::Result<()> {
+    output::letter(rt, call)?;
+    output::answer(rt, decision_numbers::of_decision(answer))?;
+    output::letter(rt, b'\n')
 }
 
 // T: one set of figures.
-pub(crate) fn one_set(editions: Editions) {
-    let year = input::two();
+pub(crate) fn one_set<R: Read>(
+    rt: &impl Print,
+    input: &mut R,
+    editions: Editions,
+) -> io::Result<()> {
+    let year = input::two(input)?;
     let edition = editions::pick(editions, year);
-    let figures = next_figures();
-    let rates = next_rates(year);
-    output::letter(b'P');
-    output::next(price_limits::prices_out(rates.prices) as u64);
-    output::letter(b'\n');
-    write_answer(b'E', decision::eligible(edition, figures, rates));
-    write_answer(b'C', decision::charge(edition, figures, rates));
-    write_answer(b'J', decision::judge(edition, figures, rates));
+    let figures = next_figures(input)?;
+    let rates = next_rates(input, year)?;
+    output::letter(rt, b'P')?;
+    output::next(rt, price_limits::prices_out(rates.prices) as u64)?;
+    output::letter(rt, b'\n')?;
+    write_answer(rt, b'E', decision::eligible(edition, figures, rates))?;
+    write_answer(rt, b'C', decision::charge(edition, figures, rates))?;
+    write_answer(rt, b'J', decision::judge(edition, figures, rates))
 }
