@@ -5,8 +5,8 @@ import sys
 
 def program(name):
     """Builds it where it must be, and gives what runs it: bytes of its input to the text that it prints."""
-    words = subprocess.run(["bash", "-c", f". ./run && build {name} && starter"], capture_output=True, text=True, check=True).stdout.split("\n")[:-1]
-    return lambda data: subprocess.run(words + [f"target/bin/{name}"], input=data, capture_output=True, check=True).stdout.decode()
+    subprocess.run(["bash", "-c", f". ./run && build {name}"], capture_output=True, check=True)
+    return lambda data: subprocess.run([f"target/bin/{name}"], input=data, capture_output=True, check=True).stdout.decode()
 
 
 def tell(what, passed, wrong):
