@@ -1,0 +1,7 @@
+-- `statement::main` writes no more of its array than the text that `customer_text` laid there.
+-- Assumes nothing.
+use Rattle.texts.proofs.Text.{within}
+use Rattle.statement.proofs.main.Goals as goal
+
+pub slice_bounds-write_all-end : goal.slice_bounds-write_all-end
+slice_bounds-write_all-end c = within _ _ c.text-n.ensures
