@@ -5,8 +5,8 @@ and must-fail edits.
 Run at the project's root:  tests/counts.py          prints the table
                             tests/counts.py --check  says whether docs/PROOF.md has it as it is now
 
-A line is one that is neither blank nor a comment. A law is what stands in proofs/ beside the functions' own proof
-files.
+A line is one that is neither blank nor a comment. A law is what stands right in proofs/; a function's own proof files
+stand in a folder there.
 """
 import pathlib
 import re
@@ -23,15 +23,15 @@ def lines(files):
 def counts(crate):
     code = sorted(crate.glob("src/**/*.rt"))
     proofs = [path for path in crate.glob("proofs/**/*.antt")]
-    own = [path for path in proofs if path.name == "Proof.antt"]
-    laws = [path for path in proofs if path.name != "Proof.antt"]
+    own = [path for path in proofs if path.parent.name != "proofs"]
+    laws = [path for path in proofs if path.parent.name == "proofs"]
     functions = sum(len(re.findall(r'(?m)^\s*(?:pub(?:\(crate\))? )?(?:extern "C" )?fn ', path.read_text())) for path in code)
     return functions, lines(code), lines(crate.glob("specs/**/*.antt")), lines(laws), lines(own), len(list(crate.glob("must-fail/*.edit")))
 
 
 def table():
     listed = (line.split("#")[0] for line in pathlib.Path("crates.txt").read_text().splitlines())
-    names = [line.split(":")[0] for line in listed if ":" in line]
+    names = [line.split(":")[0].split()[0] for line in listed if ":" in line]
     rows = [(f"`{name}`", *counts(pathlib.Path("crates") / name)) for name in names]
     total = ("all", *(sum(row[k] for row in rows) for k in range(1, 7)))
     return HEAD + "".join("| " + " | ".join(f"{x:,}" if isinstance(x, int) else x for x in row) + " |\n" for row in rows + [total])

@@ -11,10 +11,10 @@ pub overflow_add-result : goal.overflow_add-result
 overflow_add-result c = omega (arith, ((within 8 91 c.args.position).0 c.if-position.false).to)
 
 pub returns-then-position : goal.returns-then-position
-returns-then-position c = sym (short_stays _ _ c.if-n-eq-LEAST_READINGS.true c.if-position.true)
+returns-then-position c = sym (short_stays c.args.n c.args.position (omega arith) c.if-position.true)
 
 pub returns-else-position : goal.returns-else-position
-returns-else-position c = sym (short_moves _ _ c.if-n-eq-LEAST_READINGS.true c.if-position.false)
+returns-else-position c = sym (short_moves c.args.n c.args.position (omega arith) c.if-position.false)
 
 pub returns-then-position-lt12 : goal.returns-then-position-lt12
 returns-then-position-lt12 c = sym (long_early _ _ c.if-n-eq-MOST_READINGS.true c.if-position-lt12.true)
