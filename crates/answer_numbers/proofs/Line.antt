@@ -34,11 +34,11 @@ pub line_is : (s : Said) → Few s.figures → take ((numbers_of s).count + 1) (
 line_is s few = rw (add-one (length s.figures)) (ap (λ (xs : List ℕ). s.number ∷ xs) (figures_are s few))
 
 -- the same of an answer that the code has listed, and of the line that it made of it
-pub line_of :
+pub line_of_law :
     {r : Numbers} (s : Said) {xs : List ℕ}
     → r ≡ numbers_of s
     → r.count ≤ 7
     → xs ≡ r.number ∷ r.figures
     → take (r.count + 1) xs ≡ s.number ∷ s.figures
-line_of {r} s e few f =
+line_of_law {r} s e few f =
     ap (take (r.count + 1)) f ∙ (λ i. take ((e i).count + 1) ((e i).number ∷ (e i).figures)) ∙ line_is s (rw e at few)

@@ -215,19 +215,19 @@ module _ (test : ℕ → Bool) (d : ℕ) (day : List ℕ) (f : Figures) {t : Top
   unfolding tops_of highest_of
   peak_of_law = ap (λ (x : Tops). x.peak) e
 
-  sum_of : t.sum ≡ today.sum
+  sum_of_law : t.sum ≡ today.sum
   unfolding tops_of
-  sum_of = ap (λ (x : Tops). x.sum) e
+  sum_of_law = ap (λ (x : Tops). x.sum) e
 
   -- it has no in-window quarter
   pub taken_none : any_over test (length day) ≡ false → plainly f t ≡ taken_in f (d + 1) today
-  taken_none n = taken_plain f (d + 1) today t peak_of_law sum_of (rw n) (rw n (or-false f.any))
+  taken_none n = taken_plain f (d + 1) today t peak_of_law sum_of_law (rw n) (rw n (or-false f.any))
 
   module _ {high : ℕ} (high-of : high ≡ largest_in test (alone day) (length day)) where
     -- its in-window peak, if it has one, is not above the year's
     pub taken_old : f.any ≡ true → high ≤ f.high → plainly f t ≡ taken_in f (d + 1) today
     taken_old a h =
-        taken_plain f (d + 1) today t peak_of_law sum_of
+        taken_plain f (d + 1) today t peak_of_law sum_of_law
         (rw (a, le-ltb f.high today.high (omega (arith, high-of))) (and-false today.any)) (rw a)
 
     -- the first position that has it
@@ -256,7 +256,7 @@ module _ (test : ℕ → Bool) (d : ℕ) (day : List ℕ) (f : Figures) {t : Top
         taken_higher m =
             taken_new f (d + 1) today
             (ap (λ (x : Figures). x.peak) n ∙ ap (max f.peak) peak_of_law)
-            (ap (λ (x : Figures). x.sum) n ∙ ap (◌+◌ f.sum) sum_of)
+            (ap (λ (x : Figures). x.sum) n ∙ ap (◌+◌ f.sum) sum_of_law)
             (eqb-true _ _ (hit m).1 ∙ high-of) (ap (quarter_in (length day)) place_of) (some_in m) (newer f.any refl)
           where
             newer : (b : Bool) → f.any ≡ b → better f today ≡ true

@@ -1,4 +1,4 @@
--- Eligibility goes by the in_window quarters: 8 where there is none, else H is their highest reading, at its first
+-- Eligibility goes by the in-window quarters: 8 where there is none, else H is their highest reading, at its first
 -- place.
 -- Assumes nothing.
 use mathlib.Core.Path.{◌≡◌, refl, sym, ap, ◌∙◌}

@@ -1,5 +1,5 @@
 -- What is answered is exactly what the rules say, for every input: each call's number, the windows of a written sheet,
--- which quarters are in_window with M, S and H, and that days close as the whole series does. A row (`DayRow`, ..) says
+-- which quarters are in-window with M, S and H, and that days close as the whole series does. A row (`DayRow`, ..) says
 -- when a call gives a number, by ≤, < and ≡ and not by the tests that the definitions compute with: what Rule 8.1 says
 -- of the number holds, and nothing that the call tests before it. Rows stand in the specs/Rows of their crates, a
 -- calendar day's in calendar, specs/Answer. Rules 2.2, 4.2 to 4.6, 6.2 to 6.5, 8.1, 8.2, 9.2, 9.4 and 12.2.
@@ -147,10 +147,10 @@ module _ (m : Module) where
   ToTheQuarterHour = (es : Editions) (y level : ℕ) (xs buffer : List ℕ) → (m.windows es y level xs (length buffer)).number ≡ 0 → SheetLaid es y level xs buffer
 
 -- Rules 6.2 to 6.5, for a complete legal year on an accepted basis (sheet, holidays, prices and option that an opening
--- takes): it is answered 8 exactly when no quarter is in_window; where one is, H is the highest reading of these
+-- takes): it is answered 8 exactly when no quarter is in-window; where one is, H is the highest reading of these
 -- quarters, and its place the first that has it. Days d and positions p in a day count from 0.
 pub record Eligibility (m : Module) : Type 0 where
-  -- what Rule 12.3 calls in_window (customer, specs/Demand) is what the calendar and the sheet say: position p of day d
+  -- what Rule 12.3 calls in-window (customer, specs/Demand) is what the calendar and the sheet say: position p of day d
   -- counts exactly when the calendar's answer for the day, which is its day d + 1 from 1, carries kind 1, and the
   -- quarter is a window of the day's season
   pub in_window_law :

@@ -119,8 +119,8 @@ module _ {l : Layout} {most size k : ℕ} {p : Span} (fit : Fits l most size k) 
   pub is_field : 0 < p.width → k < l.count
   is_field h = fit.field (omega (arith, span_width))
 
-  pub no_field : (0 < p.width → ⊥) → l.count ≤ k
-  no_field h = fit.none (omega (arith, span_width))
+  pub no_field_law : (0 < p.width → ⊥) → l.count ≤ k
+  no_field_law h = fit.none (omega (arith, span_width))
 
 -- fields of the same widths start at the same places
 pub field_cong : (l m : Layout) (k : ℕ) → ((j : ℕ) → j < k → l.width j ≡ m.width j) → start_of l k ≡ start_of m k

@@ -89,13 +89,13 @@ looks_back es bytes =
 abbrev Ended : Edition → GridFile → Said → Type 0
 Ended ed s x = Stopped grid_wants grid_fed grid_text (window_lines ed) s x
 
-line_of : (ed : Edition) (n : ℕ) → (n ≡ 0 → ⊥) → refused_line (n ∷ []) ≡ window_lines ed (only n)
+line_of_law : (ed : Edition) (n : ℕ) → (n ≡ 0 → ⊥) → refused_line (n ∷ []) ≡ window_lines ed (only n)
 unfolding window_lines
-line_of ed n z = simp (ne_eqb n 0 z)
+line_of_law ed n z = simp (ne_eqb n 0 z)
 
 ended_with : (ed : Edition) (s : GridFile) {t : GridFile} (n : ℕ) → (n ≡ 0 → ⊥) → grid_ended s (Refused n) ≡ t → Ended ed t (only n)
 ended_with ed s n z e =
-    rw (← e) (record { says = line_of ed n z; stays = λ b. sym (fed_none grid_reader (grid_ended s (Refused n)) refl b) })
+    rw (← e) (record { says = line_of_law ed n z; stays = λ b. sym (fed_none grid_reader (grid_ended s (Refused n)) refl b) })
 
 -- the header
 feeds :

@@ -1,7 +1,7 @@
 // A charge year's figures: which quarters of a day count, as a lent row, and the pass over a whole year, month by
 // month. It meets specs/Counts and specs/Year. Rules 6.1 to 6.5.
 // Main theorem: by its row a position of a day counts exactly when the day carries windows and the quarter is set in
-// the windows of the day's season (`row_Counts`, proofs/Rows).
+// the windows of the day's season (`row_counts`, proofs/Rows).
 #![tactic(auto)]
 
 ghost use Rattle.std.specs.Prelude.{◌≡◌, ◌+◌, ◌<◌};

@@ -3,7 +3,7 @@
 use native.Mathlib.Omega.{arith}
 use borrow.Author.Tests.{lt-ltb, le-ltb}
 use Rattle.customer_file.specs.CustomerMachine.{opened_with}
-use Rattle.fields.proofs.Header.{is_field, no_field}
+use Rattle.fields.proofs.Header.{is_field, no_field_law}
 use Rattle.customer_head.proofs.CustomerLayout.{fits}
 use Rattle.customer_file.proofs.opened_after.Goals as goal
 
@@ -17,4 +17,4 @@ pub returns : goal.returns
 unfolding opened_with
 returns c =
     let es = c.args.editions in
-    rw (le-ltb _ _ (no_field (fits es _ _) (c.span_of.ensures es) (omega arith))) c.opened.ensures
+    rw (le-ltb _ _ (no_field_law (fits es _ _) (c.span_of.ensures es) (omega arith))) c.opened.ensures

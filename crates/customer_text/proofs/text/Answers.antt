@@ -7,7 +7,7 @@ use lib.Seq.{length-take-le}
 use Rattle.lines.specs.Figures.{figures_line}
 use Rattle.texts.proofs.Text.{put_as}
 use Rattle.customer_file.specs.CustomerMachine.{answer_of}
-use Rattle.answer_numbers.proofs.Line.{line_of}
+use Rattle.answer_numbers.proofs.Line.{line_of_law}
 use borrow.Author.Rules.{rules}
 use Rattle.customer_text.proofs.text.Goals as goal
 
@@ -22,7 +22,7 @@ slice_bounds-figures_text-end c =
 pub returns : goal.returns
 returns c =
     let e = c.answer-listed.ensures in
-    let line = line_of (answer_of c.args.file) e.0 e.1 c.line_of-line.ensures in
+    let line = line_of_law (answer_of c.args.file) e.0 e.1 c.line_of-line.ensures in
     put_as (ap figures_line line) c.figures_text.ensures
 
 pub overflow_add-n : goal.overflow_add-n

@@ -7,7 +7,7 @@ use Rattle.readings.specs.declared.Run.TheVariants.{Year}
 use Rattle.customer_file.specs.CustomerMachine.{customer_reader}
 use Rattle.readings.proofs.Runs.{len_most}
 use Rattle.customer_head.proofs.CustomerLayout.{fits}
-use Rattle.fields.proofs.Header.{span_width, span_few, is_field, no_field}
+use Rattle.fields.proofs.Header.{span_width, span_few, is_field, no_field_law}
 use Rattle.fields.proofs.Machine.{wants_field, wants_day, wants_end, wants_none}
 use Rattle.customer_file.proofs.CustomerFile.want.Goals.{After-day_len}
 use Rattle.customer_file.proofs.CustomerFile.want.Goals as goal
@@ -29,14 +29,14 @@ pub returns-then-seen-year_days : goal.returns-then-seen-year_days
 returns-then-seen-year_days c =
     let span = c.span_of-size.ensures _ in (
       ap (λ (n : ℕ). 4 * n) c.day_len.ensures
-          ∙ wants_day customer_reader _ (cc) (no_field (fits _ _ _) span (omega arith)) (omega arith),
+          ∙ wants_day customer_reader _ (cc) (no_field_law (fits _ _ _) span (omega arith)) (omega arith),
       omega (arith, len_few c),
     )
 
 pub returns-then-is_going : goal.returns-then-is_going
 returns-then-is_going c =
     let span = c.span_of-size.ensures _ in
-    (wants_end customer_reader _ (cc) (no_field (fits _ _ _) span (omega arith)) (omega arith), omega arith)
+    (wants_end customer_reader _ (cc) (no_field_law (fits _ _ _) span (omega arith)) (omega arith), omega arith)
 
 pub returns : goal.returns
 returns c = (wants_none customer_reader _ (cc), omega arith)

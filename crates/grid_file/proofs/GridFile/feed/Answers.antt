@@ -2,7 +2,7 @@
 -- Assumes nothing.
 use mathlib.Core.Path.{◌∙◌}
 use native.Mathlib.Omega.{arith}
-use Rattle.fields.proofs.Header.{is_field, no_field}
+use Rattle.fields.proofs.Header.{is_field, no_field_law}
 use Rattle.fields.proofs.Machine.{fed_none, fed_field, fed_day, fed_end}
 use Rattle.grid_file.specs.GridMachine.{grid_reader}
 use Rattle.grid_head.proofs.GridLayout.{grid_fits}
@@ -16,12 +16,12 @@ returns-then-span-gt0 c =
 pub returns-then-self-period_days : goal.returns-then-self-period_days
 returns-then-self-period_days c =
     let span = c.span_of-span.ensures _ in
-    c.take_day.ensures ∙ fed_day grid_reader _ (cc) (no_field (grid_fits _ _ _) span (omega arith)) (omega arith) _
+    c.take_day.ensures ∙ fed_day grid_reader _ (cc) (no_field_law (grid_fits _ _ _) span (omega arith)) (omega arith) _
 
 pub returns-then-is_going : goal.returns-then-is_going
 returns-then-is_going c =
     let span = c.span_of-span.ensures _ in
-    c.take_end.ensures ∙ fed_end grid_reader _ (cc) (no_field (grid_fits _ _ _) span (omega arith)) (omega arith) _
+    c.take_end.ensures ∙ fed_end grid_reader _ (cc) (no_field_law (grid_fits _ _ _) span (omega arith)) (omega arith) _
 
 pub returns : goal.returns
 returns c = fed_none grid_reader _ (cc) _

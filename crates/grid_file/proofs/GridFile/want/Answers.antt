@@ -5,7 +5,7 @@ use Prim.Native.Nat.{ℕ, ◌*◌, ◌≤◌}
 use native.Mathlib.Omega.{arith}
 use Rattle.readings.specs.declared.Run.TheVariants.{Period}
 use Rattle.readings.proofs.Runs.{len_most}
-use Rattle.fields.proofs.Header.{span_width, span_few, is_field, no_field}
+use Rattle.fields.proofs.Header.{span_width, span_few, is_field, no_field_law}
 use Rattle.fields.proofs.Machine.{wants_none, wants_field, wants_day, wants_end}
 use Rattle.grid_file.specs.GridMachine.{grid_reader}
 use Rattle.grid_head.proofs.GridLayout.{grid_fits}
@@ -29,14 +29,14 @@ pub returns-then-seen-period_days : goal.returns-then-seen-period_days
 returns-then-seen-period_days c =
     let span = c.span_of-size.ensures _ in (
       ap (λ (n : ℕ). 4 * n) c.day_len.ensures
-          ∙ wants_day grid_reader _ (cc) (no_field (grid_fits _ _ _) span (omega arith)) (omega arith),
+          ∙ wants_day grid_reader _ (cc) (no_field_law (grid_fits _ _ _) span (omega arith)) (omega arith),
       omega (arith, len_few c),
     )
 
 pub returns-then-is_going : goal.returns-then-is_going
 returns-then-is_going c =
     let span = c.span_of-size.ensures _ in
-    (wants_end grid_reader _ (cc) (no_field (grid_fits _ _ _) span (omega arith)) (omega arith), omega arith)
+    (wants_end grid_reader _ (cc) (no_field_law (grid_fits _ _ _) span (omega arith)) (omega arith), omega arith)
 
 pub returns : goal.returns
 returns c = (wants_none grid_reader _ (cc), omega arith)
