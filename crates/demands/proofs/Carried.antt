@@ -349,16 +349,8 @@ found_today :
 found_today run limit n day (thirteen h) e = absurd (omega arith)
 found_today run limit n day (four h l) e = absurd (omega arith)
 found_today run limit n day (five c v) e =
-    record {
-      on = n;
-      at = first_above limit day;
-      is = refl;
-      first = record {
-        on_day = refl;
-        first = first_illegal_law limit day
-            ((some_illegal limit day).1 v);
-      };
-    }
+    let here = first_illegal_law limit day ((some_illegal limit day).1 v) in
+    record { on = n; at = first_above limit day; is = refl; first = record { on_day = refl; first = here } }
 found_today run limit n day (zero c v) e = absurd (omega arith)
 
 customer_today :
