@@ -2,7 +2,7 @@
 -- Assumes nothing.
 use mathlib.Core.Path.{◌≡◌, refl}
 use mathlib.Core.Bool.{Bool, true, false, cond, not}
-use mathlib.Core.List.{List, [], ◌∷◌}
+use mathlib.Core.List.{List}
 use Prim.Native.Nat.{ℕ, ◌+◌}
 use lib.Dec.{leb, ltb, eqb}
 use lib.ListN.{length}
@@ -43,10 +43,6 @@ module _ (P : Said → Type 0) (thirteen : P (only 13)) (four : P (only 4)) (fiv
       let first = first_above customer_most day in
       by_tests (overfull c) (leb (run_days run) c.seen) (not (eqb (length day) (day_len run c.seen))) (ltb first (length day))
       (record { day = c.seen + 1; position = first })
-
--- the places of the enum's cases, from 0, without that of `BadReading`, which is 7
-abbrev pub others : List ℕ
-others = 0 ∷ 1 ∷ 2 ∷ 3 ∷ 4 ∷ 5 ∷ 6 ∷ 8 ∷ 9 ∷ 10 ∷ 11 ∷ 12 ∷ 13 ∷ 14 ∷ []
 
 -- only 5 hands its place on
 pub stage_number : (d : Decision) → ((place : Place) → d ≡ BadReading place → ⊥) → Stage.Refused (said_of d).number ≡ stage_of (said_of d)

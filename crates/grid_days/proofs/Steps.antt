@@ -3,7 +3,7 @@
 -- Assumes nothing.
 use mathlib.Core.Path.{◌≡◌, refl, sym, ap, ◌∙◌}
 use mathlib.Core.Bool.{true, false}
-use mathlib.Core.List.{List, [], ◌∷◌}
+use mathlib.Core.List.{List}
 use Prim.Native.Nat.{ℕ, ◌≤◌, ◌<◌}
 use borrow.Author.Tests.{lt-ltb, le-ltb, eq-eqb, ne_eqb}
 use lib.Dec.{eqb}
@@ -41,7 +41,7 @@ module _ (ed : Edition) (y level : ℕ) where
     pub opened_done : level_out level ≡ false → (only 0 ≡ grid_open_answer ed y level) × (fresh_grid ed y level ≡ open_grid ed y level)
     opened_done e = done_hands (only 0) (fresh_grid ed y level) shut_grid (open_done ed y level a e) refl
 
--- every answer but `Done` is a refusal, and of the others' places in the enum none is `Done`'s
+-- every answer but `Done` is a refusal
 pub refuses : (a : GridAnswer) → (a ≡ Done → ⊥) → eqb (said_of_grid a).number 0 ≡ false
 refuses Done n = absurd (n refl)
 refuses Short n = refl
@@ -52,9 +52,6 @@ refuses (BadReading place) n = refl
 refuses NoPeak n = refl
 refuses Malformed n = refl
 refuses DayOut n = refl
-
-abbrev pub others : List ℕ
-others = 1 ∷ 2 ∷ 3 ∷ 4 ∷ 5 ∷ 6 ∷ 7 ∷ 8 ∷ []
 
 -- a day that is taken is one of the period's
 pub day_left : (y seen : ℕ) (day : List ℕ) → only 0 ≡ next_answer (Period y) grid_most seen day → seen < period_days y

@@ -2,8 +2,6 @@
 -- Assumes nothing.
 use mathlib.Core.Path.{◌≡◌, sym, ap, ◌∙◌}
 use mathlib.Core.Bool.{false}
-use mathlib.Core.List.{List, [], ◌∷◌}
-use Prim.Native.Nat.{ℕ}
 use borrow.Author.Tests.{ne_eqb}
 use lib.Dec.{eqb}
 use Rattle.answers.specs.Said.{Said, only}
@@ -11,10 +9,6 @@ use Rattle.tariff.specs.declared.Decision.{Decision}
 use Rattle.tariff.specs.declared.Decision.TheVariants.{Taken}
 use Rattle.tariff.specs.Answers.{said_of}
 use Rattle.tariff.proofs.Only.{decision_only}
-
--- the places of the enum's cases, from 0, without that of `Taken`, which is 2
-abbrev pub others : List ℕ
-others = 0 ∷ 1 ∷ 3 ∷ 4 ∷ 5 ∷ 6 ∷ 7 ∷ 8 ∷ 9 ∷ 10 ∷ 11 ∷ 12 ∷ 13 ∷ 14 ∷ []
 
 -- for answers whose 0 has no figures
 pub untaken :

@@ -33,7 +33,7 @@ returns-in_default c =
     let said = c.open-opening.ensures.said in
     let z =
     untaken {d = c.open-opening.result.answer} said (open_zero (given (goal.at.returns-in_default c).After-open-opening))
-    (λ t. c.in_default.not-Taken t)
+    c.in_default.not-Taken
     in
     decide_open (given (goal.at.returns-in_default c).After-open-opening) (readings (goal.at.returns-in_default c).After-open-opening) _ z said
 

@@ -25,7 +25,7 @@ returns-in_default c =
     let d = c.args.decision in
     let e = c.of_decision-number.ensures in
     rw (ne_eqb _ 0 (λ z. c.if-number-eq0.false (ap (λ (f : Numbers). f.number) e ∙ z)))
-    (ap (λ (f : Numbers). Refused f.number) e ∙ stage_number d (λ place e. c.in_default.not-BadReading place e))
+    (ap (λ (f : Numbers). Refused f.number) e ∙ stage_number d c.in_default.not-BadReading)
 
 pub returns : goal.returns
 unfolding stage_of

@@ -4,22 +4,16 @@ use native.Mathlib.Omega.{arith}
 use Rattle.periods.specs.Period.{period_days, period_season, period_left}
 use Rattle.periods.proofs.Periods.{period_most, period_stays, period_room}
 use Rattle.readings.proofs.Spans.{len_usual}
-use Rattle.grid_curves.proofs.lay_month.Goals.{After-period_left, Start}
+use Rattle.grid_curves.proofs.lay_month.Goals.{After-period_left}
 use Rattle.grid_curves.proofs.lay_month.Goals as goal
 
--- the days that are left of the month lie in the period
-room :
-    (s : Start)
-    → s.args.from + 1 + period_left s.args.year (s.args.from + 1) ≤ period_days s.args.year
-room s = period_room s.args.year (s.args.from + 1) (omega (arith, s.requires.0))
-
--- and in its season
+-- the days that are left of the month lie in its season
 stays : (y from k : ℕ) → from ≤ k → k ≤ from + period_left y (from + 1) → period_season y (k + 1) ≡ period_season y (from + 1)
 stays y from k a b =
     let e : k + 1 ≡ from + 1 + (k - from) = omega arith in
     ap (period_season y) e ∙ period_stays y (from + 1) (k - from) (omega arith)
 
--- so the days up to the month's end are in both
+-- the days up to the month's end lie in the period, and in this season
 record Month (e : After-period_left) : Type 0 where
   inside : e.args.from + 1 + e.period_left.result ≤ period_days e.args.year
   alike :
@@ -32,7 +26,7 @@ month : (e : After-period_left) → Month e
 month e =
     let left = e.period_left.ensures in
     record {
-      inside = omega (arith, left, (period_room e.args.year (e.args.from + 1) (omega (arith, e.requires.0))));
+      inside = omega (arith, left, period_room e.args.year (e.args.from + 1) (omega (arith, e.requires.0)));
       alike =
           λ k a b.
           stays e.args.year e.args.from k a (omega (arith, left)) ∙ sym e.period_season-season.ensures;

@@ -9,7 +9,7 @@ pub returns-in_default : goal.returns-in_default
 returns-in_default c =
     let a = c.args in
     let said = c.day_answer-answer in
-    let refused = refuses said.result (λ k. c.in_default.not-Done k) in
+    let refused = refuses said.result c.in_default.not-Done in
     curves_refused a.year a.curves.now a.seen a.day.now _ refused said.ensures
 
 pub returns : goal.returns

@@ -1,8 +1,6 @@
 -- `grid_file::stage_of` meets its contract, a law for each return.
 -- Assumes nothing.
-use mathlib.Core.List.{List, [], ◌∷◌}
 use mathlib.Core.Path.{sym, ap, ◌∙◌}
-use Prim.Native.Nat.{ℕ}
 use native.Mathlib.Omega.{arith}
 use borrow.Author.Tests.{eq-eqb, ne_eqb}
 use Rattle.grid.specs.declared.GridAnswer.{GridAnswer}
@@ -13,10 +11,6 @@ use Rattle.fields.specs.declared.Stage.TheVariants.{Refused}
 use Rattle.grid_numbers.proofs.Small.{answer_small}
 use Rattle.grid_file.proofs.GridDays.{not_five}
 use Rattle.grid_file.proofs.stage_of.Goals as goal
-
--- the places of the enum's cases, from 0, without that of `BadReading`, which is 5
-abbrev others : List ℕ
-others = 0 ∷ 1 ∷ 2 ∷ 3 ∷ 4 ∷ 6 ∷ 7 ∷ 8 ∷ []
 
 pub overflow_cast-number : goal.overflow_cast-number
 overflow_cast-number c =
@@ -30,7 +24,7 @@ pub returns-in_default : goal.returns-in_default
 returns-in_default c =
     let a = c.args.answer in
     let e = ap (λ (f : Numbers). f.number) c.of_answer-number.ensures in
-    rw (ne_eqb _ 0 (λ z. c.if-number-eq0.false (e ∙ z))) (ap Refused e ∙ not_five a (λ place k. c.in_default.not-BadReading place k))
+    rw (ne_eqb _ 0 (λ z. c.if-number-eq0.false (e ∙ z))) (ap Refused e ∙ not_five a c.in_default.not-BadReading)
 
 pub returns : goal.returns
 unfolding stage_of

@@ -39,7 +39,7 @@ pub returns-in_default : goal.returns-in_default
 returns-in_default c =
     let w = goal.at.returns-in_default c in
     let k = given w.After-open_answer-answer in
-    let z = untaken {d = c.open_answer-answer.result} (answer_at w.After-open_answer-answer) (open_zero k) (λ t. c.in_default.not-Taken t) in
+    let z = untaken {d = c.open_answer-answer.result} (answer_at w.After-open_answer-answer) (open_zero k) c.in_default.not-Taken in
     record { said = answer_at w.After-open_answer-answer; terms = c.no_terms.ensures ∙ open_refused k _ z (answer_at w.After-open_answer-answer) }
 
 pub returns : goal.returns

@@ -24,7 +24,7 @@ returns-in_default c =
     let e = c.as_decision-answer.ensures in
     let z =
     untaken {d = c.as_decision-answer.result} e (sheet_zero c.args.read)
-    (λ k. c.in_default.not-Taken k)
+    c.in_default.not-Taken
     in
     refusal_stands (said_of c.as_decision-answer.result) _ e z
 

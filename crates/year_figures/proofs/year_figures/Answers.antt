@@ -89,7 +89,7 @@ in_at t =
 pub returns-in_default : goal.returns-in_default
 returns-in_default c =
     let w = goal.at.returns-in_default c in
-    let other = days_refused _ _ _ _ _ _ _ (in_at w.After-take_days-taking) c.take_days-taking.ensures (λ g k. c.in_default.not-Taken g k) in
+    let other = days_refused _ _ _ _ _ _ _ (in_at w.After-take_days-taking) c.take_days-taking.ensures c.in_default.not-Taken in
     year_none _ _ _ _ (λ e. other (e ∙ sym (whole_year w.At-loop-d)))
 
 pub loop-d-preserved : goal.loop-d-preserved

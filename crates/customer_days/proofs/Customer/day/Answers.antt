@@ -15,8 +15,8 @@ answer_at e = let a = e.args in day_said a.self a.day.now e.day_answer-answer.en
 
 taken_at : (e : In-Taken) → let a = e.args in only 0 ≡ customer_day_answer a.self a.day.now
 taken_at e =
-    let answer_at_now : let a = e.args in said_of e.day_answer-answer.result ≡ customer_day_answer a.self a.day.now =
-    let a = e.args in day_said a.self a.day.now e.day_answer-answer.ensures in ap said_of (sym e.in-Taken.is) ∙ answer_at_now
+    let a = e.args in
+    ap said_of (sym e.in-Taken.is) ∙ day_said a.self a.day.now e.day_answer-answer.ensures
 
 pub returns-in_default : goal.returns-in_default
 returns-in_default c =
@@ -24,7 +24,7 @@ returns-in_default c =
     let e = answer_at (goal.at.returns-in_default c).After-day_answer-answer in
     let z =
     untaken {d = c.day_answer-answer.result} e (day_zero a.self a.day.now)
-    (λ k. c.in_default.not-Taken k)
+    c.in_default.not-Taken
     in
     record { said = e; state = day_refused a.self a.day.now _ z e }
 

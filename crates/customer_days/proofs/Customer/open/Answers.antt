@@ -17,7 +17,7 @@ pub returns-in_default : goal.returns-in_default
 returns-in_default c =
     let k = given (goal.at.returns-in_default c).After-open-opened in
     let opens = c.open-opened.ensures in
-    let z = untaken {d = c.open-opened.result.answer} opens.said (open_zero k) (λ t. c.in_default.not-Taken t) in
+    let z = untaken {d = c.open-opened.result.answer} opens.said (open_zero k) c.in_default.not-Taken in
     record { said = opens.said; state = open_shuts k opens.terms _ z opens.said }
 
 pub returns : goal.returns

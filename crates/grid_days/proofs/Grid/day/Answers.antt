@@ -20,7 +20,7 @@ returns-in_default c =
     let a = c.args in
     let s = a.self in
     let said = c.take_day-answer in
-    let z = refuses said.result (λ k. c.in_default.not-Done k) in
+    let z = refuses said.result c.in_default.not-Done in
     let kept = day_refused s a.day.now _ z said.ensures.0 in
     let curves = said.ensures.1 ∙ sym (curves_refused s.year s.curves s.seen a.day.now _ z said.ensures.0).1 in
     (kept.0, (λ i. record { edition = s.edition; year = s.year; level = s.level; seen = s.seen; curves = curves i }) ∙ kept.1)
