@@ -1,8 +1,8 @@
 //! Holds the two programs to the independent implementation, byte by byte, on seeded files. Every fourth file goes to
 //! the program file_cases instead, with a list of editions of its own before it.
-//! compare COUNT SEED all|first PROGRAMS KEPT [WORD...]: COUNT files of each kind; PROGRAMS is the folder of hlz,
-//! statement and file_cases; the words start a program; a file that is answered otherwise is kept in the folder KEPT,
-//! as the program was given it. `first` stops at the first such file.
+//! compare COUNT SEED all|first PROGRAMS KEPT: COUNT files of each kind; PROGRAMS is the folder of hlz, statement and
+//! file_cases; a file that is answered otherwise is kept in the folder KEPT, as the program was given it. `first` stops
+//! at the first such file.
 
 use independent::editions::Editions;
 use independent::files::{statement_text, windows_text};
@@ -38,7 +38,6 @@ struct Plan {
     stop_at_first: bool,
     programs: PathBuf,
     kept: PathBuf,
-    starter: Vec<String>,
 }
 
 impl Plan {
@@ -49,15 +48,12 @@ impl Plan {
             stop_at_first: words.next()? == "first",
             programs: words.next()?.into(),
             kept: words.next()?.into(),
-            starter: words.collect(),
         })
     }
 
     /// What a program prints for a file on its standard input.
     fn run(&self, program: &str, file: &[u8]) -> io::Result<Vec<u8>> {
-        let mut words: Vec<PathBuf> = self.starter.iter().map(PathBuf::from).collect();
-        words.push(self.programs.join(program));
-        let mut child = Command::new(&words[0]).args(&words[1..]).stdin(Stdio::piped()).stdout(Stdio::piped()).spawn()?;
+        let mut child = Command::new(self.programs.join(program)).stdin(Stdio::piped()).stdout(Stdio::piped()).spawn()?;
         if let Some(mut input) = child.stdin.take() {
             // a program that has its answer need not read on
             match input.write_all(file) {
@@ -167,7 +163,7 @@ fn show_numbers(tally: &Tally) {
 
 fn main() -> ExitCode {
     let Some(plan) = Plan::from_words(std::env::args().skip(1)) else {
-        eprintln!("compare COUNT SEED all|first PROGRAMS KEPT [WORD...]");
+        eprintln!("compare COUNT SEED all|first PROGRAMS KEPT");
         return ExitCode::from(2);
     };
     let missing = |program: &&str| !Path::new(&plan.programs.join(program)).exists();
