@@ -10,17 +10,32 @@ ghost use Rattle.std.specs.Prelude.{◌<◌, IfOk};
 use super::input::ROOM;
 use super::{input, output};
 use editions::Editions;
-use sheet::{Sheet, SheetAnswer};
+use sheet::{ReadRefusal, Sheet, WriteRefusal};
 use std::io;
 use std::io::Read;
 
-fn number(answer: SheetAnswer) -> u64 {
-    match answer {
-        SheetAnswer::Accepted => 0,
-        SheetAnswer::Short => 14,
-        SheetAnswer::YearOut => 1,
-        SheetAnswer::LevelOut => 2,
-        SheetAnswer::Malformed => 12,
+// What is printed beside a refusal: the sheet that the promise shows there.
+const NO_SHEET: Sheet = Sheet {
+    year: 0,
+    level: 0,
+    windows: [false; sheet::WINDOW_PLACES],
+};
+
+fn write_number(written: Result<(), WriteRefusal>) -> u64 {
+    match written {
+        Ok(()) => 0,
+        Err(WriteRefusal::Short) => 14,
+        Err(WriteRefusal::YearOut) => 1,
+        Err(WriteRefusal::LevelOut) => 2,
+        Err(WriteRefusal::Malformed) => 12,
+    }
+}
+
+fn read_number(refusal: ReadRefusal) -> u64 {
+    match refusal {
+        ReadRefusal::YearOut => 1,
+        ReadRefusal::LevelOut => 2,
+        ReadRefusal::Malformed => 12,
     }
 }
 
@@ -64,7 +79,7 @@ pub(crate) fn one_writing<R: Read>(
         &mut buffer[0..room],
     );
     output::letter(rt, b'W')?;
-    output::next(rt, number(answer))?;
+    output::next(rt, write_number(answer))?;
     output::bytes(rt, buffer)?;
     output::letter(rt, b'\n')
 }
@@ -93,12 +108,13 @@ pub(crate) fn one_reading<R: Read>(
 ) -> io::Result<()> {
     let n = input::room(input)?;
     let bytes = input::bytes(input, n)?;
-    let got = sheet_read::read(editions, &bytes[0..n]);
-    let answer = got.answer;
-    let meaning = got.sheet;
+    let (number, meaning) = match sheet_read::read(editions, &bytes[0..n]) {
+        Ok(meaning) => (0, meaning),
+        Err(refusal) => (read_number(refusal), NO_SHEET),
+    };
     let windows = meaning.windows;
     output::letter(rt, b'R')?;
-    output::next(rt, number(answer))?;
+    output::next(rt, number)?;
     output::next(rt, meaning.year as u64)?;
     output::next(rt, meaning.level as u64)?;
     write_windows(rt, windows)?;

@@ -7,14 +7,14 @@ ghost use Rattle.std.specs.Prelude.{◌≡◌, List, ℕ, ◌<◌, length};
 ghost use Rattle.answers.specs.Ruling.{day_quarters};
 ghost use Rattle.editions.specs.Editions.{edition_of};
 ghost use Rattle.readings.specs.Legal.{highest_of};
-ghost use Rattle.sheet.specs.Answers.{said_of_sheet};
+ghost use Rattle.sheet.specs.Answers.{said_of_written};
 ghost use Rattle.sheet.specs.Windows.{seasons, flat_windows};
 ghost use Rattle.grid.specs.Answers.{said_of_grid, Gives, curve_of, curves_of, finish_answer, finished, windows_answer, windows_buffer};
 
 use answers::{Edition, Place};
 use editions::Editions;
 use readings::Run;
-use sheet::{Sheet, SheetAnswer};
+use sheet::{Sheet, WriteRefusal};
 
 // What each call answers: 0, 14, 1, 2, 4, 5 with its place, 7, 12, 13.
 #[derive(Clone, Copy)]
@@ -30,15 +30,15 @@ pub enum GridAnswer {
     DayOut,
 }
 
-fn as_grid_answer(answer: SheetAnswer) -> GridAnswer
-    ensures { said_of_grid result ≡ said_of_sheet answer }
+fn as_grid_answer(written: Result<(), WriteRefusal>) -> GridAnswer
+    ensures { said_of_grid result ≡ said_of_written written }
 {
-    match answer {
-        SheetAnswer::Accepted => GridAnswer::Done,
-        SheetAnswer::Short => GridAnswer::Short,
-        SheetAnswer::YearOut => GridAnswer::YearOut,
-        SheetAnswer::LevelOut => GridAnswer::LevelOut,
-        SheetAnswer::Malformed => GridAnswer::Malformed,
+    match written {
+        Ok(()) => GridAnswer::Done,
+        Err(WriteRefusal::Short) => GridAnswer::Short,
+        Err(WriteRefusal::YearOut) => GridAnswer::YearOut,
+        Err(WriteRefusal::LevelOut) => GridAnswer::LevelOut,
+        Err(WriteRefusal::Malformed) => GridAnswer::Malformed,
     }
 }
 

@@ -1,20 +1,32 @@
 -- Closing refuses with a number alone, or 0 has the sheet's bytes as its figures: the lines of either.
 -- Assumes nothing.
-use mathlib.Core.Path.{◌≡◌, refl, ap, ◌∙◌}
+use mathlib.Core.Path.{◌≡◌, refl, sym, ap, ◌∙◌}
 use mathlib.Core.Bool.{Bool, true, false, cond, not}
-use mathlib.Core.List.{[], ◌∷◌}
-use Prim.Native.Nat.{ℕ}
+use mathlib.Core.List.{List, [], ◌∷◌}
+use Prim.Native.Nat.{ℕ, ◌≤◌, ◌<◌}
+use native.Mathlib.Omega.{arith}
 use borrow.Author.Tests.{eq-eqb, ne_eqb}
 use lib.Dec.{ltb, eqb}
 use Rattle.answers.specs.Ruling.{lacks_year, level_out}
 use Rattle.answers.specs.Said.{Said, only}
 use Rattle.periods.specs.Period.{period_days}
 use Rattle.readings.specs.Legal.{highest_of}
-use Rattle.sheet.specs.Windows.{too_full}
-use Rattle.sheet.specs.Bytes.{sheet_size}
-use Rattle.sheet.specs.Answers.{read_sheet, write_answer}
+use Rattle.answers.proofs.Laws.{has_year, level_of}
+use Rattle.sheet.specs.Windows.{too_full, LegalSheet}
+use Rattle.sheet.specs.Bytes.{sheet_size, sheet_bytes}
+use Rattle.sheet.specs.Answers.{ReadSaid, read_answer, read_sheet, write_answer}
+use Rattle.sheet.proofs.Windows.{roomy, length_flat}
+use Rattle.sheet.proofs.Answered.{write_taken, write_accepted}
+use Rattle.sheet.proofs.Back.{read_written}
+use Rattle.windows.proofs.Kept.{chosen_roomy}
+use Rattle.std.proofs.lemmas.List.{append-nil}
 use Rattle.grid_days.specs.declared.Grid.{Grid}
-use Rattle.grid.specs.Answers.{sheet_of, finish_answer}
+use Rattle.grid.specs.Answers.{sheet_of, curves_of, finish_answer}
+use Rattle.grid.proofs.Answered.{finish_sheet}
+use Rattle.grid_days.specs.Rows.{CloseRow}
+use Rattle.grid_days.specs.Rows.CloseRow.{zero}
+use Rattle.grid_days.proofs.Exactly.{close_exactly}
+use Rattle.grid_days.proofs.Steps.{close_finish}
 use Rattle.grid_days.specs.Days.{grid_close_answer, grid_close_buffer}
 use Rattle.lines.specs.Figures.{refused_line}
 use Rattle.grid_file.specs.Grid.{blank_sheet}
@@ -54,3 +66,20 @@ module _ (g : Grid) where
   pub closed_done : said.number ≡ 0 → sheet_text (read_sheet g.edition (grid_close_buffer g blank_sheet)) ≡ window_lines g.edition (closed_grid g)
   unfolding window_lines
   closed_done z = simp (eq-eqb said.number 0 z)
+
+  -- and closing left a sheet that can be read
+  pub closed_reads : said.number ≡ 0 → (read_answer g.edition (grid_close_buffer g blank_sheet)).number ≡ 0
+  unfolding sheet_of
+  closed_reads z = go ((close_exactly g blank_sheet 0).0 z)
+    where
+      go : CloseRow g sheet_size 0 → (read_answer g.edition (grid_close_buffer g blank_sheet)).number ≡ 0
+      go (zero c p y l) =
+          let s = sheet_of g.edition g.year g.level g.curves in
+          let room = chosen_roomy g.edition (highest_of g.curves) (curves_of g.curves) in
+          let taken = write_taken g.edition s blank_sheet _
+          (write_accepted g.edition s sheet_size (omega arith) ((has_year _ _).1 y) ((level_of _).1 l) ((roomy _ _).1 room)) refl in
+          let left = close_finish g blank_sheet (omega arith) c.full
+          (finish_sheet g.edition g.year g.level g.curves blank_sheet (λ e. omega arith) taken.0 taken.1) in
+          let legal : LegalSheet g.edition s = record { long = length_flat _; year = y; level = l; room = room } in
+          ap (λ (b : List ℕ). (read_answer g.edition b).number) (sym left.1 ∙ append-nil (sheet_bytes s))
+          ∙ ap (λ (r : ReadSaid). r.answer.number) (read_written g.edition s legal)

@@ -40,7 +40,7 @@ fn closed(grid: Grid, out: &mut [u8]) -> usize
     if number != 0 {
         return refused(number, out);
     }
-    let meaning = sheet_read::read_by(edition, &bytes).sheet;
+    let meaning = sheet_read::read_by(edition, &bytes).unwrap();
     let windows = meaning.windows;
     window_lines::windows_text(meaning.year, meaning.level, &windows, out)
 }

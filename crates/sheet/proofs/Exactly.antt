@@ -2,7 +2,8 @@
 -- nothing else meets the promises of `read` and `write`.
 -- Assumes nothing.
 use mathlib.Core.Path.{◌≡◌, refl, sym, ap, ◌∙◌}
-use mathlib.Core.Bool.{cond}
+use mathlib.Core.Bool.{false, cond}
+use Rattle.std.specs.Prelude.{Result, Ok, Err, ⊤, IsOk}
 use mathlib.Core.Logic.{◌↔◌, ⊎_elim}
 use mathlib.Core.List.{List}
 use Prim.Native.Nat.{ℕ, ◌≤◌, ◌<◌}
@@ -16,16 +17,17 @@ use Rattle.answers.specs.Ruling.{lacks_year, level_out}
 use Rattle.answers.specs.Said.{Said, only}
 use Rattle.answers.proofs.Laws.{one_answer, has_year, level_of}
 use Rattle.sheet.specs.declared.Sheet.{Sheet}
-use Rattle.sheet.specs.declared.SheetRead.{SheetRead}
-use Rattle.sheet.specs.declared.SheetAnswer.{SheetAnswer}
-use Rattle.sheet.specs.declared.SheetAnswer.TheVariants.{Accepted, Short, YearOut, LevelOut, Malformed}
+use Rattle.sheet.specs.declared.ReadRefusal.{ReadRefusal}
+use Rattle.sheet.specs.declared.ReadRefusal.TheVariants.{YearOut, LevelOut, Malformed}
+use Rattle.sheet.specs.declared.WriteRefusal.{WriteRefusal}
+use Rattle.sheet.specs.declared.WriteRefusal.TheVariants.{Short, YearOut, LevelOut, Malformed}
 use Rattle.sheet.specs.Windows.{too_full}
 use Rattle.encoding.specs.Bytes.{two_at}
 use Rattle.sheet.specs.Bytes.{year_at, level_at, sheet_size, windows_in}
 use Rattle.sheet.specs.Rows.ReadRow.{malformed, one, two, full, zero}
 use Rattle.sheet.specs.Rows.WriteRow.{fourteen, one, two, twelve, zero}
 use Rattle.sheet.specs.Rows.{Formed, ReadRow, WriteRow}
-use Rattle.sheet.specs.Answers.{said_of_sheet, ReadSaid, shown_of, read_answer, read_of, write_answer, written}
+use Rattle.sheet.specs.Answers.{said_of_read, said_of_written, ReadSaid, shown_of, read_answer, read_of, write_answer, written}
 use Rattle.sheet.proofs.Windows.{roomy}
 use Rattle.sheet.proofs.Answered.{form, read_form, read_year, read_level, read_full, read_accepted, write_short, write_year, write_level, write_full, write_accepted}
 
@@ -93,35 +95,53 @@ module _ (ed : Edition) (s : Sheet) (room : ℕ) where
   pub write_exactly : (n : ℕ) → ((write_answer ed s room).number ≡ n) ↔ WriteRow ed s room n
   write_exactly n = (λ e. rw e at write_holds, write_given)
 
--- an answer, back from what it says: so two answers that say the same are equal, without a case for each pair
-abbrev answer_back : Said → SheetAnswer
-answer_back a =
-    cond (eqb a.number 0) Accepted
-    (cond (eqb a.number 14) Short
-    (cond (eqb a.number 1) YearOut
-    (cond (eqb a.number 2) LevelOut Malformed)))
+-- each refusal has a number other than 0
+pub read_refuses : (r : ReadRefusal) → eqb (said_of_read r).number 0 ≡ false
+read_refuses YearOut = refl
+read_refuses LevelOut = refl
+read_refuses Malformed = refl
 
-back : (a : SheetAnswer) → answer_back (said_of_sheet a) ≡ a
-back Accepted = refl
-back Short = refl
-back YearOut = refl
-back LevelOut = refl
-back Malformed = refl
+-- so where 0 is shown, a sheet is handed back
+pub read_is_ok : (r : Result Sheet ReadRefusal) → (shown_of r).answer.number ≡ 0 → IsOk r
+read_is_ok (Ok sheet) z = refl
+read_is_ok (Err YearOut) z = absurd (omega arith)
+read_is_ok (Err LevelOut) z = absurd (omega arith)
+read_is_ok (Err Malformed) z = absurd (omega arith)
 
-pub sheet_said : {a b : SheetAnswer} → said_of_sheet a ≡ said_of_sheet b → a ≡ b
-sheet_said {a} {b} e = sym (back a) ∙ ap answer_back e ∙ back b
+-- what code hands back, from what it says: so two that say the same are equal, without a case for each pair
+abbrev read_back : ReadSaid → Result Sheet ReadRefusal
+read_back r =
+    cond (eqb r.answer.number 0) (Ok r.sheet)
+    (cond (eqb r.answer.number 1) (Err YearOut)
+    (cond (eqb r.answer.number 2) (Err LevelOut) (Err Malformed)))
+
+back : (r : Result Sheet ReadRefusal) → read_back (shown_of r) ≡ r
+back (Ok sheet) = refl
+back (Err YearOut) = refl
+back (Err LevelOut) = refl
+back (Err Malformed) = refl
+
+abbrev write_back : Said → Result ⊤ WriteRefusal
+write_back a =
+    cond (eqb a.number 0) (Ok tt)
+    (cond (eqb a.number 14) (Err Short)
+    (cond (eqb a.number 1) (Err YearOut)
+    (cond (eqb a.number 2) (Err LevelOut) (Err Malformed))))
+
+done_back : (r : Result ⊤ WriteRefusal) → write_back (said_of_written r) ≡ r
+done_back (Ok done) = refl
+done_back (Err Short) = refl
+done_back (Err YearOut) = refl
+done_back (Err LevelOut) = refl
+done_back (Err Malformed) = refl
 
 -- nothing else meets the promise of `read`, nor that of `write`
-pub read_only : (ed : Edition) (b : List ℕ) {r s : SheetRead} → shown_of r ≡ read_of ed b → shown_of s ≡ read_of ed b → r ≡ s
-read_only ed b {r} {s} p q =
-    let e = one_answer p q in
-    let a : r.answer ≡ s.answer = sheet_said (ap (λ (x : ReadSaid). x.answer) e) in
-    let w : r.sheet ≡ s.sheet = ap (λ (x : ReadSaid). x.sheet) e in
-    λ i. record { answer = a i; sheet = w i }
+pub read_only : (ed : Edition) (b : List ℕ) {r s : Result Sheet ReadRefusal} → shown_of r ≡ read_of ed b → shown_of s ≡ read_of ed b → r ≡ s
+read_only ed b {r} {s} p q = sym (back r) ∙ ap read_back (one_answer p q) ∙ back s
 
 pub write_only :
-    (ed : Edition) (s : Sheet) (buffer : List ℕ) {r q : SheetAnswer} {after later : List ℕ}
-    → (said_of_sheet r ≡ write_answer ed s (length buffer)) × (after ≡ written ed s buffer)
-    → (said_of_sheet q ≡ write_answer ed s (length buffer)) × (later ≡ written ed s buffer)
+    (ed : Edition) (s : Sheet) (buffer : List ℕ) {r q : Result ⊤ WriteRefusal} {after later : List ℕ}
+    → (said_of_written r ≡ write_answer ed s (length buffer)) × (after ≡ written ed s buffer)
+    → (said_of_written q ≡ write_answer ed s (length buffer)) × (later ≡ written ed s buffer)
     → (r ≡ q) × (after ≡ later)
-write_only ed s buffer p q = (sheet_said (one_answer p.0 q.0), one_answer p.1 q.1)
+write_only ed s buffer {r} {q} p p' = (sym (done_back r) ∙ ap write_back (one_answer p.0 p'.0) ∙ done_back q, one_answer p.1 p'.1)

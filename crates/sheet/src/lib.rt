@@ -1,4 +1,4 @@
-// The window sheet (Rules 5.1 to 5.4): the types of its meaning and of its answers. What its 56 bytes mean is defined
+// The window sheet (Rules 5.1 to 5.4): the types of its meaning and of what refuses it. What its 56 bytes mean is defined
 // in specs/Windows and specs/Bytes, what reading and writing answer in specs/Answers and specs/Rows; the code that
 // meets them is in crates `sheet_read` and `sheet_write`.
 // Main theorem: what is written reads back as the same meaning, and what is read is written back as the same bytes
@@ -25,19 +25,19 @@ pub struct Sheet {
     pub windows: [bool; WINDOW_PLACES],
 }
 
-// What reading and writing answer: 0, 14, 1, 2, 12.
-#[derive(Clone, Copy)]
-pub enum SheetAnswer {
-    Accepted,
-    Short,
+// Why reading refuses: 1, 2, 12. (Reading never answers 14.)
+#[derive(Clone, Copy, PartialEq, Eq)]
+pub enum ReadRefusal {
     YearOut,
     LevelOut,
     Malformed,
 }
 
-// An answer, and the sheet beside it: one fixed sheet where the answer is a refusal.
-#[derive(Clone, Copy)]
-pub struct SheetRead {
-    pub answer: SheetAnswer,
-    pub sheet: Sheet,
+// Why writing refuses: 14, 1, 2, 12.
+#[derive(Clone, Copy, PartialEq, Eq)]
+pub enum WriteRefusal {
+    Short,
+    YearOut,
+    LevelOut,
+    Malformed,
 }

@@ -5,12 +5,12 @@
 ghost use Rattle.std.specs.Prelude.{◌≡◌, ◌<◌, length};
 ghost use Rattle.sheet.specs.Windows.{too_full};
 ghost use Rattle.sheet.specs.Bytes.{sheet_size, bit_of, windows_in, season_full};
-ghost use Rattle.sheet.specs.Answers.{shown_of, read_of, refused_sheet};
+ghost use Rattle.sheet.specs.Answers.{shown_of, read_of};
 ghost use Rattle.sheet_read.specs.Editions.{sheet_edition};
 
 use answers::Edition;
 use editions::Editions;
-use sheet::{Sheet, SheetAnswer, SheetRead};
+use sheet::{ReadRefusal, Sheet};
 
 // The places, from 0, where a sheet's version, level and the windows of its seasons begin.
 const VERSION_AT: usize = 3;
@@ -62,60 +62,42 @@ fn bytes_full(edition: Edition, b: &[u8]) -> bool
         | season_full(edition, b, SEASONS_AT[3])
 }
 
-// A refusal, with the one fixed sheet beside it.
-fn refused(answer: SheetAnswer) -> SheetRead
-    ensures { result ≡ refused_sheet answer }
-{
-    let windows = [false; sheet::WINDOW_PLACES];
-    SheetRead {
-        answer,
-        sheet: Sheet {
-            year: 0,
-            level: 0,
-            windows,
-        },
-    }
-}
-
 // Reads a sheet by an edition, for a caller that has picked the one of the sheet's year. Refuses 12 (length, mark or
 // version), 1, 2, and 12 (too many set bits), in this order.
-pub fn read_by(edition: Edition, b: &[u8]) -> SheetRead
+pub fn read_by(edition: Edition, b: &[u8]) -> Result<Sheet, ReadRefusal>
     ensures { shown_of result ≡ read_of edition b.now }
 {
     if b.len() != sheet::SHEET_SIZE {
-        return refused(SheetAnswer::Malformed);
+        return Err(ReadRefusal::Malformed);
     }
     if encoding::other_mark(b, 0, b"HLZ") {
-        return refused(SheetAnswer::Malformed);
+        return Err(ReadRefusal::Malformed);
     }
     if encoding::two_at(b, VERSION_AT) != encoding::FORMAT_VERSION {
-        return refused(SheetAnswer::Malformed);
+        return Err(ReadRefusal::Malformed);
     }
     let year = encoding::two_at(b, sheet::YEAR_AT);
     if answers::lacks_year(edition, year) {
-        return refused(SheetAnswer::YearOut);
+        return Err(ReadRefusal::YearOut);
     }
     let level = b[LEVEL_AT];
     if answers::level_out(level) {
-        return refused(SheetAnswer::LevelOut);
+        return Err(ReadRefusal::LevelOut);
     }
     if bytes_full(edition, b) {
-        return refused(SheetAnswer::Malformed);
+        return Err(ReadRefusal::Malformed);
     }
     let windows = unpack(b);
-    SheetRead {
-        answer: SheetAnswer::Accepted,
-        sheet: Sheet {
-            year,
-            level,
-            windows,
-        },
-    }
+    Ok(Sheet {
+        year,
+        level,
+        windows,
+    })
 }
 
 // Reads a sheet by the edition of its year. Refuses 12 (length, mark or version), 1, 2, and 12 (too many set bits), in
 // this order.
-pub fn read(editions: Editions, b: &[u8]) -> SheetRead
+pub fn read(editions: Editions, b: &[u8]) -> Result<Sheet, ReadRefusal>
     ensures { shown_of result ≡ read_of (sheet_edition editions b.now) b.now }
 {
     read_by(

@@ -8,11 +8,11 @@ ghost use Rattle.ranges.specs.Limits.{Within};
 ghost use Rattle.editions.specs.Editions.{edition_of};
 ghost use Rattle.sheet.specs.Windows.{seasons, set_in, too_full};
 ghost use Rattle.sheet.specs.Bytes.{window_bytes, sheet_size, window_byte, byte_at, bytes_of};
-ghost use Rattle.sheet.specs.Answers.{said_of_sheet, write_answer, written};
+ghost use Rattle.sheet.specs.Answers.{said_of_written, write_answer, written};
 
 use answers::Edition;
 use editions::Editions;
-use sheet::{Sheet, SheetAnswer};
+use sheet::{Sheet, WriteRefusal};
 
 // How many quarters of a season, from 1, are set.
 fn set_in(windows: &[bool; sheet::WINDOW_PLACES], season: usize) -> usize
@@ -82,31 +82,31 @@ fn fill(year: u16, level: u8, windows: &[bool; sheet::WINDOW_PLACES], out: &mut 
 
 // Writes a sheet by an edition into a lent buffer, for a caller that has picked the one of the sheet's year. Refuses
 // 14, 1, 2, 12 in this order, and then changes no byte.
-pub fn write_by(edition: Edition, sheet: Sheet, out: &mut [u8]) -> SheetAnswer
-    ensures { (said_of_sheet result ≡ write_answer edition sheet (length out.old))
+pub fn write_by(edition: Edition, sheet: Sheet, out: &mut [u8]) -> Result<(), WriteRefusal>
+    ensures { (said_of_written result ≡ write_answer edition sheet (length out.old))
         × (out.new ≡ written edition sheet out.old) }
 {
     let windows = sheet.windows;
     if out.len() < sheet::SHEET_SIZE {
-        return SheetAnswer::Short;
+        return Err(WriteRefusal::Short);
     }
     if answers::lacks_year(edition, sheet.year) {
-        return SheetAnswer::YearOut;
+        return Err(WriteRefusal::YearOut);
     }
     if answers::level_out(sheet.level) {
-        return SheetAnswer::LevelOut;
+        return Err(WriteRefusal::LevelOut);
     }
     if too_full(edition, &windows) {
-        return SheetAnswer::Malformed;
+        return Err(WriteRefusal::Malformed);
     }
     fill(sheet.year, sheet.level, &windows, out);
-    SheetAnswer::Accepted
+    Ok(())
 }
 
 // Writes a sheet by the edition of its year into a lent buffer. Refuses 14, 1, 2, 12 in this order, and then changes no
 // byte.
-pub fn write(editions: Editions, sheet: Sheet, out: &mut [u8]) -> SheetAnswer
-    ensures { (said_of_sheet result ≡ write_answer (edition_of editions sheet.year) sheet (length out.old))
+pub fn write(editions: Editions, sheet: Sheet, out: &mut [u8]) -> Result<(), WriteRefusal>
+    ensures { (said_of_written result ≡ write_answer (edition_of editions sheet.year) sheet (length out.old))
         × (out.new ≡ written (edition_of editions sheet.year) sheet out.old) }
 {
     write_by(editions::pick(editions, sheet.year), sheet, out)

@@ -9,9 +9,7 @@ use lib.Dec.{eqb}
 use Rattle.answers.specs.Said.{Said, only, or_else}
 use Rattle.answers.proofs.Laws.{refusal_keeps, done_hands, refusal_stands}
 use Rattle.holidays.specs.Holidays.{bad_holidays}
-use Rattle.sheet.specs.declared.SheetAnswer.{SheetAnswer}
-use Rattle.sheet.specs.declared.SheetAnswer.TheVariants.{Accepted, Short, YearOut, LevelOut, Malformed}
-use Rattle.sheet.specs.Answers.{said_of_sheet, read_answer, ReadSaid, read_of}
+use Rattle.sheet.specs.Answers.{read_answer, ReadSaid, read_of}
 use Rattle.sheet.proofs.Answered.{read_taken}
 use Rattle.sheet.proofs.Exactly.{read_zero}
 use Rattle.tariff.specs.Prices.{prices_out}
@@ -61,11 +59,3 @@ module _ (k : Basis) where
   pub open_taken : only 0 ≡ customer_open_answer k → terms_of k ≡ open_terms k
   unfolding open_terms
   open_taken e = (done_hands (only 0) (terms_of k) no_terms e refl).1
-
--- reading a sheet answers a number without figures
-pub sheet_zero : (a : SheetAnswer) → (said_of_sheet a).number ≡ 0 → only 0 ≡ said_of_sheet a
-sheet_zero Accepted z = refl
-sheet_zero Short z = absurd (omega arith)
-sheet_zero YearOut z = absurd (omega arith)
-sheet_zero LevelOut z = absurd (omega arith)
-sheet_zero Malformed z = absurd (omega arith)

@@ -5,15 +5,14 @@
 #![tactic(auto)]
 
 ghost use Rattle.std.specs.Prelude.{◌≡◌};
-ghost use Rattle.answers.specs.Said.{or_else};
-ghost use Rattle.sheet.specs.Answers.{said_of_sheet};
+ghost use Rattle.sheet.specs.Answers.{said_of_read};
 ghost use Rattle.tariff.specs.Answers.{said_of};
 ghost use Rattle.terms.specs.Basis.{basis};
 ghost use Rattle.terms.specs.Opening.{lists_answer, no_terms, Opens};
 
 use answers::Edition;
 use editions::Editions;
-use sheet::SheetAnswer;
+use sheet::ReadRefusal;
 use tariff::{Decision, Prices, Rates, Row};
 
 // What a year is judged under: the edition of the year; its rates; the sheet's windows, season 1 first and of each
@@ -33,30 +32,21 @@ pub struct Opening {
     pub terms: Terms,
 }
 
-// The answer to reading the sheet, as an answer of the decision. Reading never answers 14, so the arm for it is never
-// reached.
-fn as_decision(answer: SheetAnswer) -> Decision
-    requires { (said_of_sheet answer).number ≡ 14 → ⊥ }
-    ensures { said_of result ≡ said_of_sheet answer }
+// What refuses the sheet, as an answer of the decision.
+fn as_decision(refusal: ReadRefusal) -> Decision
+    ensures { said_of result ≡ said_of_read refusal }
 {
-    match answer {
-        SheetAnswer::Accepted => Decision::Taken,
-        SheetAnswer::Short => Decision::Malformed,
-        SheetAnswer::YearOut => Decision::YearOut,
-        SheetAnswer::LevelOut => Decision::LevelOut,
-        SheetAnswer::Malformed => Decision::Malformed,
+    match refusal {
+        ReadRefusal::YearOut => Decision::YearOut,
+        ReadRefusal::LevelOut => Decision::LevelOut,
+        ReadRefusal::Malformed => Decision::Malformed,
     }
 }
 
-// All that needs no readings: the answer to reading the sheet, then 3 and 6.
-fn open_answer(read: SheetAnswer, year: u16, holidays: &[u16], prices: Prices) -> Decision
-    requires { (said_of_sheet read).number ≡ 14 → ⊥ }
-    ensures { said_of result ≡ or_else (said_of_sheet read) (lists_answer year holidays.now prices) }
+// What the holidays and the prices are answered: 3, then 6.
+fn lists_answer(year: u16, holidays: &[u16], prices: Prices) -> Decision
+    ensures { said_of result ≡ lists_answer year holidays.now prices }
 {
-    let answer = as_decision(read);
-    let Decision::Taken = answer else {
-        return answer;
-    };
     if holidays::bad_holidays(year, holidays) {
         return Decision::BadHolidays;
     }
@@ -104,10 +94,16 @@ pub fn open(
     ensures { Opens (basis editions sheet.now holidays.now prices option) result }
 {
     let edition = editions::pick(editions, encoding::two_at(sheet, sheet::YEAR_AT));
-    let read = sheet_read::read_by(edition, sheet);
-    let said = read.answer;
-    let meaning = read.sheet;
-    let answer = open_answer(said, meaning.year, holidays, prices);
+    let meaning = match sheet_read::read_by(edition, sheet) {
+        Ok(meaning) => meaning,
+        Err(refusal) => {
+            return Opening {
+                answer: as_decision(refusal),
+                terms: no_terms(),
+            };
+        }
+    };
+    let answer = lists_answer(meaning.year, holidays, prices);
     let Decision::Taken = answer else {
         return Opening {
             answer,

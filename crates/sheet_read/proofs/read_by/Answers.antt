@@ -11,7 +11,6 @@ use Rattle.answers.specs.Ruling.{lacks_year, level_out}
 use Rattle.encoding.specs.Bytes.{two_at}
 use Rattle.sheet.specs.Bytes.{year_at, level_at}
 use Rattle.sheet.specs.Rows.{Formed}
-use Rattle.sheet.specs.Answers.{shown_of}
 use Rattle.ranges.proofs.Bools.{clash}
 use Rattle.sheet.proofs.Answered.{read_refused, read_taken, marked, read_form, read_year, read_level, read_full, read_accepted}
 use Rattle.sheet_read.proofs.read_by.Goals.{Else-lacks_year, Else-level_out, Else-two_at-ne-FORMAT_VERSION}
@@ -43,37 +42,34 @@ legal_level : (e : Else-level_out) → level_out (get_or e.args.b.now level_at 0
 legal_level e = sym e.level_out.ensures ∙ e.if-level_out.false
 
 pub returns-then-b-ne-SHEET_SIZE : goal.returns-then-b-ne-SHEET_SIZE
-returns-then-b-ne-SHEET_SIZE c = ap shown_of c.refused.ensures ∙ read_refused _ _ (read_form _ _ (λ f. c.if-b-ne-SHEET_SIZE.true f.size)) refl
+returns-then-b-ne-SHEET_SIZE c = read_refused _ _ (read_form _ _ (λ f. c.if-b-ne-SHEET_SIZE.true f.size)) refl
 
 pub returns-then-other_mark : goal.returns-then-other_mark
 returns-then-other_mark c =
     let other = sym c.other_mark.ensures ∙ c.if-other_mark.true in
-    ap shown_of c.refused-then-other_mark.ensures ∙ read_refused _ _ (read_form _ _ (λ f. clash other ((marked _).1 f.marked))) refl
+    read_refused _ _ (read_form _ _ (λ f. clash other ((marked _).1 f.marked))) refl
 
 pub returns-then-two_at-ne-FORMAT_VERSION : goal.returns-then-two_at-ne-FORMAT_VERSION
 returns-then-two_at-ne-FORMAT_VERSION c =
-    ap shown_of c.refused-then-two_at-ne-FORMAT_VERSION.ensures
-    ∙ read_refused _ _ (read_form _ _ (λ f. c.if-two_at-ne-FORMAT_VERSION.true (c.two_at.ensures ∙ f.version))) refl
+    read_refused _ _ (read_form _ _ (λ f. c.if-two_at-ne-FORMAT_VERSION.true (c.two_at.ensures ∙ f.version))) refl
 
 pub returns-then-lacks_year : goal.returns-then-lacks_year
 returns-then-lacks_year c =
     let w = goal.at.returns-then-lacks_year c in
     let out = rw c.two_at-year.ensures at (sym c.lacks_year.ensures ∙ c.if-lacks_year.true) in
-    ap shown_of c.refused-then-lacks_year.ensures ∙ read_refused _ _ (read_year _ _ (formed_at w.Else-two_at-ne-FORMAT_VERSION) out) refl
+    read_refused _ _ (read_year _ _ (formed_at w.Else-two_at-ne-FORMAT_VERSION) out) refl
 
 pub returns-then-level_out : goal.returns-then-level_out
 returns-then-level_out c =
     let w = goal.at.returns-then-level_out c in
     let out = sym c.level_out.ensures ∙ c.if-level_out.true in
-    ap shown_of c.refused-then-level_out.ensures
-    ∙ read_refused _ _ (read_level _ _ (formed_at w.Else-two_at-ne-FORMAT_VERSION) (legal_year w.Else-lacks_year) out) refl
+    read_refused _ _ (read_level _ _ (formed_at w.Else-two_at-ne-FORMAT_VERSION) (legal_year w.Else-lacks_year) out) refl
 
 pub returns-then-bytes_full : goal.returns-then-bytes_full
 returns-then-bytes_full c =
     let w = goal.at.returns-then-bytes_full c in
     let full = sym c.bytes_full.ensures ∙ c.if-bytes_full.true in
-    ap shown_of c.refused-then-bytes_full.ensures
-    ∙ read_refused _ _ (read_full _ _ (formed_at w.Else-two_at-ne-FORMAT_VERSION) (legal_year w.Else-lacks_year) (legal_level w.Else-level_out) full) refl
+    read_refused _ _ (read_full _ _ (formed_at w.Else-two_at-ne-FORMAT_VERSION) (legal_year w.Else-lacks_year) (legal_level w.Else-level_out) full) refl
 
 pub returns : goal.returns
 returns c =
