@@ -1,5 +1,6 @@
 -- The answer for a calendar day: one law for each case, its rows exactly, and that nothing else meets the promise.
 -- Assumes nothing.
+use Rattle.std.specs.Prelude.{Result, Ok, Err}
 use mathlib.Core.Path.{◌≡◌, refl, sym, ap, ◌∙◌}
 use mathlib.Core.Bool.{true, false, cond}
 use mathlib.Core.Logic.{◌↔◌, ⊎_elim}
@@ -17,8 +18,8 @@ use Rattle.dates.specs.Dates.{year_days, most_days}
 use Rattle.dates.proofs.Leaps.{leap_small}
 use Rattle.holidays.specs.Holidays.{bad_holidays}
 use Rattle.holidays.proofs.Lists.{legal_holidays}
-use Rattle.calendar.specs.declared.DayAnswer.{DayAnswer}
-use Rattle.calendar.specs.declared.DayAnswer.TheVariants.{Day, YearOut, BadList, DayOut}
+use Rattle.calendar.specs.declared.DayRefusal.{DayRefusal}
+use Rattle.calendar.specs.declared.DayRefusal.TheVariants.{YearOut, BadList, DayOut}
 use Rattle.day_kinds.specs.declared.DayKind.{DayKind}
 use Rattle.day_kinds.specs.declared.DayKind.TheVariants.{Windows, Weekend, Listed, Christmas, Bridge}
 use Rattle.day_kinds.specs.Kinds.{kind_of}
@@ -93,29 +94,29 @@ kind_back code =
     (cond (eqb code 4) Christmas
     Bridge)))
 
-abbrev day_back : Said → DayAnswer
+abbrev day_back : Said → Result DayKind DayRefusal
 day_back a =
-    cond (eqb a.number 1) YearOut
-    (cond (eqb a.number 3) BadList
-    (cond (eqb a.number 13) DayOut
-    (Day (kind_back (get_or a.figures 0 0)))))
+    cond (eqb a.number 1) (Err YearOut)
+    (cond (eqb a.number 3) (Err BadList)
+    (cond (eqb a.number 13) (Err DayOut)
+    (Ok (kind_back (get_or a.figures 0 0)))))
 
-back : (a : DayAnswer) → day_back (said_of_day a) ≡ a
-back (Day Windows) = refl
-back (Day Weekend) = refl
-back (Day Listed) = refl
-back (Day Christmas) = refl
-back (Day Bridge) = refl
-back YearOut = refl
-back BadList = refl
-back DayOut = refl
+back : (a : Result DayKind DayRefusal) → day_back (said_of_day a) ≡ a
+back (Ok Windows) = refl
+back (Ok Weekend) = refl
+back (Ok Listed) = refl
+back (Ok Christmas) = refl
+back (Ok Bridge) = refl
+back (Err YearOut) = refl
+back (Err BadList) = refl
+back (Err DayOut) = refl
 
 -- what an answer says fixes the answer, so nothing else meets the promise of `day_kind`
-pub day_said : {a b : DayAnswer} → said_of_day a ≡ said_of_day b → a ≡ b
+pub day_said : {a b : Result DayKind DayRefusal} → said_of_day a ≡ said_of_day b → a ≡ b
 day_said {a} {b} e = sym (back a) ∙ ap day_back e ∙ back b
 
 pub kind_only :
-    (ed : Edition) (y : ℕ) (hs : List ℕ) (d : ℕ) {r s : DayAnswer}
+    (ed : Edition) (y : ℕ) (hs : List ℕ) (d : ℕ) {r s : Result DayKind DayRefusal}
     → said_of_day r ≡ calendar_answer ed y hs d
     → said_of_day s ≡ calendar_answer ed y hs d
     → r ≡ s

@@ -1,14 +1,14 @@
 -- What is answered when somebody asks of which kind day d, from 1, of year y is under the holiday list hs: one of 1, 3
 -- and 13, tested in this order, or the kind. ed is the edition of the year. Rules 3.5 and 8.2.
-use Rattle.std.specs.Prelude.{Bool, cond, List, [], ◌∷◌, ℕ}
+use Rattle.std.specs.Prelude.{Bool, cond, List, [], ◌∷◌, ℕ, Result, Ok, Err}
 use Rattle.ranges.specs.Limits.{Within, outside}
 use Rattle.answers.specs.declared.Edition.{Edition}
 use Rattle.answers.specs.Ruling.{lacks_year, HasYear}
 use Rattle.answers.specs.Said.{Said, only}
 use Rattle.dates.specs.Dates.{year_days}
 use Rattle.holidays.specs.Holidays.{bad_holidays, LegalHolidays}
-use Rattle.calendar.specs.declared.DayAnswer.{DayAnswer}
-use Rattle.calendar.specs.declared.DayAnswer.TheVariants.{Day, YearOut, BadList, DayOut}
+use Rattle.calendar.specs.declared.DayRefusal.{DayRefusal}
+use Rattle.calendar.specs.declared.DayRefusal.TheVariants.{YearOut, BadList, DayOut}
 use Rattle.day_kinds.specs.declared.DayKind.{DayKind}
 use Rattle.day_kinds.specs.Kinds.{kind_code, kind_of}
 
@@ -17,11 +17,11 @@ abbrev pub of_kind : DayKind → Said
 of_kind kind = record { number = 0; figures = kind_code kind ∷ [] }
 
 -- the number and the figures of each case of the code's answer
-abbrev pub said_of_day : DayAnswer → Said
-said_of_day (Day kind) = of_kind kind
-said_of_day YearOut = only 1
-said_of_day BadList = only 3
-said_of_day DayOut = only 13
+abbrev pub said_of_day : Result DayKind DayRefusal → Said
+said_of_day (Ok kind) = of_kind kind
+said_of_day (Err YearOut) = only 1
+said_of_day (Err BadList) = only 3
+said_of_day (Err DayOut) = only 13
 
 -- answer 13: the year does not have the day
 unfoldable pub day_out : ℕ → ℕ → Bool

@@ -7,7 +7,7 @@
 ghost use Rattle.std.specs.Prelude.{◌≡◌, ◌-◌, ◌≤◌, ◌<◌};
 ghost use Rattle.dates.specs.Dates.{most_days};
 ghost use Rattle.editions.specs.Editions.{edition_of};
-ghost use Rattle.day_kinds.specs.Kinds.{christmas, free, candidate, bridge, kind_by, is_windows, window_days};
+ghost use Rattle.day_kinds.specs.Kinds.{christmas, free, candidate, bridge, kind_by, window_days};
 ghost use Rattle.calendar.specs.Answer.{said_of_day, day_out, calendar_answer};
 ghost use Rattle.calendar.specs.Marks.{mark_places, last_mark, mark_place, marked, Marks};
 
@@ -28,10 +28,9 @@ const FRIDAY: u8 = 4;
 
 const SATURDAY: u8 = 5;
 
-// Of which kind a day is (0), or the refusals 1, 3, 13.
-#[derive(Clone, Copy)]
-pub enum DayAnswer {
-    Day(DayKind),
+// Why a day has no kind: the answers 1, 3, 13.
+#[derive(Clone, Copy, PartialEq, Eq)]
+pub enum DayRefusal {
     YearOut,
     BadList,
     DayOut,
@@ -134,19 +133,6 @@ fn kind(year: u16, marks: &[bool; MARK_PLACES], day: u16) -> DayKind
     DayKind::Windows
 }
 
-// Does a day of this kind carry windows?
-fn is_windows(kind: DayKind) -> bool
-    ensures { result ≡ is_windows kind }
-{
-    match kind {
-        DayKind::Windows => true,
-        DayKind::Weekend => false,
-        DayKind::Listed => false,
-        DayKind::Christmas => false,
-        DayKind::Bridge => false,
-    }
-}
-
 // Which days of any year carry windows by any list, for a loop over a year's days: place k, from 0, is day k + 1.
 pub fn window_days(year: u16, holidays: &[u16]) -> [bool; dates::MOST_DAYS]
     ensures { result ≡ window_days year holidays.now }
@@ -154,7 +140,7 @@ pub fn window_days(year: u16, holidays: &[u16]) -> [bool; dates::MOST_DAYS]
     let m = marks(holidays);
     let mut out = [false; dates::MOST_DAYS];
     for k in 0..dates::MOST_DAYS {
-        out[k] = is_windows(kind(year, &m, (k + 1) as u16));
+        out[k] = kind(year, &m, (k + 1) as u16) == DayKind::Windows;
     }
     out
 }
@@ -167,24 +153,34 @@ fn day_out(year: u16, day: u16) -> bool
 }
 
 // Of which kind is a day, from 1, of a year by an edition? Refuses 1, 3, 13 in this order.
-fn day_kind_by(edition: Edition, year: u16, holidays: &[u16], day: u16) -> DayAnswer
+fn day_kind_by(
+    edition: Edition,
+    year: u16,
+    holidays: &[u16],
+    day: u16,
+) -> Result<DayKind, DayRefusal>
     ensures { said_of_day result ≡ calendar_answer edition year holidays.now day }
 {
     if answers::lacks_year(edition, year) {
-        return DayAnswer::YearOut;
+        return Err(DayRefusal::YearOut);
     }
     if holidays::bad_holidays(year, holidays) {
-        return DayAnswer::BadList;
+        return Err(DayRefusal::BadList);
     }
     if day_out(year, day) {
-        return DayAnswer::DayOut;
+        return Err(DayRefusal::DayOut);
     }
     let m = marks(holidays);
-    DayAnswer::Day(kind(year, &m, day))
+    Ok(kind(year, &m, day))
 }
 
 // Of which kind is a day, from 1, of a charge year? Refuses 1, 3, 13 in this order.
-pub fn day_kind(editions: Editions, year: u16, holidays: &[u16], day: u16) -> DayAnswer
+pub fn day_kind(
+    editions: Editions,
+    year: u16,
+    holidays: &[u16],
+    day: u16,
+) -> Result<DayKind, DayRefusal>
     ensures { said_of_day result ≡ calendar_answer (edition_of editions year) year holidays.now day }
 {
     day_kind_by(editions::pick(editions, year), year, holidays, day)

@@ -7,7 +7,7 @@
 // An answer as a character: a kind is its code, and y, h, d are the refusals 1, 3, 13.
 // tests/calendar_cases.py makes them, and what must come of them by Python's datetime.
 use super::{input, output};
-use calendar::DayAnswer;
+use calendar::DayRefusal;
 use day_kinds::DayKind;
 use editions::Editions;
 use std::io;
@@ -31,12 +31,12 @@ fn code(kind: DayKind) -> u8 {
     }
 }
 
-fn mark(answer: DayAnswer) -> u8 {
+fn mark(answer: Result<DayKind, DayRefusal>) -> u8 {
     match answer {
-        DayAnswer::Day(kind) => code(kind),
-        DayAnswer::YearOut => b'y',
-        DayAnswer::BadList => b'h',
-        DayAnswer::DayOut => b'd',
+        Ok(kind) => code(kind),
+        Err(DayRefusal::YearOut) => b'y',
+        Err(DayRefusal::BadList) => b'h',
+        Err(DayRefusal::DayOut) => b'd',
     }
 }
 

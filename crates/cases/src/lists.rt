@@ -13,7 +13,7 @@ ghost use Rattle.std.specs.Prelude.{◌<◌, IfOk};
 
 use super::{input, output};
 use answers::Edition;
-use editions::{Editions, Loading};
+use editions::{Editions, NotLoaded};
 use std::io;
 use std::io::Read;
 
@@ -68,10 +68,10 @@ fn write_edition(rt: &impl Print, edition: Edition) -> io::Result<()> {
     output::next(rt, edition.hours as u64)
 }
 
-fn number(answer: Loading) -> u64 {
+fn number(answer: Result<(), NotLoaded>) -> u64 {
     match answer {
-        Loading::Taken => 0,
-        Loading::Refused => 22,
+        Ok(()) => 0,
+        Err(NotLoaded) => 22,
     }
 }
 
@@ -90,9 +90,8 @@ fn anew(rt: &impl Print, operation: u8, list: Editions) -> io::Result<Editions> 
 
 // I: a loading.
 fn load<R: Read>(rt: &impl Print, input: &mut R, list: Editions) -> io::Result<Editions> {
-    let loaded = editions::load(list, next_edition(input)?);
-    let answer = loaded.answer;
-    let after = loaded.editions;
+    let mut after = list;
+    let answer = after.load(next_edition(input)?);
     output::letter(rt, b'I')?;
     output::next(rt, number(answer))?;
     output::next(rt, after.count as u64)?;

@@ -5,7 +5,7 @@
 #![tactic(auto)]
 
 // A day carries windows, or why it is free.
-#[derive(Clone, Copy)]
+#[derive(Clone, Copy, PartialEq, Eq)]
 pub enum DayKind {
     Windows,
     Weekend,

@@ -11,7 +11,7 @@ ghost use Rattle.texts.specs.Text.{Put, Wrote};
 ghost use Rattle.day_text.specs.Asked.{misfits, no_dates, two_digits, year_at, day_at, no_such_date, listed_at, list_count, listed_days, why_answer};
 ghost use Rattle.day_text.specs.Text.{weekday_name, kind_word, day_line, why_text};
 
-use calendar::DayAnswer;
+use calendar::DayRefusal;
 use day_kinds::DayKind;
 
 // The form of a line, where 0 stands for any digit, and how many bytes it has; of these the date, without the line
@@ -127,16 +127,16 @@ fn listed_days(b: &[u8]) -> [u16; LISTED_MOST]
 }
 
 // What is answered: 1 and 13 by the dates, else what the calendar says.
-fn answer(b: &[u8]) -> DayAnswer
+fn answer(b: &[u8]) -> Result<DayKind, DayRefusal>
     ensures { said_of_day result ≡ why_answer b.now }
 {
     let year = year_at(b, 0);
     let editions = editions::todays();
     if editions::year_out(editions, year) {
-        return DayAnswer::YearOut;
+        return Err(DayRefusal::YearOut);
     }
     if no_such_date(b) {
-        return DayAnswer::DayOut;
+        return Err(DayRefusal::DayOut);
     }
     let n = list_count(b);
     let list = listed_days(b);
@@ -211,18 +211,18 @@ pub fn text(b: &[u8], out: &mut [u8]) -> usize
         );
     }
     match answer(b) {
-        DayAnswer::Day(kind) => day_line(b, kind, out),
-        DayAnswer::YearOut => texts::add_bytes(
+        Ok(kind) => day_line(b, kind, out),
+        Err(DayRefusal::YearOut) => texts::add_bytes(
             out,
             0,
             b"REFUSED 1 the year is not one of 2014 to 2028\n",
         ),
-        DayAnswer::BadList => texts::add_bytes(
+        Err(DayRefusal::BadList) => texts::add_bytes(
             out,
             0,
             b"REFUSED 3 the holidays are not rising days of that year, 40 at most\n",
         ),
-        DayAnswer::DayOut => texts::add_bytes(
+        Err(DayRefusal::DayOut) => texts::add_bytes(
             out,
             0,
             b"REFUSED 13 a year does not have the date\n",

@@ -4,6 +4,7 @@
 use mathlib.Core.Path.{◌≡◌, refl, sym, ◌∙◌, ap}
 use mathlib.Core.Bool.{true, false, ◌||◌, or-true, and-false, cond}
 use mathlib.Core.Logic.{◌↔◌, ⊎_elim}
+use Rattle.std.specs.Prelude.{Result, Ok, Err}
 use Prim.Native.Nat.{ℕ, ◌+◌, ◌-◌, ◌≤◌, ◌<◌}
 use native.Mathlib.Decide.{dec_lt}
 use native.Mathlib.Omega.{arith}
@@ -21,9 +22,7 @@ use Rattle.answers.specs.Ruling.{editions_from, last_level, share_of, HasYear, L
 use Rattle.answers.specs.Said.{Said}
 use Rattle.answers.proofs.Laws.{one_answer}
 use Rattle.editions.specs.declared.Editions.{Editions}
-use Rattle.editions.specs.declared.Loading.{Loading}
-use Rattle.editions.specs.declared.Loading.TheVariants.{Taken, Refused}
-use Rattle.editions.specs.declared.Loaded.{Loaded}
+use Rattle.editions.specs.declared.NotLoaded.{NotLoaded}
 use Rattle.editions.specs.Editions.{editions_most, loaded_in, no_record, record_at, edition_of}
 use Rattle.editions.specs.Loading.Loads.{start, next}
 use Rattle.editions.specs.Loading.Apart.{before, behind}
@@ -229,19 +228,17 @@ module _ {es : Editions} (loads : Loads es) where
       absurd (omega (arith, same)))
 
 -- an answer, back from what it says: so nothing else meets the promise of `load`
-abbrev load_back : Said → Loading
-load_back a = cond (eqb a.number 0) Taken Refused
+abbrev load_back : Said → Result (Unit {0}) NotLoaded
+load_back a = cond (eqb a.number 0) (Ok tt) (Err (record {}))
 
-back : (a : Loading) → load_back (said_of_loading a) ≡ a
-back Taken = refl
-back Refused = refl
+back : (a : Result (Unit {0}) NotLoaded) → load_back (said_of_loading a) ≡ a
+back (Ok _) = refl
+back (Err _) = refl
 
 pub load_only :
-    {x : Said} {es : Editions} {r s : Loaded}
-    → (said_of_loading r.answer ≡ x) × (r.editions ≡ es)
-    → (said_of_loading s.answer ≡ x) × (s.editions ≡ es)
-    → r ≡ s
+    {x : Said} {es : Editions} {r s : Result (Unit {0}) NotLoaded} {a b : Editions}
+    → (said_of_loading r ≡ x) × (a ≡ es)
+    → (said_of_loading s ≡ x) × (b ≡ es)
+    → (r ≡ s) × (a ≡ b)
 load_only {r = r} {s = s} p q =
-    let answer = sym (back r.answer) ∙ ap load_back (one_answer p.0 q.0) ∙ back s.answer in
-    let list = one_answer p.1 q.1 in
-    λ i. record { answer = answer i; editions = list i }
+    (sym (back r) ∙ ap load_back (one_answer p.0 q.0) ∙ back s, one_answer p.1 q.1)

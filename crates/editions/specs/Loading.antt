@@ -1,7 +1,7 @@
 -- Loading the record ed into the list es: 22 for a ninth record, for one out of its ranges, for one that ends before it
 -- begins, and for one that overlaps a loaded one; else 0, and the record stands behind the others. A refused loading
 -- leaves the list as it was. Rules 2.7, 8.1 and 8.3.
-use Rattle.std.specs.Prelude.{Bool, cond, ◌&&◌, ◌||◌, List, ℕ, ◌+◌, ◌≤◌, ◌<◌, leb, ltb, get_or, set}
+use Rattle.std.specs.Prelude.{Bool, cond, ◌&&◌, ◌||◌, List, ℕ, ◌+◌, ◌≤◌, ◌<◌, leb, ltb, get_or, set, Result, Ok, Err}
 use Rattle.ranges.specs.Limits.{outside}
 use Rattle.ranges.specs.Ranges.{any_over}
 use Rattle.answers.specs.declared.Edition.{Edition}
@@ -9,14 +9,13 @@ use Rattle.answers.specs.Edition.{whole_share}
 use Rattle.answers.specs.Ruling.{editions_from, editions_to, last_level, day_quarters, least_move, least_reduction, move_most, reduction_most, hours_most, LegalEdition}
 use Rattle.answers.specs.Said.{Said, only, after}
 use Rattle.editions.specs.declared.Editions.{Editions}
-use Rattle.editions.specs.declared.Loading.{Loading}
-use Rattle.editions.specs.declared.Loading.TheVariants.{Taken, Refused}
+use Rattle.editions.specs.declared.NotLoaded.{NotLoaded}
 use Rattle.editions.specs.Editions.{editions_most, no_editions, loaded_in, record_at}
 
 -- the number of each case of the code's answer
-abbrev pub said_of_loading : Loading → Said
-said_of_loading Taken = only 0
-said_of_loading Refused = only 22
+abbrev pub said_of_loading : Result (Unit {0}) NotLoaded → Said
+said_of_loading (Ok _) = only 0
+said_of_loading (Err _) = only 22
 
 -- out of its ranges: the years, and in their order; a share; every other number
 unfoldable pub bad_years : Edition → Bool

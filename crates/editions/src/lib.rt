@@ -33,19 +33,9 @@ pub struct Editions {
     pub records: [Edition; EDITIONS_MOST],
 }
 
-// What loading answers: 0, 22.
-#[derive(Clone, Copy)]
-pub enum Loading {
-    Taken,
-    Refused,
-}
-
-// An answer, and the list beside it.
-#[derive(Clone, Copy)]
-pub struct Loaded {
-    pub answer: Loading,
-    pub editions: Editions,
-}
+// The answer 22: a record is not loaded.
+#[derive(Clone, Copy, PartialEq, Eq)]
+pub struct NotLoaded;
 
 // The edition that holds today.
 pub fn today() -> Edition
@@ -175,32 +165,22 @@ fn do_overlap(editions: Editions, edition: Edition) -> bool
     false
 }
 
-// Loads a record behind the others. Refuses 22 for a ninth one, for one out of its ranges, for one that ends before it
-// begins, and for one that overlaps a loaded one; then the list stays as it was. Any list and any record have an
-// answer.
-pub fn load(editions: Editions, edition: Edition) -> Loaded
-    ensures { (said_of_loading result.answer ≡ load_answer editions edition) × (result.editions ≡ loaded_with editions edition) }
-{
-    let n = editions.count as usize;
-    if EDITIONS_MOST <= n {
-        return Loaded {
-            answer: Loading::Refused,
-            editions,
-        };
-    }
-    if bad_edition(edition) | do_overlap(editions, edition) {
-        return Loaded {
-            answer: Loading::Refused,
-            editions,
-        };
-    }
-    let mut records = editions.records;
-    records[n] = edition;
-    Loaded {
-        answer: Loading::Taken,
-        editions: Editions {
-            count: editions.count + 1,
-            records,
-        },
+impl Editions {
+    // Loads a record behind the others. Refuses 22 for a ninth one, for one out of its ranges, for one that ends before
+    // it begins, and for one that overlaps a loaded one; then the list stays as it was. Any list and any record have an
+    // answer.
+    pub fn load(&mut self, edition: Edition) -> Result<(), NotLoaded>
+        ensures { (said_of_loading result ≡ load_answer self.old edition) × (self.new ≡ loaded_with self.old edition) }
+    {
+        let n = self.count as usize;
+        if EDITIONS_MOST <= n {
+            return Err(NotLoaded);
+        }
+        if bad_edition(edition) | do_overlap(*self, edition) {
+            return Err(NotLoaded);
+        }
+        self.records[n] = edition;
+        self.count += 1;
+        Ok(())
     }
 }

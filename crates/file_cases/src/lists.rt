@@ -37,8 +37,7 @@ pub(crate) fn list<R: Read>(input: &mut R) -> io::Result<Editions> {
     let count = byte(input)?;
     let mut list = editions::none();
     for k in 0..count {
-        let loaded = editions::load(list, edition(input)?);
-        list = loaded.editions;
+        let _ = list.load(edition(input)?);
     }
     Ok(list)
 }

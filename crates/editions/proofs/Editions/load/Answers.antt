@@ -1,10 +1,10 @@
--- `editions::load` meets its contract, a law for each return.
+-- `Editions::load` meets its contract, a law for each return.
 -- Assumes nothing.
 use mathlib.Core.Path.{◌≡◌}
 use mathlib.Core.Bool.{Bool, ◌||◌}
 use native.Mathlib.Omega.{arith}
 use Rattle.editions.proofs.Refused.{said_full, said_refused, said_loaded}
-use Rattle.editions.proofs.load.Goals as goal
+use Rattle.editions.proofs.Editions.load.Goals as goal
 
 -- what both tests answered, as the definitions have it
 both : {a b p q r : Bool} → p ≡ a → q ≡ b → (p || q) ≡ r → (a || b) ≡ r
