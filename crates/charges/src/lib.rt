@@ -2,14 +2,14 @@
 // specs/Charges and specs/Decision. Rules 6.6 and 7.1 to 7.5.
 #![tactic(auto)]
 
-ghost use Rattle.std.specs.Prelude.{◌≡◌, ◌≤◌, max};
-ghost use Rattle.tariff.specs.Prices.{LegalRow, LegalPrices};
+ghost use Rattle.std.specs.Prelude.{◌≡◌, ◌≤◌, true, max, MatchResult};
+ghost use Rattle.tariff.specs.Prices.{prices_out, LegalRow, LegalPrices};
 ghost use Rattle.tariff.specs.Charges.{few_hours, row_of, charge_for, charge_most, general, reduced, floor_of};
 ghost use Rattle.tariff.specs.Answers.{said_of_general, said_of_charges};
 ghost use Rattle.tariff.specs.Decision.{general_answer, charges_answer};
 
 use answers::Edition;
-use tariff::{BothCharges, Figures, General, Prices, Rates, Row, TwoCharges};
+use tariff::{Figures, PricesOut, Rates, Row, TwoCharges};
 
 // An hour has four quarters: hours of use are held against a sum of readings (Rule 6.6).
 const HOUR_QUARTERS: u64 = 4;
@@ -27,51 +27,11 @@ fn charge_for(power: u32, row: Row, sum: u64) -> u64
     requires { LegalRow row }
     ensures { result ≡ charge_for power row sum }
 {
-    let l = row.capacity as u64;
-    let a = row.energy as u64;
-    sum / CENT_PARTS * a
-        + (CAPACITY_PARTS * (power as u64) * l + sum % CENT_PARTS * a + HALF_CENT) / CENT_PARTS
-}
-
-// Are there fewer hours of use than the edition's? There is no division, since M may be 0: then the high row applies.
-fn few_hours(edition: Edition, figures: Figures) -> bool
-    ensures { result ≡ few_hours edition figures }
-{
-    figures.sum < HOUR_QUARTERS * (edition.hours as u64) * (figures.peak as u64)
-}
-
-// The low row where `low` is set, else the high row.
-fn row_of(prices: Prices, low: bool) -> Row
-    requires { LegalPrices prices }
-    ensures { (result ≡ row_of prices low) × LegalRow result }
-{
-    if low {
-        let row = prices.few;
-        return row;
-    }
-    let row = prices.many;
-    row
-}
-
-// The general charge: for M. It never goes by the option, and the reduction is measured from it.
-fn general_cents(edition: Edition, figures: Figures, rates: Rates) -> u64
-    requires { LegalPrices rates.prices }
-    ensures { result ≡ general edition figures rates }
-{
-    let prices = rates.prices;
-    let row = row_of(prices, few_hours(edition, figures));
-    charge_for(figures.peak, row, figures.sum)
-}
-
-// The reduced charge: for H, in the same row. With the option and fewer hours of use than the edition's it is the high
-// row.
-fn reduced_cents(edition: Edition, figures: Figures, rates: Rates) -> u64
-    requires { LegalPrices rates.prices }
-    ensures { result ≡ reduced edition figures rates }
-{
-    let prices = rates.prices;
-    let row = row_of(prices, few_hours(edition, figures) & !rates.option);
-    charge_for(figures.high, row, figures.sum)
+    let watts = u64::from(power);
+    let capacity = u64::from(row.capacity);
+    let energy = u64::from(row.energy);
+    sum / CENT_PARTS * energy
+        + (CAPACITY_PARTS * watts * capacity + sum % CENT_PARTS * energy + HALF_CENT) / CENT_PARTS
 }
 
 // The larger of the reduced charge r and the floor, a percentage of the general charge g. It goes up to a whole cent:
@@ -81,33 +41,98 @@ fn with_floor(edition: Edition, r: u64, g: u64) -> u64
     requires { g ≤ charge_most }
     ensures { result ≡ max r (floor_of edition g) }
 {
-    let percent = edition.floor as u64;
-    let f = g / answers::WHOLE_SHARE * percent
+    let percent = u64::from(edition.floor);
+    let floor = g / answers::WHOLE_SHARE * percent
         + (g % answers::WHOLE_SHARE * percent + (answers::WHOLE_SHARE - 1)) / answers::WHOLE_SHARE;
-    if r < f { f } else { r }
+    r.max(floor)
+}
+
+// A year's figures and what they are charged by, with prices within their limits: no charge of it is too large.
+#[derive(Clone, Copy)]
+struct Priced {
+    edition: Edition,
+    figures: Figures,
+    rates: Rates,
+    ghost legal: { LegalPrices rates.prices },
+}
+
+impl Priced {
+    // A price above its limit is refused (6). Any edition, any figures and any rates have an answer.
+    fn new(edition: Edition, figures: Figures, rates: Rates) -> Result<Priced, PricesOut>
+        ensures { MatchResult result
+            (λ p. (p.edition ≡ edition) × (p.figures ≡ figures) × (p.rates ≡ rates))
+            (λ _. prices_out rates.prices ≡ true) }
+    {
+        if price_limits::prices_out(rates.prices) {
+            return Err(PricesOut);
+        }
+        Ok(Priced {
+            edition,
+            figures,
+            rates,
+        })
+    }
+
+    // Are there fewer hours of use than the edition's? There is no division, since M may be 0: then the high row
+    // applies.
+    fn few_hours(self) -> bool
+        ensures { result ≡ few_hours self.edition self.figures }
+    {
+        let hours = HOUR_QUARTERS * u64::from(self.edition.hours);
+        self.figures.sum < hours * u64::from(self.figures.peak)
+    }
+
+    // The low row where `low` is set, else the high row.
+    fn row(self, low: bool) -> Row
+        ensures { (result ≡ row_of self.rates.prices low) × LegalRow result }
+    {
+        if low {
+            self.rates.prices.few
+        } else {
+            self.rates.prices.many
+        }
+    }
+
+    // The general charge in cent: for M. It never goes by the option, and the reduction is measured from it.
+    fn general(self) -> u64
+        ensures { result ≡ general self.edition self.figures self.rates }
+    {
+        charge_for(
+            self.figures.peak,
+            self.row(self.few_hours()),
+            self.figures.sum,
+        )
+    }
+
+    // The reduced charge in cent: for H, in the same row. With the option and fewer hours of use than the edition's it
+    // is the high row.
+    fn reduced(self) -> u64
+        ensures { result ≡ reduced self.edition self.figures self.rates }
+    {
+        let row = self.row(self.few_hours() & !self.rates.option);
+        charge_for(self.figures.high, row, self.figures.sum)
+    }
 }
 
 // The general charge by an edition, or 6. Any edition, any figures and any rates have an answer.
-pub fn general_charge(edition: Edition, figures: Figures, rates: Rates) -> General
+// Kept: three parameters, here and in `both_charges`, as in the decision; inside, `Priced` holds them.
+pub fn general_charge(edition: Edition, figures: Figures, rates: Rates) -> Result<u64, PricesOut>
     ensures { said_of_general result ≡ general_answer edition figures rates }
 {
-    let prices = rates.prices;
-    if price_limits::prices_out(prices) {
-        return General::PriceOut;
-    }
-    General::Cents(general_cents(edition, figures, rates))
+    Ok(Priced::new(edition, figures, rates)?.general())
 }
 
 // The charge c beside the general charge g by an edition, or 6. The decision needs both and asks once. Any edition, any
 // figures and any rates have an answer.
-pub fn both_charges(edition: Edition, figures: Figures, rates: Rates) -> BothCharges
+pub fn both_charges(
+    edition: Edition,
+    figures: Figures,
+    rates: Rates,
+) -> Result<TwoCharges, PricesOut>
     ensures { said_of_charges result ≡ charges_answer edition figures rates }
 {
-    let prices = rates.prices;
-    if price_limits::prices_out(prices) {
-        return BothCharges::PriceOut;
-    }
-    let general = general_cents(edition, figures, rates);
-    let charge = with_floor(edition, reduced_cents(edition, figures, rates), general);
-    BothCharges::Cents(TwoCharges { charge, general })
+    let priced = Priced::new(edition, figures, rates)?;
+    let general = priced.general();
+    let charge = with_floor(edition, priced.reduced(), general);
+    Ok(TwoCharges { charge, general })
 }

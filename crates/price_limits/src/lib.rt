@@ -17,7 +17,5 @@ fn row_out(row: Row) -> bool
 pub fn prices_out(prices: Prices) -> bool
     ensures { result ≡ prices_out prices }
 {
-    let low = prices.few;
-    let high = prices.many;
-    row_out(low) | row_out(high)
+    row_out(prices.few) | row_out(prices.many)
 }

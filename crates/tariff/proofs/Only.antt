@@ -5,14 +5,13 @@ use mathlib.Core.Bool.{cond}
 use Prim.Native.Nat.{ℕ, ◌+◌}
 use lib.Dec.{eqb}
 use lib.ListN.{length, get_or}
+use Rattle.std.proofs.Common.{Result, Ok, Err}
 use Rattle.answers.specs.Said.{Said}
 use Rattle.answers.proofs.Laws.{one_answer}
 use Rattle.tariff.specs.declared.Plain.{Plain}
 use Rattle.tariff.specs.declared.Peaks.{Peaks}
-use Rattle.tariff.specs.declared.General.{General}
-use Rattle.tariff.specs.declared.General.TheVariants.{Cents, PriceOut}
-use Rattle.tariff.specs.declared.BothCharges.{BothCharges}
-use Rattle.tariff.specs.declared.BothCharges.TheVariants.{Cents, PriceOut}
+use Rattle.tariff.specs.declared.TwoCharges.{TwoCharges}
+use Rattle.tariff.specs.declared.PricesOut.{PricesOut}
 use Rattle.tariff.specs.declared.Decision.{Decision}
 use Rattle.tariff.specs.declared.Decision.TheVariants.{Accepted, Eligible, Taken, YearOut, LevelOut, BadHolidays, WrongLength, BadReading, PriceOut, NoWindow, ShareShort, MoveShort, ReductionShort, Malformed, DayOut}
 use Rattle.tariff.specs.Answers.{said_of, said_of_general, said_of_charges}
@@ -79,22 +78,25 @@ pub decision_only : {x : Said} {r s : Decision} → said_of r ≡ x → said_of 
 decision_only = back_again said_of decision_back back
 
 -- nor one of the calls for the charges alone
-abbrev general_back : Said → General
-general_back a = cond (eqb a.number 0) (Cents (figure a 0)) PriceOut
+abbrev refused_price : PricesOut
+refused_price = record {}
 
-general_back_law : (d : General) → general_back (said_of_general d) ≡ d
-general_back_law (Cents g) = refl
-general_back_law PriceOut = refl
+abbrev general_back : Said → Result ℕ PricesOut
+general_back a = cond (eqb a.number 0) (Ok (figure a 0)) (Err refused_price)
 
-pub general_only : {x : Said} {r s : General} → said_of_general r ≡ x → said_of_general s ≡ x → r ≡ s
+general_back_law : (d : Result ℕ PricesOut) → general_back (said_of_general d) ≡ d
+general_back_law (Ok g) = refl
+general_back_law (Err _) = refl
+
+pub general_only : {x : Said} {r s : Result ℕ PricesOut} → said_of_general r ≡ x → said_of_general s ≡ x → r ≡ s
 general_only = back_again said_of_general general_back general_back_law
 
-abbrev charges_back : Said → BothCharges
-charges_back a = cond (eqb a.number 0) (Cents (record { charge = figure a 0; general = figure a 1 })) PriceOut
+abbrev charges_back : Said → Result TwoCharges PricesOut
+charges_back a = cond (eqb a.number 0) (Ok (record { charge = figure a 0; general = figure a 1 })) (Err refused_price)
 
-charges_back_law : (d : BothCharges) → charges_back (said_of_charges d) ≡ d
-charges_back_law (Cents a) = refl
-charges_back_law PriceOut = refl
+charges_back_law : (d : Result TwoCharges PricesOut) → charges_back (said_of_charges d) ≡ d
+charges_back_law (Ok a) = refl
+charges_back_law (Err _) = refl
 
-pub charges_only : {x : Said} {r s : BothCharges} → said_of_charges r ≡ x → said_of_charges s ≡ x → r ≡ s
+pub charges_only : {x : Said} {r s : Result TwoCharges PricesOut} → said_of_charges r ≡ x → said_of_charges s ≡ x → r ≡ s
 charges_only = back_again said_of_charges charges_back charges_back_law

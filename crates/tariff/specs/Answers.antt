@@ -1,17 +1,14 @@
 -- What each number of a decision says: the figures that follow it, in the order of the table of answers, and the number
 -- of each case of the code's answer. M is `peak` and H is `high`, both in W; S is `sum`; H's place is `day`, from 1,
 -- and `quarter`, from 0. Charges are in cent. Rule 8.1.
-use Rattle.std.specs.Prelude.{true, List, [], ◌∷◌, ◌++◌, ℕ, get_or}
+use Rattle.std.specs.Prelude.{true, List, [], ◌∷◌, ◌++◌, ℕ, get_or, Result, Ok, Err}
 use Rattle.answers.specs.Said.{Said, only, bad_place, yes_no}
 use Rattle.tariff.specs.declared.Figures.{Figures}
 use Rattle.tariff.specs.declared.Plain.{Plain}
 use Rattle.tariff.specs.declared.Peaks.{Peaks}
 use Rattle.tariff.specs.declared.Charged.{Charged}
 use Rattle.tariff.specs.declared.TwoCharges.{TwoCharges}
-use Rattle.tariff.specs.declared.General.{General}
-use Rattle.tariff.specs.declared.General.TheVariants.{Cents, PriceOut}
-use Rattle.tariff.specs.declared.BothCharges.{BothCharges}
-use Rattle.tariff.specs.declared.BothCharges.TheVariants.{Cents, PriceOut}
+use Rattle.tariff.specs.declared.PricesOut.{PricesOut}
 use Rattle.tariff.specs.declared.Decision.{Decision}
 use Rattle.tariff.specs.declared.Decision.TheVariants.{Accepted, Eligible, Taken, YearOut, LevelOut, BadHolidays, WrongLength, BadReading, PriceOut, NoWindow, ShareShort, MoveShort, ReductionShort, Malformed, DayOut}
 
@@ -62,13 +59,13 @@ with_general g = record { number = 0; figures = g ∷ [] }
 abbrev pub with_charges : TwoCharges → Said
 with_charges a = record { number = 0; figures = a.charge ∷ a.general ∷ [] }
 
-abbrev pub said_of_general : General → Said
-said_of_general (Cents g) = with_general g
-said_of_general PriceOut = only 6
+abbrev pub said_of_general : Result ℕ PricesOut → Said
+said_of_general (Ok g) = with_general g
+said_of_general (Err _) = only 6
 
-abbrev pub said_of_charges : BothCharges → Said
-said_of_charges (Cents a) = with_charges a
-said_of_charges PriceOut = only 6
+abbrev pub said_of_charges : Result TwoCharges PricesOut → Said
+said_of_charges (Ok a) = with_charges a
+said_of_charges (Err _) = only 6
 
 -- the figures of an answer, taken from those of the year, f, its general charge g and its charge c
 abbrev pub plain_of : Figures → ℕ → Plain

@@ -37,6 +37,8 @@ pub struct Rates {
 // A year's figures: the annual peak M, in W; the sum S of all readings; whether the year has an in-window quarter,
 // which an H of 0 does not tell; the in-window peak H, in W, and its place, the day from 1 and the quarter from 0. Day
 // 0 is no place. Rules 6.3 to 6.5.
+// Kept: a flag beside H and its place, no Option. Forged figures may have an H and no such quarter, and both charges go
+// by that H: each such record has an answer of its own, so none may be lost.
 #[derive(Clone, Copy)]
 pub struct Figures {
     pub peak: u32,
@@ -88,23 +90,14 @@ pub struct TwoCharges {
     pub general: u64,
 }
 
-// What the call for the general charge answers: 0 with the cents, or 6.
-#[derive(Clone, Copy)]
-pub enum General {
-    Cents(u64),
-    PriceOut,
-}
-
-// What the call for both charges answers: 0 with the cents, or 6.
-#[derive(Clone, Copy)]
-pub enum BothCharges {
-    Cents(TwoCharges),
-    PriceOut,
-}
+// A price of the list is above its limit: what the calls for the charges alone refuse, 6, and else they give the cents.
+#[derive(Clone, Copy, PartialEq, Eq)]
+pub struct PricesOut;
 
 // What the decision answers, and the calls around it in the rooms above: 0 with the charge, 0 with yes, 0 of an opening
 // or a day that is taken, 1, 2, 3, 4, 5 with its place, 6, 8, 9, 10, 11, 12, 13. Proofs name a case by its place in
 // this list, from 0: so a new case stands last, and no other moves.
+// Kept: one enum and no Result. Most of what is no 0 has figures to pay by, and an answer's cases hold its figures.
 #[derive(Clone, Copy)]
 pub enum Decision {
     Accepted(Charged),

@@ -1,36 +1,30 @@
 -- `charges::both_charges` meets its contract: 6, or the larger of reduced charge and floor beside the general charge.
 -- Assumes nothing.
-use mathlib.Core.Path.{◌≡◌, sym, ◌∙◌}
-use mathlib.Core.Bool.{false}
-use Rattle.tariff.specs.Prices.{prices_out}
+use mathlib.Core.Path.{ap, ◌∙◌}
+use Rattle.std.proofs.lemmas.Result.{err_from_is_err_and}
+use Rattle.tariff.specs.Charges.{general, reduced}
+use Rattle.tariff.specs.Answers.{said_of_charges}
 use Rattle.tariff.proofs.Limits.{prices_legal}
 use Rattle.tariff.proofs.Charges.{general_most, charge_of}
 use Rattle.tariff.proofs.Answered.{charges_out, charges_in}
 use borrow.Author.Rules.{rules}
-use Rattle.charges.proofs.both_charges.Goals.{Else-prices_out}
 use Rattle.charges.proofs.both_charges.Goals as goal
 
--- what is known past the test
-prices_at : (e : Else-prices_out) → prices_out e.args.rates.prices ≡ false
-prices_at e = sym e.prices_out.ensures ∙ e.if-prices_out.false
+pub returns-in_err-priced : goal.returns-in_err-priced
+returns-in_err-priced c =
+    ap said_of_charges (err_from_is_err_and _ c.from_residual.ensures.1).1 ∙ charges_out _ _ _ c.in_err-priced.ensures
 
 pub with_floor-charge-requires : goal.with_floor-charge-requires
 with_floor-charge-requires c =
-    rw c.general_cents-general.ensures
-    (general_most _ _ _ ((prices_legal _).0 (prices_at (goal.at.with_floor-charge-requires c).Else-prices_out)) (search rules) (search rules))
+    rw c.general-general.ensures (general_most _ _ _ c.in_ok-priced.priced.legal (search rules) (search rules))
 
 pub returns : goal.returns
 returns c =
+    let known = c.in_ok-priced.ensures in
     let a = c.args in
-    let own = charge_of _ a.figures a.rates c.reduced_cents.ensures c.general_cents-general.ensures in
-    charges_in _ a.figures a.rates (prices_at (goal.at.returns c).Else-prices_out)
-    (λ i. record { charge = (c.with_floor-charge.ensures ∙ own) i; general = c.general_cents-general.ensures i })
-
-pub returns-then-prices_out : goal.returns-then-prices_out
-returns-then-prices_out c = charges_out _ _ _ (sym c.prices_out.ensures ∙ c.if-prices_out.true)
-
-pub general_cents-general-requires : goal.general_cents-general-requires
-general_cents-general-requires c = (prices_legal _).0 (prices_at c)
-
-pub reduced_cents-requires : goal.reduced_cents-requires
-reduced_cents-requires c = (prices_legal _).0 (prices_at (goal.at.reduced_cents-requires c).Else-prices_out)
+    let general_is = c.general-general.ensures ∙ (λ i. general (known.0 i) (known.1 i) (known.2 i)) in
+    let reduced_is = c.reduced.ensures ∙ (λ i. reduced (known.0 i) (known.1 i) (known.2 i)) in
+    let legal = rw known.2 at c.in_ok-priced.priced.legal in
+    let own = charge_of a.edition a.figures a.rates reduced_is general_is in
+    charges_in a.edition a.figures a.rates ((prices_legal _).1 legal)
+    (λ i. record { charge = (c.with_floor-charge.ensures ∙ own) i; general = general_is i })
