@@ -14,13 +14,13 @@
 use super::input::ROOM;
 use super::{input, lists, output, series};
 use editions::Editions;
-use grid::GridAnswer;
+use grid::GridRefusal;
 use grid_days::Grid;
 use readings::Run;
 use std::io;
 use std::io::Read;
 
-fn write_answer(rt: &impl Print, call: u8, answer: GridAnswer) -> io::Result<()> {
+fn write_answer(rt: &impl Print, call: u8, answer: Result<(), GridRefusal>) -> io::Result<()> {
     output::letter(rt, call)?;
     output::answer(rt, grid_numbers::of_answer(answer))?;
     output::letter(rt, b'\n')
@@ -30,7 +30,7 @@ fn write_answer(rt: &impl Print, call: u8, answer: GridAnswer) -> io::Result<()>
 fn write_sheet(
     rt: &impl Print,
     call: u8,
-    answer: GridAnswer,
+    answer: Result<(), GridRefusal>,
     buffer: [u8; ROOM],
 ) -> io::Result<()> {
     output::letter(rt, call)?;
@@ -65,7 +65,7 @@ fn opening<R: Read>(rt: &impl Print, input: &mut R, editions: Editions) -> io::R
     Ok(opened.grid)
 }
 
-fn write_days(rt: &impl Print, taken: u16, answer: GridAnswer) -> io::Result<()> {
+fn write_days(rt: &impl Print, taken: u16, answer: Result<(), GridRefusal>) -> io::Result<()> {
     output::letter(rt, b'D')?;
     output::next(rt, taken as u64)?;
     output::answer(rt, grid_numbers::of_answer(answer))?;
@@ -88,12 +88,12 @@ fn days<R: Read>(
         let stepped = state.day(readings::day_part(editions, run, series, first + k as usize));
         let answer = stepped.answer;
         state = stepped.grid;
-        let GridAnswer::Done = answer else {
+        if answer.is_err() {
             write_days(rt, k, answer)?;
             return Ok(state);
-        };
+        }
     }
-    write_days(rt, count, GridAnswer::Done)?;
+    write_days(rt, count, Ok(()))?;
     Ok(state)
 }
 

@@ -16,10 +16,9 @@ use editions::Editions;
 use readings::Run;
 use sheet::{Sheet, WriteRefusal};
 
-// What each call answers: 0, 14, 1, 2, 4, 5 with its place, 7, 12, 13.
-#[derive(Clone, Copy)]
-pub enum GridAnswer {
-    Done,
+// What a call refuses: 14, 1, 2, 4, 5 with its place, 7, 12, 13.
+#[derive(Clone, Copy, PartialEq, Eq)]
+pub enum GridRefusal {
     Short,
     YearOut,
     LevelOut,
@@ -30,15 +29,15 @@ pub enum GridAnswer {
     DayOut,
 }
 
-fn as_grid_answer(written: Result<(), WriteRefusal>) -> GridAnswer
+fn as_grid_answer(written: Result<(), WriteRefusal>) -> Result<(), GridRefusal>
     ensures { said_of_grid result ≡ said_of_written written }
 {
     match written {
-        Ok(()) => GridAnswer::Done,
-        Err(WriteRefusal::Short) => GridAnswer::Short,
-        Err(WriteRefusal::YearOut) => GridAnswer::YearOut,
-        Err(WriteRefusal::LevelOut) => GridAnswer::LevelOut,
-        Err(WriteRefusal::Malformed) => GridAnswer::Malformed,
+        Ok(()) => Ok(()),
+        Err(WriteRefusal::Short) => Err(GridRefusal::Short),
+        Err(WriteRefusal::YearOut) => Err(GridRefusal::YearOut),
+        Err(WriteRefusal::LevelOut) => Err(GridRefusal::LevelOut),
+        Err(WriteRefusal::Malformed) => Err(GridRefusal::Malformed),
     }
 }
 
@@ -87,13 +86,13 @@ fn finish_by(
     curves: &[[u32; answers::DAY_QUARTERS]; sheet::SEASONS],
     peak: u32,
     out: &mut [u8],
-) -> GridAnswer
+) -> Result<(), GridRefusal>
     ensures { (flat : List ℕ) → curves.now ≡ curves_of flat → peak ≡ highest_of flat
         → Gives result (finish_answer edition year level flat (length out.old))
         out.new (finished edition year level flat out.old) }
 {
     if peak == 0 {
-        return GridAnswer::NoPeak;
+        return Err(GridRefusal::NoPeak);
     }
     let windows = flat_windows(windows::chosen(edition, peak, curves));
     as_grid_answer(sheet_write::write_by(
@@ -115,7 +114,7 @@ pub fn finish(
     level: u8,
     curves: &[u32; sheet::WINDOW_PLACES],
     out: &mut [u8],
-) -> GridAnswer
+) -> Result<(), GridRefusal>
     ensures { Gives result (finish_answer edition year level curves.now (length out.old))
         out.new (finished edition year level curves.now out.old) }
 {
@@ -125,31 +124,34 @@ pub fn finish(
 
 // The windows of a whole series by an edition, as a sheet in a lent buffer. Refuses 14, 1, 2, 4, 5, 7 in this order,
 // and then changes no byte.
-fn windows_by(edition: Edition, year: u16, level: u8, series: &[u32], out: &mut [u8]) -> GridAnswer
+fn windows_by(
+    edition: Edition,
+    year: u16,
+    level: u8,
+    series: &[u32],
+    out: &mut [u8],
+) -> Result<(), GridRefusal>
     ensures { Gives result (windows_answer edition year level series.now (length out.old))
         out.new (windows_buffer edition year level series.now out.old) }
 {
     if out.len() < sheet::SHEET_SIZE {
-        return GridAnswer::Short;
+        return Err(GridRefusal::Short);
     }
     if answers::lacks_year(edition, year) {
-        return GridAnswer::YearOut;
+        return Err(GridRefusal::YearOut);
     }
     if answers::level_out(level) {
-        return GridAnswer::LevelOut;
+        return Err(GridRefusal::LevelOut);
     }
     let run = Run::Period(year);
     if series.len() != readings::run_readings(run) {
-        return GridAnswer::WrongLength;
+        return Err(GridRefusal::WrongLength);
     }
     let curves = grid_curves::collect(year, series);
     let peak = peaks::highest(&curves);
     if answers::GRID_MOST < peak {
-        return GridAnswer::BadReading(legal_readings::first_illegal(
-            run,
-            series,
-            answers::GRID_MOST,
-        ));
+        let place = legal_readings::first_illegal(run, series, answers::GRID_MOST);
+        return Err(GridRefusal::BadReading(place));
     }
     let seasons = by_season(&curves);
     finish_by(edition, year, level, &seasons, peak, out)
@@ -163,7 +165,7 @@ pub fn windows(
     level: u8,
     series: &[u32],
     out: &mut [u8],
-) -> GridAnswer
+) -> Result<(), GridRefusal>
     ensures { Gives result (windows_answer (edition_of editions year) year level series.now (length out.old))
         out.new (windows_buffer (edition_of editions year) year level series.now out.old) }
 {

@@ -23,8 +23,10 @@ use Rattle.readings.proofs.Days.{next_exactly}
 use Rattle.sheet.specs.Bytes.{sheet_size}
 use Rattle.grid_curves.specs.Curves.{merged}
 use Rattle.grid_days.specs.declared.Grid.{Grid}
-use Rattle.grid.specs.declared.GridAnswer.{GridAnswer}
-use Rattle.grid.specs.declared.GridAnswer.TheVariants.{Done, Short, YearOut, LevelOut, WrongLength, BadReading, NoPeak, Malformed, DayOut}
+use Rattle.std.specs.Prelude.{Result, Ok, Err, is_ok, ⊤}
+use Rattle.ranges.proofs.Bools.{clash}
+use Rattle.grid.specs.declared.GridRefusal.{GridRefusal}
+use Rattle.grid.specs.declared.GridRefusal.TheVariants.{Short, YearOut, LevelOut, WrongLength, BadReading, NoPeak, Malformed, DayOut}
 use Rattle.grid.specs.Answers.{said_of_grid, finish_answer, finished, grid_open_answer}
 use Rattle.grid_days.specs.Days.{fresh_grid, shut_grid, open_grid, grid_day_answer, grid_taken, day_grid, day_curves, grid_close_answer, grid_close_buffer}
 use Rattle.grid.proofs.Answered.{open_year, open_level, open_done, finished_again}
@@ -41,17 +43,24 @@ module _ (ed : Edition) (y level : ℕ) where
     pub opened_done : level_out level ≡ false → (only 0 ≡ grid_open_answer ed y level) × (fresh_grid ed y level ≡ open_grid ed y level)
     opened_done e = done_hands (only 0) (fresh_grid ed y level) shut_grid (open_done ed y level a e) refl
 
--- every answer but `Done` is a refusal
-pub refuses : (a : GridAnswer) → (a ≡ Done → ⊥) → eqb (said_of_grid a).number 0 ≡ false
-refuses Done n = absurd (n refl)
-refuses Short n = refl
-refuses YearOut n = refl
-refuses LevelOut n = refl
-refuses WrongLength n = refl
-refuses (BadReading place) n = refl
-refuses NoPeak n = refl
-refuses Malformed n = refl
-refuses DayOut n = refl
+-- no refusal is 0
+pub refuses : (e : GridRefusal) → eqb (said_of_grid (Err e)).number 0 ≡ false
+refuses Short = refl
+refuses YearOut = refl
+refuses LevelOut = refl
+refuses WrongLength = refl
+refuses (BadReading place) = refl
+refuses NoPeak = refl
+refuses Malformed = refl
+refuses DayOut = refl
+
+pub answered : (r : Result ⊤ GridRefusal) → is_ok r ≡ true → only 0 ≡ said_of_grid r
+answered (Ok done) e = refl
+answered (Err refusal) e = absurd (clash e refl)
+
+pub refused : (r : Result ⊤ GridRefusal) → is_ok r ≡ false → eqb (said_of_grid r).number 0 ≡ false
+refused (Ok done) e = absurd (clash refl e)
+refused (Err refusal) e = refuses refusal
 
 -- a day that is taken is one of the period's
 pub day_left : (y seen : ℕ) (day : List ℕ) → only 0 ≡ next_answer (Period y) grid_most seen day → seen < period_days y

@@ -14,7 +14,7 @@ ghost use Rattle.grid_days.specs.Days.{open_grid, shut_grid, grid_day_answer, da
 
 use answers::{Edition, Place};
 use editions::Editions;
-use grid::GridAnswer;
+use grid::GridRefusal;
 use readings::Run;
 
 // A series that is given day by day: the edition of its year, the days taken so far, and the curves of their readings,
@@ -31,28 +31,28 @@ pub struct Grid {
 // An answer, and the next state beside it.
 #[derive(Clone, Copy)]
 pub struct Stepped {
-    pub answer: GridAnswer,
+    pub answer: Result<(), GridRefusal>,
     pub grid: Grid,
 }
 
 // What a day is answered where so many days are taken: 13, then 4, then 5.
-fn day_answer(year: u16, seen: u16, day: &[u32]) -> GridAnswer
+fn day_answer(year: u16, seen: u16, day: &[u32]) -> Result<(), GridRefusal>
     ensures { said_of_grid result ≡ next_answer (Period year) grid_most seen day.now }
 {
     if periods::period_days(year) <= seen {
-        return GridAnswer::DayOut;
+        return Err(GridRefusal::DayOut);
     }
     if day.len() != readings::day_len(Run::Period(year), seen) {
-        return GridAnswer::WrongLength;
+        return Err(GridRefusal::WrongLength);
     }
     let first = legal_readings::first_above(day, answers::GRID_MOST);
     if first < day.len() {
-        return GridAnswer::BadReading(Place {
+        return Err(GridRefusal::BadReading(Place {
             day: seen + 1,
             position: first as u16,
-        });
+        }));
     }
-    GridAnswer::Done
+    Ok(())
 }
 
 // One day more, laid over lent curves where so many days are taken: for a host that keeps the curves itself. Refuses
@@ -62,16 +62,13 @@ pub fn take_day(
     year: u16,
     seen: u16,
     day: &[u32],
-) -> GridAnswer
+) -> Result<(), GridRefusal>
     ensures { Gives result (next_answer (Period year) grid_most seen day.now)
         curves.new (day_curves year curves.old seen day.now) }
 {
-    let answer = day_answer(year, seen, day);
-    let GridAnswer::Done = answer else {
-        return answer;
-    };
+    day_answer(year, seen, day)?;
     grid_curves::lay_day(&mut *curves, year, seen, day);
-    answer
+    Ok(())
 }
 
 impl Grid {
@@ -82,18 +79,18 @@ impl Grid {
     {
         if answers::lacks_year(edition, year) {
             return Stepped {
-                answer: GridAnswer::YearOut,
+                answer: Err(GridRefusal::YearOut),
                 grid: Grid::shut(),
             };
         }
         if answers::level_out(level) {
             return Stepped {
-                answer: GridAnswer::LevelOut,
+                answer: Err(GridRefusal::LevelOut),
                 grid: Grid::shut(),
             };
         }
         Stepped {
-            answer: GridAnswer::Done,
+            answer: Ok(()),
             grid: Grid {
                 edition,
                 year,
@@ -133,26 +130,25 @@ impl Grid {
         let seen = self.seen;
         let mut grid = self;
         let answer = take_day(&mut grid.curves, year, seen, day);
-        let GridAnswer::Done = answer else {
-            return Stepped { answer, grid };
-        };
-        grid.seen = seen + 1;
+        if answer.is_ok() {
+            grid.seen = seen + 1;
+        }
         Stepped { answer, grid }
     }
 
     // The windows of the days taken, as a sheet in a lent buffer. Refuses 14, 13, 7 in this order, and then changes no
     // byte.
-    pub fn close(self, out: &mut [u8]) -> GridAnswer
+    pub fn close(self, out: &mut [u8]) -> Result<(), GridRefusal>
         ensures { Gives result (grid_close_answer self (length out.old))
             out.new (grid_close_buffer self out.old) }
     {
         let edition = self.edition;
         let curves = self.curves;
         if out.len() < sheet::SHEET_SIZE {
-            return GridAnswer::Short;
+            return Err(GridRefusal::Short);
         }
         if self.seen != periods::period_days(self.year) {
-            return GridAnswer::DayOut;
+            return Err(GridRefusal::DayOut);
         }
         grid::finish(edition, self.year, self.level, &curves, out)
     }

@@ -9,8 +9,9 @@ use lib.Dec.{eqb}
 use Rattle.answers.specs.Said.{Said}
 use Rattle.answers.specs.declared.Place.{Place}
 use Rattle.grid_days.specs.declared.Grid.{Grid}
-use Rattle.grid.specs.declared.GridAnswer.{GridAnswer}
-use Rattle.grid.specs.declared.GridAnswer.TheVariants.{Done, Short, YearOut, LevelOut, WrongLength, BadReading, NoPeak, Malformed, DayOut}
+use Rattle.std.specs.Prelude.{Err}
+use Rattle.grid.specs.declared.GridRefusal.{GridRefusal}
+use Rattle.grid.specs.declared.GridRefusal.TheVariants.{Short, YearOut, LevelOut, WrongLength, BadReading, NoPeak, Malformed, DayOut}
 use Rattle.grid.specs.Answers.{said_of_grid}
 use Rattle.grid_days.specs.Days.{grid_day_answer, day_grid}
 use Rattle.fields.specs.declared.Stage.{Stage}
@@ -35,10 +36,12 @@ module _ (s : GridFile) (day : List ℕ) where
   pub day_given_law : with (day_grid s.grid day) (day_stage said) ≡ day_given grid_reader s day
   day_given_law = given_staged grid_reader s day (with (day_grid s.grid day)) (λ z. refl) (λ z i. with (kept z i) (stage_of said))
 
--- an answer that is not 5
-pub not_five : (a : GridAnswer) → ((place : Place) → a ≡ BadReading place → ⊥) → Refused (said_of_grid a).number ≡ stage_of (said_of_grid a)
+-- a refusal that is not 5
+pub not_five :
+    (e : GridRefusal)
+    → ((place : Place) → e ≡ BadReading place → ⊥)
+    → Refused (said_of_grid (Err e)).number ≡ day_stage (said_of_grid (Err e))
 unfolding stage_of
-not_five Done h = refl
 not_five Short h = refl
 not_five YearOut h = refl
 not_five LevelOut h = refl

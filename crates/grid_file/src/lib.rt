@@ -16,7 +16,7 @@ ghost use Rattle.grid_file.specs.GridMachine.{grid_start, grid_ended, grid_reade
 
 use editions::Editions;
 use fields::{Span, Stage};
-use grid::GridAnswer;
+use grid::GridRefusal;
 use grid_days::Grid;
 use readings::Run;
 
@@ -32,17 +32,16 @@ pub struct GridFile {
 }
 
 // Where the machine stands after a day: it goes on where the day is taken.
-fn stage_of(answer: GridAnswer) -> Stage
+fn stage_of(answer: Result<(), GridRefusal>) -> Stage
     ensures { result ≡ day_stage (said_of_grid answer) }
 {
-    let GridAnswer::BadReading(place) = answer else {
-        let number = grid_numbers::of_answer(answer).number as u8;
-        if number == 0 {
-            return Stage::Going;
-        }
-        return Stage::Refused(number);
-    };
-    Stage::BadReading(place)
+    match answer {
+        Ok(()) => Stage::Going,
+        Err(refusal) => match refusal {
+            GridRefusal::BadReading(place) => Stage::BadReading(place),
+            _ => Stage::Refused(grid_numbers::of_answer(answer).number as u8),
+        },
+    }
 }
 
 impl GridFile {

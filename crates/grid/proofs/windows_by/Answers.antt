@@ -64,7 +64,7 @@ returns-then-peak-gt-GRID_MOST c =
     whole_refused a.edition a.year a.level a.series.now a.out.now _ refl
     (whole_series a.edition a.year a.level a.series.now a.out.now (omega arith) (opens_at (goal.at.returns-then-peak-gt-GRID_MOST c).Else-level_out) _ refl
     (curves_bad a.year a.series.now (length_at (goal.at.returns-then-peak-gt-GRID_MOST c).Else-series-run_readings) c.collect-curves.ensures (omega arith)
-    c.first_illegal.ensures))
+    c.first_illegal-place.ensures))
 
 pub returns : goal.returns
 returns c =
