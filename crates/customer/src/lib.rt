@@ -12,7 +12,6 @@ ghost use Rattle.customer.specs.Answers.{decide_answer};
 use editions::Editions;
 use readings::Run;
 use tariff::{Decision, Prices};
-use year_figures::YearFigures;
 
 // The decision over a whole series by the edition of the sheet's year. Refuses 12, 1, 2, 12, 3, 6, 4, 5, 8, 9, 10, 11
 // in this order; else 0 with the charge.
@@ -39,7 +38,7 @@ pub fn decide(
         &opening.terms.windows,
         series,
     );
-    let YearFigures::All(figures) = collected else {
+    let Ok(figures) = collected else {
         return Decision::WrongLength;
     };
     if answers::CUSTOMER_MOST < figures.peak {

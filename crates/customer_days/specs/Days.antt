@@ -1,6 +1,7 @@
 -- A customer's year day by day: opening, a day, closing, and the state between them. Rules 8.2 and 9.3 to 9.6. Days
 -- count from 0: the next day is day `seen`. What the opening answers stands in terms, specs/Opening. The basis k.
-use Rattle.std.specs.Prelude.{◌≡◌, Bool, cond, not, List, ℕ, ◌+◌, ◌*◌, ltb, eqb}
+use Rattle.std.specs.Prelude.{◌≡◌, Result, Bool, cond, not, List, ℕ, ◌+◌, ◌*◌, ltb, eqb}
+use Rattle.std.specs.Result.{result_unwrap_or}
 use Rattle.answers.specs.Ruling.{customer_most}
 use Rattle.answers.specs.Said.{Said, only, after}
 use Rattle.dates.specs.Dates.{year_days}
@@ -13,8 +14,7 @@ use Rattle.terms.specs.declared.Terms.{Terms}
 use Rattle.terms.specs.Basis.{Basis}
 use Rattle.terms.specs.Opening.{customer_open_answer, terms_of, no_terms}
 use Rattle.figures.specs.Figures.{no_figures, record_of, taken_in}
-use Rattle.day_figures.specs.declared.Taking.{Taking}
-use Rattle.day_figures.specs.declared.Taking.TheVariants.{Taken, WrongLength, DayOut}
+use Rattle.day_figures.specs.declared.TakingRefusal.{TakingRefusal}
 use Rattle.day_figures.specs.Day.{alone}
 use Rattle.customer.specs.Counts.{counts}
 use Rattle.customer.specs.Answers.{judged}
@@ -54,10 +54,8 @@ unfoldable pub customer_day_answer : Customer → List ℕ → Said
 customer_day_answer c day = day_under c.terms.rates.year c.seen c.figures.sum day
 
 -- the figures in what taking a day answered, and none where it refused
-abbrev pub taken_figures : Taking → Figures
-taken_figures (Taken f) = f
-taken_figures WrongLength = no_figures
-taken_figures DayOut = no_figures
+abbrev pub taken_figures : Result Figures TakingRefusal → Figures
+taken_figures taking = result_unwrap_or taking no_figures
 
 -- the state with one more day
 abbrev pub customer_taken : Customer → List ℕ → Customer

@@ -8,11 +8,10 @@ ghost use Rattle.std.specs.Prelude.{◌≡◌};
 ghost use Rattle.tariff.specs.Answers.{said_of};
 ghost use Rattle.terms.specs.Basis.{basis};
 ghost use Rattle.terms.specs.Opening.{customer_open_answer};
-ghost use Rattle.customer_days.specs.Days.{open_customer, day_under, customer_day_answer, taken_figures, customer_taken, day_customer, customer_close_answer, Steps};
+ghost use Rattle.customer_days.specs.Days.{open_customer, day_under, customer_day_answer, customer_taken, day_customer, customer_close_answer, Steps};
 ghost use Rattle.customer_days.specs.Rows.{DayFits};
 
 use answers::Place;
-use day_figures::Taking;
 use editions::Editions;
 use readings::Run;
 use tariff::{Decision, Figures, Prices};
@@ -59,17 +58,6 @@ fn day_answer(year: u16, seen: u16, sum: u64, day: &[u32]) -> Decision
         });
     }
     Decision::Taken
-}
-
-// The figures in what taking a day answered, and none where it refused.
-fn figures_of(taking: Taking) -> Figures
-    ensures { result ≡ taken_figures taking }
-{
-    match taking {
-        Taking::Taken(figures) => figures,
-        Taking::WrongLength => tariff::NO_FIGURES,
-        Taking::DayOut => tariff::NO_FIGURES,
-    }
 }
 
 impl Customer {
@@ -120,7 +108,7 @@ impl Customer {
         Customer {
             terms,
             seen: seen + 1,
-            figures: figures_of(taking),
+            figures: taking.unwrap_or(tariff::NO_FIGURES),
         }
     }
 

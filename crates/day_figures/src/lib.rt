@@ -5,12 +5,12 @@
 // in (`day_fits`, proofs/Fits); else the answer is 13 or 4.
 #![tactic(auto)]
 
-ghost use Rattle.std.specs.Prelude.{◌≡◌, false, cond, ◌&&◌, ℕ, ◌+◌, ◌%◌, ◌≤◌, ◌<◌, min, eqb, length, get_or};
+ghost use Rattle.std.specs.Prelude.{◌≡◌, Ok, Err, false, cond, ◌&&◌, ℕ, ◌+◌, ◌%◌, ◌≤◌, ◌<◌, min, eqb, length, get_or};
 ghost use Rattle.std.specs.Int.Bits.{bit_and};
 ghost use Rattle.ranges.specs.Ranges.{first_over, number_if};
 ghost use Rattle.answers.specs.Ruling.{day_quarters};
 ghost use Rattle.readings.specs.Legal.{highest_of};
-ghost use Rattle.day_figures.specs.declared.Taking.TheVariants.{Taken, WrongLength};
+ghost use Rattle.day_figures.specs.declared.TakingRefusal.TheVariants.{WrongLength};
 ghost use Rattle.day_figures.specs.Day.{alone, with_day, day_most, sum_end, days_out, no_day, day_taken, row_if, days_taken};
 ghost use Rattle.day_figures.specs.Passes.{four_end, all_ones, masks_of, some_left, masked_high, tops_of, plainly, high_at, HighAt, Sized, Fits, DaySum};
 
@@ -35,10 +35,9 @@ struct Tops {
     sum: u64,
 }
 
-// What taking days into figures answers: 0 with the figures, 4, 13.
-#[derive(Clone, Copy)]
-pub enum Taking {
-    Taken(Figures),
+// What taking days into figures is refused for: 4, 13.
+#[derive(Clone, Copy, PartialEq, Eq)]
+pub enum TakingRefusal {
     WrongLength,
     DayOut,
 }
@@ -331,39 +330,39 @@ fn days_out(days: u16, from: u16, n: usize, sum: u64) -> bool
 
 // The figures with a Sunday of the clock change taken in, or 4 for a day that is not as long as one. By a row without
 // quarters it is done with after the sum, as every Sunday of a year is.
-fn take_other(f: Figures, d: u16, row: &[bool], day: &[u32]) -> Taking
+fn take_other(f: Figures, d: u16, row: &[bool], day: &[u32]) -> Result<Figures, TakingRefusal>
     requires { (d < 65535) × (f.sum + day_most < sum_end) × (length day.now ≡ day_quarters → ⊥) }
-    ensures { result ≡ cond (no_day (length day.now)) WrongLength
-        (Taken (with_day f (length day.now) d row.now (alone day.now))) }
+    ensures { result ≡ cond (no_day (length day.now)) (Err WrongLength)
+        (Ok (with_day f (length day.now) d row.now (alone day.now))) }
 {
     if (day.len() != readings::LEAST_READINGS) & (day.len() != readings::MOST_READINGS) {
-        return Taking::WrongLength;
+        return Err(TakingRefusal::WrongLength);
     }
     let next = plain_day(f, day);
     if row.len() == 0 {
-        return Taking::Taken(next);
+        return Ok(next);
     }
-    Taking::Taken(high_at(next, d, day, new_high(f, true, row, day)))
+    Ok(high_at(next, d, day, new_high(f, true, row, day)))
 }
 
 // The figures with day d, from 0, taken in: position p counts where its quarter is set in the row. Refuses 13, 4 in
 // this order. Highest reading and sum come first: they do not wait until it is known whether the row has quarters.
-pub fn take_day(f: Figures, d: u16, row: &[bool], day: &[u32]) -> Taking
+pub fn take_day(f: Figures, d: u16, row: &[bool], day: &[u32]) -> Result<Figures, TakingRefusal>
     ensures { result ≡ day_taken f d row.now day.now }
 {
     if days_out(dates::MOST_DAYS as u16, d, 1, f.sum) {
-        return Taking::DayOut;
+        return Err(TakingRefusal::DayOut);
     }
     if day.len() != answers::DAY_QUARTERS {
         return take_other(f, d, row, day);
     }
     let next = plain_day(f, day);
     if row.len() == 0 {
-        return Taking::Taken(next);
+        return Ok(next);
     }
     let masks = masks_of(row);
     let some = some_left(&masks);
-    Taking::Taken(take_fit(f, next, d, true, some, row, &masks, day))
+    Ok(take_fit(f, next, d, true, some, row, &masks, day))
 }
 
 // The figures with as many days of a whole series taken in as there are flags, from day `from` on: the row counts on
@@ -376,14 +375,14 @@ pub fn take_days(
     flags: &[bool],
     row: &[bool],
     series: &[u32],
-) -> Taking
+) -> Result<Figures, TakingRefusal>
     ensures { result ≡ days_taken f days change from flags.now row.now series.now }
 {
     if days_out(days, from, flags.len(), f.sum) {
-        return Taking::DayOut;
+        return Err(TakingRefusal::DayOut);
     }
     if series.len() != readings::span_by(change, days).start {
-        return Taking::WrongLength;
+        return Err(TakingRefusal::WrongLength);
     }
     let masks = masks_of(row);
     let some = some_left(&masks);
@@ -396,5 +395,5 @@ pub fn take_days(
         figures = take_any(figures, d, flags[k], some, row, &masks, day);
         start = end;
     }
-    Taking::Taken(figures)
+    Ok(figures)
 }

@@ -9,15 +9,19 @@ ghost use Rattle.dates.specs.Dates.{most_days, season_of};
 ghost use Rattle.year_figures.specs.Counts.{season_row, day_row};
 ghost use Rattle.year_figures.specs.Year.{year_figures};
 
-use day_figures::Taking;
+use day_figures::TakingRefusal;
 use readings::Run;
 use tariff::Figures;
 
-// The figures of a whole year, or 4 for a series of another length.
-#[derive(Clone, Copy)]
-pub enum YearFigures {
-    All(Figures),
-    WrongLength,
+// What a year's series is refused for: 4, another length than the year's.
+#[derive(Clone, Copy, PartialEq, Eq)]
+pub struct WrongLength;
+
+// A month of the year is never answered 13, so that what it is refused for is the length of the series.
+impl From<TakingRefusal> for WrongLength {
+    fn from(_refusal: TakingRefusal) -> WrongLength {
+        WrongLength
+    }
 }
 
 // The windows of the season of day d, from 0, as a row whose first flag is quarter 0's.
@@ -62,7 +66,7 @@ pub fn year_figures<'a>(
     carrying: &'a [bool; dates::MOST_DAYS],
     windows: &'a [bool; sheet::WINDOW_PLACES],
     series: &[u32],
-) -> YearFigures
+) -> Result<Figures, WrongLength>
     ensures { result ≡ year_figures year carrying.now windows.now series.now }
 {
     let all = &carrying[..];
@@ -76,12 +80,8 @@ pub fn year_figures<'a>(
         let end = next as usize;
         let flags = &all[start..end];
         let row = season_row(year, d, windows);
-        let taking = day_figures::take_days(figures, days, change, d, flags, row, series);
-        let Taking::Taken(more) = taking else {
-            return YearFigures::WrongLength;
-        };
-        figures = more;
+        figures = day_figures::take_days(figures, days, change, d, flags, row, series)?;
         d = next;
     }
-    YearFigures::All(figures)
+    Ok(figures)
 }

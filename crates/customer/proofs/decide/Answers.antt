@@ -18,7 +18,7 @@ use Rattle.terms.proofs.Exactly.{open_zero}
 use Rattle.year_figures.proofs.Years.{year_told, year_refused}
 use Rattle.customer.specs.Answers.{figures_under, whole_answer, decide_answer}
 use Rattle.customer.proofs.Answered.{decide_open, decide_under, whole_series, whole_bad, whole_legal}
-use Rattle.customer.proofs.decide.Goals.{After-open-opening, In-All, In-Taken}
+use Rattle.customer.proofs.decide.Goals.{After-open-opening, In-Ok, In-Taken}
 use Rattle.customer.proofs.decide.Goals as goal
 
 -- the basis that is opened, and the series
@@ -56,20 +56,20 @@ returns-in_default-collected c =
 
 -- the series has the year's length, and the figures are those of all its days
 told :
-    (e : In-All)
+    (e : In-Ok)
     → let t = e.open-opening.result.terms in
-    (length e.args.series.now ≡ run_readings (Year t.rates.year)) × (e.in-All.figures ≡ figures_under t e.args.series.now (year_days t.rates.year))
+    (length e.args.series.now ≡ run_readings (Year t.rates.year)) × (e.in-Ok.figures ≡ figures_under t e.args.series.now (year_days t.rates.year))
 told e =
     let t = e.open-opening.result.terms in
-    year_told t.rates.year t.carrying t.windows e.args.series.now e.year_figures-collected.ensures e.in-All.is
+    year_told t.rates.year t.carrying t.windows e.args.series.now e.year_figures-collected.ensures e.in-Ok.is
 
 pub returns-then-figures-gt-CUSTOMER_MOST : goal.returns-then-figures-gt-CUSTOMER_MOST
 returns-then-figures-gt-CUSTOMER_MOST c =
     let w = goal.at.returns-then-figures-gt-CUSTOMER_MOST c in
-    under w.In-Taken (whole_bad c.open-opening.result.terms (readings w.After-open-opening) (told w.In-All).0
-    (told w.In-All).1 (omega arith) c.first_illegal.ensures)
+    under w.In-Taken (whole_bad c.open-opening.result.terms (readings w.After-open-opening) (told w.In-Ok).0
+    (told w.In-Ok).1 (omega arith) c.first_illegal.ensures)
 
 pub returns : goal.returns
 returns c =
     let w = goal.at.returns c in
-    under w.In-Taken (whole_legal c.open-opening.result.terms (readings w.After-open-opening) (told w.In-All).0 (told w.In-All).1 (omega arith) c.judge.ensures)
+    under w.In-Taken (whole_legal c.open-opening.result.terms (readings w.After-open-opening) (told w.In-Ok).0 (told w.In-Ok).1 (omega arith) c.judge.ensures)

@@ -5,8 +5,8 @@ use mathlib.Core.Bool.{false}
 use Prim.Native.Nat.{◌+◌, ◌<◌}
 use native.Mathlib.Omega.{arith}
 use lib.ListN.{length}
+use Rattle.std.specs.Prelude.{Ok}
 use Rattle.dates.specs.Dates.{most_days}
-use Rattle.day_figures.specs.declared.Taking.TheVariants.{Taken}
 use Rattle.day_figures.specs.Day.{alone, in_row, with_day, day_most, sum_end, days_out, day_taken}
 use Rattle.day_figures.specs.Passes.{Fits}
 use Rattle.day_figures.proofs.Fits.{has_room, day_out_law, day_by, day_fits}
@@ -28,7 +28,7 @@ take_other-requires c = let r = room (goal.at.take_other-requires c).Else-days_o
 usual :
     (e : Else-day-ne-DAY_QUARTERS)
     → let a = e.args in
-    Taken (with_day a.f (length a.day.now) a.d a.row.now (alone a.day.now)) ≡ day_taken a.f a.d a.row.now a.day.now
+    Ok (with_day a.f (length a.day.now) a.d a.row.now (alone a.day.now)) ≡ day_taken a.f a.d a.row.now a.day.now
 usual e = day_fits _ _ _ _ (sym e.days_out.ensures ∙ e.if-days_out.false) (rw e.if-day-ne-DAY_QUARTERS.false refl)
 
 fits :
@@ -45,7 +45,7 @@ returns-then-row-eq0 c =
     let a = c.args in
     let none = counts_empty (length a.day.now) a.row.now c.if-row-eq0.true in
     let plain = taken_none (in_row (length a.day.now) a.row.now) a.d a.day.now a.f refl none in
-    ap Taken ((fits (goal.at.returns-then-row-eq0 c).After-plain_day-next).next_is ∙ plain) ∙ usual (goal.at.returns-then-row-eq0 c).Else-day-ne-DAY_QUARTERS
+    ap Ok ((fits (goal.at.returns-then-row-eq0 c).After-plain_day-next).next_is ∙ plain) ∙ usual (goal.at.returns-then-row-eq0 c).Else-day-ne-DAY_QUARTERS
 
 pub take_fit-requires : goal.take_fit-requires
 take_fit-requires c =
@@ -53,7 +53,7 @@ take_fit-requires c =
 
 pub returns : goal.returns
 returns c =
-    ap Taken c.take_fit.ensures ∙ usual (goal.at.returns c).Else-day-ne-DAY_QUARTERS
+    ap Ok c.take_fit.ensures ∙ usual (goal.at.returns c).Else-day-ne-DAY_QUARTERS
 
 pub returns-then-days_out : goal.returns-then-days_out
 returns-then-days_out c = day_out_law _ _ _ _ (sym c.days_out.ensures ∙ c.if-days_out.true)

@@ -3,12 +3,12 @@ use mathlib.Core.Bool.{false}
 use Prim.Native.Nat.{◌+◌, ◌-◌, ◌≤◌, ◌<◌}
 use native.Mathlib.Omega.{arith}
 use lib.ListN.{length, take, drop}
+use Rattle.std.specs.Prelude.{Ok}
 use Rattle.readings.specs.Runs.{len_by, start_by}
 use Rattle.readings.proofs.Spans.{lens_over, starts_more, starts_most, starts_below}
 use Rattle.readings.proofs.Runs.{span_start}
 use Rattle.readings.proofs.Part.{cut_at, cut_long}
 use Rattle.tariff.specs.declared.Figures.{Figures}
-use Rattle.day_figures.specs.declared.Taking.TheVariants.{Taken}
 use Rattle.day_figures.specs.Day.{day_most, sum_end, days_out, with_days}
 use Rattle.day_figures.proofs.Fits.{has_room, days_out_law, days_other, days_fit}
 use Rattle.day_figures.proofs.Days.{days_none, days_more, days_sum}
@@ -111,7 +111,7 @@ returns c =
     let at = c.loop-k in
     let a = c.args in
     let all : at.k ≡ length a.flags.now = omega arith in
-    ap Taken (at.invariant.2 ∙ ap (with_days a.f a.change a.from a.flags.now a.row.now a.series.now) all)
+    ap Ok (at.invariant.2 ∙ ap (with_days a.f a.change a.from a.flags.now a.row.now a.series.now) all)
     ∙ days_fit _ _ _ _ _ _ _ (in_at (goal.at.returns c).Else-days_out) (series_long (goal.at.returns c).Else-series-span_by)
 
 pub returns-then-days_out : goal.returns-then-days_out

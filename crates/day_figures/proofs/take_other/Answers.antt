@@ -3,8 +3,8 @@
 use mathlib.Core.Path.{refl, ap, ◌∙◌}
 use borrow.Author.Tests.{ne_eqb}
 use lib.ListN.{length}
+use Rattle.std.specs.Prelude.{Ok}
 use Rattle.tariff.specs.declared.Figures.{Figures}
-use Rattle.day_figures.specs.declared.Taking.TheVariants.{Taken}
 use Rattle.day_figures.specs.Day.{in_row}
 use Rattle.day_figures.specs.Passes.{Sized, high_at}
 use Rattle.day_figures.proofs.Fits.{day_sized}
@@ -24,7 +24,7 @@ returns-then-row-eq0 c =
     let a = c.args in
     let none = counts_empty (length a.day.now) a.row.now c.if-row-eq0.true in
     let plain = taken_none (in_row (length a.day.now) a.row.now) a.d a.day.now a.f refl none in
-    rw (ne_eqb _ _ c.requires.2, c.if-day.false) (ap Taken (c.plain_day-next.ensures ∙ plain))
+    rw (ne_eqb _ _ c.requires.2, c.if-day.false) (ap Ok (c.plain_day-next.ensures ∙ plain))
 
 pub returns : goal.returns
 returns c =
@@ -33,7 +33,7 @@ returns c =
     c.high_at.ensures
     ∙ ap (λ (g : Figures). high_at g a.d a.day.now c.new_high.result) c.plain_day-next.ensures
     ∙ c.new_high.ensures.is a.d in
-    rw (ne_eqb _ _ c.requires.2, c.if-day.false) (ap Taken taken)
+    rw (ne_eqb _ _ c.requires.2, c.if-day.false) (ap Ok taken)
 
 pub plain_day-next-requires : goal.plain_day-next-requires
 plain_day-next-requires c = (sized_most c.args.day.now (sized c), c.requires.1)

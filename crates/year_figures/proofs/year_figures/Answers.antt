@@ -3,6 +3,8 @@ use mathlib.Core.Bool.{Bool, false}
 use Prim.Native.Nat.{ℕ, ◌+◌, ◌-◌, ◌≤◌, ◌<◌}
 use native.Mathlib.Omega.{arith}
 use lib.ListN.{length, get_or, take, drop, length-take, length-drop}
+use Rattle.std.specs.Prelude.{Ok}
+use Rattle.std.proofs.lemmas.Result.{err_from_is_err_and}
 use Rattle.dates.specs.Dates.{year_days}
 use Rattle.dates.proofs.Leaps.{leap_small}
 use Rattle.dates.proofs.Seasons.{year_room}
@@ -14,13 +16,12 @@ use Rattle.figures.proofs.Taken.{figures_none}
 use Rattle.day_figures.specs.Day.{days_out, with_days}
 use Rattle.day_figures.proofs.Fits.{room_is, days_refused, days_told}
 use Rattle.day_figures.proofs.Days.{figures_most}
-use Rattle.year_figures.specs.declared.YearFigures.TheVariants.{All}
 use Rattle.year_figures.specs.Counts.{counts_on}
 use Rattle.year_figures.specs.Year.{figures_in}
 use Rattle.year_figures.proofs.Rows.{month_taken}
 use Rattle.year_figures.proofs.Years.{year_none, year_all}
 use borrow.Author.Rules.{rules}
-use Rattle.year_figures.proofs.year_figures.Goals.{After-month_left, After-take_days-taking, At-loop-d, In-loop-d}
+use Rattle.year_figures.proofs.year_figures.Goals.{After-month_left, After-take_days, At-loop-d, In-loop-d}
 use Rattle.year_figures.proofs.year_figures.Goals as goal
 
 -- a day of the loop is one of the year's
@@ -68,7 +69,7 @@ whole_year l =
 
 -- so they are not answered 13
 in_at :
-    (t : After-take_days-taking)
+    (t : After-take_days)
     → let a = t.args in
     days_out t.year_days-days.result t.loop-d.d
     (length (take (let d = t.loop-d.d in d + 1 + t.month_left.result - d) (drop t.loop-d.d a.carrying.now))) t.loop-d.figures.sum ≡ false
@@ -86,17 +87,19 @@ in_at t =
     let most = figures_most (Year a.year) counts a.series.now at.d (λ i. omega (arith, small i)) in
     room_is _ _ _ _ (record { left = omega (arith, flags, end, days); roomy = omega (arith, flags, end, leap_small a.year, sum, most) })
 
-pub returns-in_default : goal.returns-in_default
-returns-in_default c =
-    let w = goal.at.returns-in_default c in
-    let other = days_refused _ _ _ _ _ _ _ (in_at w.After-take_days-taking) c.take_days-taking.ensures c.in_default.not-Taken in
-    year_none _ _ _ _ (λ e. other (e ∙ sym (whole_year w.At-loop-d)))
+pub returns-in_err-figures : goal.returns-in_err-figures
+returns-in_err-figures c =
+    let w = goal.at.returns-in_err-figures c in
+    let was = c.in_err-figures.was in
+    let other = days_refused _ _ _ _ _ _ _ (in_at w.After-take_days) c.take_days.ensures (λ g h. absurd (cc)) in
+    let p = err_from_is_err_and c.from_residual.result c.from_residual.ensures.1 in
+    rw p.1 (year_none _ _ _ _ (λ e. other (e ∙ sym (whole_year w.At-loop-d))))
 
 pub loop-d-preserved : goal.loop-d-preserved
 loop-d-preserved c =
     let at = c.loop-d in
     let a = c.args in
-    let new = days_told _ _ _ _ _ _ _ (in_at (goal.at.loop-d-preserved c).After-take_days-taking) c.take_days-taking.ensures c.in-Taken.is in
+    let new = days_told _ _ _ _ _ _ _ (in_at (goal.at.loop-d-preserved c).After-take_days) c.take_days.ensures c.in_ok-figures.was in
     let row = c.season_row-row.ensures in
     let all : at.d + month (goal.at.loop-d-preserved c).After-month_left ≡ at.d + 1 + c.month_left.result = omega arith in (
       ends (goal.at.loop-d-preserved c).After-month_left,
@@ -113,7 +116,7 @@ returns c =
     let a = c.args in
     let at = c.loop-d in
     let all : at.d ≡ year_days a.year = omega (arith, c.year_days-days.ensures) in
-    ap All (at.invariant.1 ∙ ap (figures_in a.year a.carrying.now a.windows.now a.series.now) all)
+    ap Ok (at.invariant.1 ∙ ap (figures_in a.year a.carrying.now a.windows.now a.series.now) all)
     ∙ year_all _ _ _ _ (at.invariant.2 (omega arith))
 
 pub loop-d-init : goal.loop-d-init

@@ -44,5 +44,5 @@ returns c =
     λ i. record {
       terms = self.terms;
       seen = self.seen + 1;
-      figures = (c.figures_of.ensures ∙ ap taken_figures fits ∙ row) i;
+      figures = (c.unwrap_or.ensures ∙ ap taken_figures fits ∙ row) i;
     }
