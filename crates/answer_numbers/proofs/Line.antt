@@ -22,10 +22,6 @@ first_are (a ∷ b ∷ c ∷ d ∷ e ∷ f ∷ []) h = refl
 first_are (a ∷ b ∷ c ∷ d ∷ e ∷ f ∷ g ∷ []) h = refl
 first_are (a ∷ b ∷ c ∷ d ∷ e ∷ f ∷ g ∷ x ∷ xs) h = absurd (omega (arith, h))
 
--- seven figures are seven
-pub seven_are : (xs : List ℕ) → length xs ≡ 7 → seven xs ≡ xs
-seven_are xs e = rw e at (first_are xs (omega arith))
-
 -- the figures that are counted, and the number before them
 pub figures_are : (s : Said) → Few s.figures → take (numbers_of s).count (numbers_of s).figures ≡ s.figures
 figures_are s few = first_are s.figures few

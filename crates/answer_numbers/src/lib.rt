@@ -10,6 +10,7 @@ ghost use Rattle.answer_numbers.specs.Numbers.{numbers_of};
 use answers::Place;
 
 // An answer's number, how many figures follow it, and the figures, with 0 behind the last.
+// Kept: an array with its count beside it, and a number for the answer. A caller in C is handed this, and no enum.
 #[repr(C)]
 #[derive(Clone, Copy)]
 pub struct Numbers {
@@ -33,10 +34,11 @@ pub fn only(number: u64) -> Numbers
 pub fn with_place(place: Place) -> Numbers
     ensures { result ≡ numbers_of (bad_place place) }
 {
+    let Place { day, position } = place;
     Numbers {
         number: 5,
         count: 2,
-        figures: [place.day as u64, place.position as u64, 0, 0, 0, 0, 0],
+        figures: [u64::from(day), u64::from(position), 0, 0, 0, 0, 0],
     }
 }
 
@@ -45,6 +47,7 @@ pub fn with_place(place: Place) -> Numbers
 pub fn line_of(numbers: Numbers) -> [u64; 8]
     ensures { result ≡ numbers.number ∷ numbers.figures }
 {
-    let f = numbers.figures;
-    [numbers.number, f[0], f[1], f[2], f[3], f[4], f[5], f[6]]
+    let mut line = [numbers.number; 8];
+    line[1..].copy_from_slice(&numbers.figures);
+    line
 }

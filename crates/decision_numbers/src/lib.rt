@@ -17,7 +17,7 @@ fn with_plain(a: Plain) -> Numbers
     Numbers {
         number: 8,
         count: 3,
-        figures: [a.general, a.peak as u64, a.sum, 0, 0, 0, 0],
+        figures: [a.general, u64::from(a.peak), a.sum, 0, 0, 0, 0],
     }
 }
 
@@ -31,11 +31,11 @@ fn with_peaks(number: u64, a: Peaks) -> Numbers
         count: 6,
         figures: [
             plain.general,
-            plain.peak as u64,
+            u64::from(plain.peak),
             plain.sum,
-            a.high as u64,
-            a.day as u64,
-            a.quarter as u64,
+            u64::from(a.high),
+            u64::from(a.day),
+            u64::from(a.quarter),
             0,
         ],
     }
@@ -53,11 +53,11 @@ fn with_charge(a: Charged) -> Numbers
         figures: [
             a.charge,
             plain.general,
-            plain.peak as u64,
+            u64::from(plain.peak),
             plain.sum,
-            peaks.high as u64,
-            peaks.day as u64,
-            peaks.quarter as u64,
+            u64::from(peaks.high),
+            u64::from(peaks.day),
+            u64::from(peaks.quarter),
         ],
     }
 }
@@ -74,6 +74,7 @@ fn eligible() -> Numbers
 }
 
 // A decision's number and its figures, as the table of answers has them.
+// Kept: a function and no `From`. Neither type is of this crate, and Rust wants the impl beside one of them.
 pub fn of_decision(answer: Decision) -> Numbers
     ensures { result ≡ numbers_of (said_of answer) }
 {
