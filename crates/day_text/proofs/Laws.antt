@@ -7,7 +7,11 @@ use Prim.Native.Nat.{ℕ, ◌*◌, ◌≤◌, ◌<◌, ◌%◌}
 use native.Mathlib.Omega.{arith}
 use borrow.Author.Tests.{eq-eqb, ne_eqb, eqb-true, eqb-false}
 use lib.Dec.{eqb}
-use lib.ListN.{length}
+use lib.ListN.{length, get_or}
+use Rattle.std.specs.Bool.{MatchBool}
+use Rattle.std.specs.List.{range_with_len, HoldsAt, AllWithin}
+use Rattle.std.proofs.Common.{subst}
+use Rattle.std.proofs.lemmas.List.FromFn.{length-range_with_len, get_or-range_with_len}
 use Rattle.ranges.specs.Limits.{outside}
 use Rattle.ranges.specs.Ranges.{any_over}
 use Rattle.ranges.proofs.Bools.{neither}
@@ -62,6 +66,28 @@ module _ (b : List ℕ) where
   pub none_missing : {k : ℕ} → Passed (missing_on b) k → line_count b ≤ k → false ≡ no_such_date b
   unfolding no_such_date
   none_missing h m = sym (any_fails (missing_on b) (line_count b) (λ i l. h.fails i (omega arith)))
+
+  -- the same by a search in the lines' numbers
+  abbrev lines : List ℕ
+  lines = range_with_len 0 (line_count b)
+
+  line_at : (k d : ℕ) → k < line_count b → get_or lines k d ≡ k
+  line_at k d l = get_or-range_with_len 0 (line_count b) k d l ∙ omega arith
+
+  pub dates_searched :
+      (r : Bool)
+      → MatchBool r ((k : ℕ) × (k < length lines) × HoldsAt (λ k. day_at b (line_size * k) ≡ 0) lines k)
+      (AllWithin (λ k. day_at b (line_size * k) ≡ 0 → ⊥) lines 0 (length lines))
+      → r ≡ no_such_date b
+  dates_searched true h =
+      let l : h.0 < line_count b = omega (arith, h.1, length-range_with_len 0 (line_count b)) in
+      let P : ℕ → Type 0 = λ k. day_at b (line_size * k) ≡ 0 in
+      missing_found h.0 l (subst P (line_at h.0 0 l) (h.2 0))
+  dates_searched false h =
+      let P : ℕ → Type 0 = λ k. day_at b (line_size * k) ≡ 0 → ⊥ in
+      none_missing {k = line_count b}
+      (record { fails = λ k l. ne_eqb _ _ (subst P (line_at k 0 l) (h k 0 (omega arith) (omega (arith, length-range_with_len 0 (line_count b))))) })
+      (omega arith)
 
   -- a listed day of the year asked for, and one of another year
   pub same_year : (i : ℕ) → year_at b i ≡ year_at b 0 → day_at b i ≡ listed_at b i

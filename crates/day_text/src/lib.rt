@@ -7,12 +7,14 @@
 ghost use Rattle.std.specs.Prelude.{◌≡◌, ◌+◌, ◌≤◌, ◌<◌, length, take};
 ghost use Rattle.calendar.specs.Answer.{said_of_day};
 ghost use Rattle.day_kinds.specs.Kinds.{kind_code};
-ghost use Rattle.texts.specs.Text.{Put, Wrote};
+ghost use Rattle.texts.specs.Text.{Put};
 ghost use Rattle.day_text.specs.Asked.{misfits, no_dates, two_digits, year_at, day_at, no_such_date, listed_at, list_count, listed_days, why_answer};
-ghost use Rattle.day_text.specs.Text.{weekday_name, kind_word, day_line, why_text};
+ghost use Rattle.day_text.specs.Text.{day_line, why_text};
+ghost use Rattle.day_text.specs.Text.{weekday_name as nameOf, kind_word as wordOf};
 
 use calendar::DayRefusal;
 use day_kinds::DayKind;
+use texts::Writer;
 
 // The form of a line, where 0 stands for any digit, and how many bytes it has; of these the date, without the line
 // feed.
@@ -24,6 +26,9 @@ const FORM: [u8; LINE_SIZE] = [
 
 const DATE_SIZE: usize = 10;
 
+// So many bytes are enough for the line of any day.
+const LINE_MOST: usize = 40;
+
 // One holiday more than a list may have.
 const LISTED_MOST: usize = answers::HOLIDAYS_MOST + 1;
 
@@ -32,23 +37,21 @@ fn misfit(form: u8, byte: u8) -> bool
     ensures { result ≡ misfits form byte }
 {
     if form == b'0' {
-        return (byte < b'0') | (b'9' < byte);
+        !byte.is_ascii_digit()
+    } else {
+        byte != form
     }
-    byte != form
 }
 
 // Is the input no dates at all?
 fn no_dates(b: &[u8]) -> bool
     ensures { result ≡ no_dates b.now }
 {
-    if b.len() == 0 {
+    if b.is_empty() || b.len() % LINE_SIZE != 0 {
         return true;
     }
-    if b.len() % LINE_SIZE != 0 {
-        return true;
-    }
-    for i in 0..b.len() {
-        if misfit(FORM[i % LINE_SIZE], b[i]) {
+    for (i, &byte) in b.iter().enumerate() {
+        if misfit(FORM[i % LINE_SIZE], byte) {
             return true;
         }
     }
@@ -60,8 +63,8 @@ fn two_digits(b: &[u8], at: usize, off: usize) -> u16
     requires { off < 10 }
     ensures { (result ≡ two_digits b.now (at + off)) × (result < 166) }
 {
-    let tens = (encoding::byte_at(b, at, off) % 16) as u16;
-    let ones = (encoding::byte_at(b, at, off + 1) % 16) as u16;
+    let tens = u16::from(encoding::byte_at(b, at, off) % 16);
+    let ones = u16::from(encoding::byte_at(b, at, off + 1) % 16);
     10 * tens + ones
 }
 
@@ -83,12 +86,7 @@ fn day_at(b: &[u8], at: usize) -> u16
 fn no_such_date(b: &[u8]) -> bool
     ensures { result ≡ no_such_date b.now }
 {
-    for k in 0..b.len() / LINE_SIZE {
-        if day_at(b, LINE_SIZE * k) == 0 {
-            return true;
-        }
-    }
-    false
+    (0..b.len() / LINE_SIZE).any(|k| day_at(b, LINE_SIZE * k) == 0)
 }
 
 // A listed day of the year asked for; 0 for a date of another year.
@@ -96,23 +94,18 @@ fn listed_at(b: &[u8], at: usize) -> u16
     ensures { result ≡ listed_at b.now at }
 {
     if year_at(b, at) == year_at(b, 0) {
-        return day_at(b, at);
+        day_at(b, at)
+    } else {
+        0
     }
-    0
 }
 
 // How many listed days are taken: one more than a list may have is enough.
 fn list_count(b: &[u8]) -> usize
     ensures { (result ≡ list_count b.now) × (result < 42) }
 {
-    let lines = b.len() / LINE_SIZE;
-    if lines < 1 {
-        return 0;
-    }
-    if LISTED_MOST < lines - 1 {
-        return LISTED_MOST;
-    }
-    lines - 1
+    let listed = (b.len() / LINE_SIZE).saturating_sub(1);
+    listed.min(LISTED_MOST)
 }
 
 // The listed days, with 0 behind the last.
@@ -120,8 +113,9 @@ fn listed_days(b: &[u8]) -> [u16; LISTED_MOST]
     ensures { take (list_count b.now) result ≡ listed_days b.now }
 {
     let mut out = [0; LISTED_MOST];
-    for j in 0..list_count(b) {
-        out[j] = listed_at(b, LINE_SIZE * (j + 1));
+    let n = list_count(b);
+    for (j, day) in out[..n].iter_mut().enumerate() {
+        *day = listed_at(b, LINE_SIZE * (j + 1));
     }
     out
 }
@@ -144,59 +138,54 @@ fn answer(b: &[u8]) -> Result<DayKind, DayRefusal>
 }
 
 // A weekday's name.
-fn add_weekday(buf: &mut [u8], at: usize, weekday: u8) -> usize
-    requires { at + 9 ≤ length buf.old }
-    ensures { Wrote buf.old at (weekday_name weekday) buf.new result }
+#[tactic(auto, using(crate::proofs::Laws::sunday), unfolding(crate::specs::Text::weekday_name))]
+fn weekday_name(weekday: u8) -> &'static [u8]
+    ensures { result.now ≡ nameOf weekday }
 {
-    if weekday == 0 {
-        return texts::add_bytes(buf, at, b"Monday");
+    match weekday {
+        0 => b"Monday",
+        1 => b"Tuesday",
+        2 => b"Wednesday",
+        3 => b"Thursday",
+        4 => b"Friday",
+        5 => b"Saturday",
+        _ => b"Sunday",
     }
-    if weekday == 1 {
-        return texts::add_bytes(buf, at, b"Tuesday");
-    }
-    if weekday == 2 {
-        return texts::add_bytes(buf, at, b"Wednesday");
-    }
-    if weekday == 3 {
-        return texts::add_bytes(buf, at, b"Thursday");
-    }
-    if weekday == 4 {
-        return texts::add_bytes(buf, at, b"Friday");
-    }
-    if weekday == 5 {
-        return texts::add_bytes(buf, at, b"Saturday");
-    }
-    texts::add_bytes(buf, at, b"Sunday")
 }
 
 // A kind in words.
-fn add_kind(buf: &mut [u8], at: usize, kind: DayKind) -> usize
-    requires { at + 10 ≤ length buf.old }
-    ensures { Wrote buf.old at (kind_word (kind_code kind)) buf.new result }
+#[tactic(auto, unfolding(crate::specs::Text::kind_word))]
+fn kind_word(kind: DayKind) -> &'static [u8]
+    ensures { result.now ≡ wordOf (kind_code kind) }
 {
     match kind {
-        DayKind::Windows => texts::add_bytes(buf, at, b"window"),
-        DayKind::Weekend => texts::add_bytes(buf, at, b"weekend"),
-        DayKind::Listed => texts::add_bytes(buf, at, b"holiday"),
-        DayKind::Christmas => texts::add_bytes(buf, at, b"Christmas"),
-        DayKind::Bridge => texts::add_bytes(buf, at, b"bridge day"),
+        DayKind::Windows => b"window",
+        DayKind::Weekend => b"weekend",
+        DayKind::Listed => b"holiday",
+        DayKind::Christmas => b"Christmas",
+        DayKind::Bridge => b"bridge day",
     }
 }
 
-// The line of a day: at most 32 bytes.
+// The line of a day: at most 32 bytes. It is made in an array that has room for them, since nothing is written where
+// `out` is too short.
 fn day_line(b: &[u8], kind: DayKind, out: &mut [u8]) -> usize
     requires { 10 ≤ length b.now }
     ensures { Put 0 (day_line b.now (kind_code kind)) out.old out.new result }
 {
-    let mut line = [0u8; 40];
-    let date = texts::add_bytes(&mut line, 0, &b[..DATE_SIZE]);
-    let space = texts::add_bytes(&mut line, date, b" ");
-    let weekday = dates::weekday(year_at(b, 0), day_at(b, 0));
-    let name = add_weekday(&mut line, space, weekday);
-    let gap = texts::add_bytes(&mut line, name, b" ");
-    let word = add_kind(&mut line, gap, kind);
-    let end = texts::add_bytes(&mut line, word, b"\n");
-    texts::add_bytes(out, 0, &line[..end])
+    let mut made = [0u8; LINE_MOST];
+    let mut line = Writer {
+        buf: &mut made,
+        at: 0,
+    };
+    line.add(&b[..DATE_SIZE]);
+    line.add(b" ");
+    line.add(weekday_name(dates::weekday(year_at(b, 0), day_at(b, 0))));
+    line.add(b" ");
+    line.add(kind_word(kind));
+    line.add(b"\n");
+    let n = line.at;
+    texts::add_bytes(out, 0, &made[..n])
 }
 
 // What the day program prints for any input: the day asked for with its weekday and kind, what is wrong, or the usage.

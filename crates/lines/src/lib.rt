@@ -4,9 +4,11 @@
 // 10.7.
 #![tactic(auto)]
 
-ghost use Rattle.std.specs.Prelude.{◌≡◌, ◌+◌, ◌≤◌, leb, length};
-ghost use Rattle.texts.specs.Text.{Put, Wrote};
+ghost use Rattle.std.specs.Prelude.{◌≡◌, ◌≤◌, leb, length};
+ghost use Rattle.texts.specs.Text.{Put, Room, Writes};
 ghost use Rattle.lines.specs.Figures.{decimal_of, field_of, figures_line, refused_line};
+
+use texts::Writer;
 
 // How many bytes the word `REFUSED` and the space behind it have.
 const REFUSED_SIZE: usize = 8;
@@ -20,13 +22,13 @@ fn number_len(x: u64) -> usize
 }
 
 // A number in decimal.
-fn add_number(buf: &mut [u8], at: usize, x: u64) -> usize
-    requires { at + length (decimal_of x) ≤ length buf.old }
-    ensures { Wrote buf.old at (decimal_of x) buf.new result }
+fn add_number(text: &mut Writer, x: u64)
+    requires { Room text.old (decimal_of x) }
+    ensures { Writes text.old (decimal_of x) text.new }
 {
     let mut digits = [0u8; 20];
     let k = io::decimal(x, &mut digits);
-    texts::add_bytes(buf, at, &digits[..k])
+    text.add(&digits[..k]);
 }
 
 // How many bytes field i of a line has, from 0: with a space before it, unless it is the first.
@@ -34,22 +36,18 @@ fn field_len(i: usize, x: u64) -> usize
     ensures { result ≡ length (field_of i x) }
 {
     let n = number_len(x);
-    if i == 0 {
-        return n;
-    }
-    n + 1
+    if i == 0 { n } else { n + 1 }
 }
 
 // Field i of a line, from 0.
-fn add_field(buf: &mut [u8], at: usize, i: usize, x: u64) -> usize
-    requires { at + length (field_of i x) ≤ length buf.old }
-    ensures { Wrote buf.old at (field_of i x) buf.new result }
+fn add_field(text: &mut Writer, i: usize, x: u64)
+    requires { Room text.old (field_of i x) }
+    ensures { Writes text.old (field_of i x) text.new }
 {
-    if i == 0 {
-        return add_number(buf, at, x);
+    if i != 0 {
+        text.add(b" ");
     }
-    let n = texts::add_bytes(buf, at, b" ");
-    add_number(buf, n, x)
+    add_number(text, x);
 }
 
 // Does the line of these figures fit into `room` bytes? It stops at the first field that does not, so that nothing
@@ -58,8 +56,8 @@ fn figures_fit(figures: &[u64], room: usize) -> bool
     ensures { result ≡ leb (length (figures_line figures.now)) room }
 {
     let mut left = room;
-    for i in 0..figures.len() {
-        let need = field_len(i, figures[i]);
+    for (i, &x) in figures.iter().enumerate() {
+        let need = field_len(i, x);
         if left < need {
             return false;
         }
@@ -69,25 +67,26 @@ fn figures_fit(figures: &[u64], room: usize) -> bool
 }
 
 // The line of these figures, the line feed with it.
-fn add_figures(buf: &mut [u8], at: usize, figures: &[u64]) -> usize
-    requires { at + length (figures_line figures.now) ≤ length buf.old }
-    ensures { Wrote buf.old at (figures_line figures.now) buf.new result }
+fn add_figures(text: &mut Writer, figures: &[u64])
+    requires { Room text.old (figures_line figures.now) }
+    ensures { Writes text.old (figures_line figures.now) text.new }
 {
-    let mut n = at;
-    for i in 0..figures.len() {
-        n = add_field(buf, n, i, figures[i]);
+    for (i, &x) in figures.iter().enumerate() {
+        add_field(text, i, x);
     }
-    texts::add_bytes(buf, n, b"\n")
+    text.add(b"\n");
 }
 
 // The statement program's line: an answer's number and its figures, any number of them.
 pub fn figures_text(figures: &[u64], buf: &mut [u8]) -> usize
     ensures { Put 0 (figures_line figures.now) buf.old buf.new result }
 {
-    if figures_fit(figures, buf.len()) {
-        return add_figures(buf, 0, figures);
+    if !figures_fit(figures, buf.len()) {
+        return 0;
     }
-    0
+    let mut text = Writer { buf, at: 0 };
+    add_figures(&mut text, figures);
+    text.at
 }
 
 // The window program's refusal: `REFUSED`, the number and its figures, any number of them.
@@ -98,9 +97,11 @@ pub fn refused_text(figures: &[u64], buf: &mut [u8]) -> usize
     if room < REFUSED_SIZE {
         return 0;
     }
-    if figures_fit(figures, room - REFUSED_SIZE) {
-        let n = texts::add_bytes(buf, 0, b"REFUSED ");
-        return add_figures(buf, n, figures);
+    if !figures_fit(figures, room - REFUSED_SIZE) {
+        return 0;
     }
-    0
+    let mut text = Writer { buf, at: 0 };
+    text.add(b"REFUSED ");
+    add_figures(&mut text, figures);
+    text.at
 }

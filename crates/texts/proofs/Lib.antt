@@ -1,3 +1,4 @@
 pub mod Text
+pub mod Writing
 pub mod Only
 pub mod Cases

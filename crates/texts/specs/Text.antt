@@ -3,6 +3,7 @@
 -- buffer count from 0.
 use Rattle.std.specs.Prelude.{◌≡◌, cond, List, [], ◌++◌, ℕ, ◌+◌, ◌≤◌, leb, length, take, drop}
 use Rattle.ranges.specs.Ranges.{joined}
+use Rattle.texts.specs.declared.Writer.{Writer}
 
 -- the texts f 0, .. , f (n - 1), one behind the other
 unfoldable pub text_over : (ℕ → List ℕ) → ℕ → List ℕ
@@ -34,3 +35,17 @@ pub record Wrote (d : List ℕ) (at : ℕ) (t : List ℕ) (e : List ℕ) (r : �
   pub end : r ≡ at + length t
   pub same : length e ≡ length d
   pub is : e ≡ take at d ++ (t ++ drop (at + length t) d)
+
+-- a text that is being written: has its buffer room for the text t behind what is written?
+abbrev pub Room : Writer → List ℕ → Type 0
+Room s t = s.at + length t ≤ length s.buf.now
+
+-- the text t was put behind what was written, all or nothing, into the buffer that was lent
+pub record Puts (s : Writer) (t : List ℕ) (e : Writer) : Type 0 where
+  pub lent : e.buf.ghost_name ≡ s.buf.ghost_name
+  pub put : Put s.at t s.buf.now e.buf.now e.at
+
+-- it was written there: it had room
+pub record Writes (s : Writer) (t : List ℕ) (e : Writer) : Type 0 where
+  pub lent : e.buf.ghost_name ≡ s.buf.ghost_name
+  pub wrote : Wrote s.buf.now s.at t e.buf.now e.at

@@ -1,7 +1,7 @@
 // Text in a lent buffer, as bytes, all of it or nothing. It meets specs/Text. Rule 10.1.
 #![tactic(auto)]
 
-ghost use Rattle.texts.specs.Text.{Put};
+ghost use Rattle.texts.specs.Text.{Put, Puts};
 
 // So many bytes are enough for every text that a program prints: that of windows has never more than 49 for its first
 // line and 14 for each of the 384 quarters, and all others are shorter.
@@ -20,4 +20,20 @@ pub fn add_bytes(buf: &mut [u8], at: usize, bytes: &[u8]) -> usize
     }
     buffers::lay(buf, at, bytes);
     at + bytes.len()
+}
+
+// A text that is written piece by piece into a lent buffer, and the place behind what is written of it.
+#[derive(Drop)]
+pub struct Writer<'a> {
+    pub buf: &'a mut [u8],
+    pub at: usize,
+}
+
+impl<'a> Writer<'a> {
+    // Bytes behind those that are written: all of them, or, where they do not fit, none.
+    pub fn add(&mut self, bytes: &[u8])
+        ensures { Puts self.old bytes.now self.new }
+    {
+        self.at = add_bytes(self.buf, self.at, bytes);
+    }
 }

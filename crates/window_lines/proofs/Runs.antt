@@ -1,21 +1,30 @@
 -- Laws of the window program's lines: the cases of a quarter and of a season, where a run ends, and
 -- how long all lines are at most.
 -- Assumes nothing.
-use mathlib.Core.Path.{◌≡◌, refl, sym, ap}
-use mathlib.Core.Bool.{Bool, true, false, cond, not, ◌&&◌, and-true}
+use mathlib.Core.Path.{◌≡◌, refl, sym, ap, ◌∙◌}
+use mathlib.Core.Bool.{Bool, true, false, beq, cond, not}
 use mathlib.Core.List.{List, [], ◌∷◌, ◌++◌}
-use Prim.Native.Nat.{ℕ, ◌+◌, ◌-◌, ◌≤◌, ◌<◌}
+use Prim.Native.Nat.{ℕ, zero, suc, ◌+◌, ◌-◌, ◌*◌, ◌≤◌, ◌<◌}
 use native.Mathlib.Omega.{arith}
-use borrow.Author.Tests.{eq-eqb, ne_eqb}
-use lib.ListN.{length, get_or, length-append}
+use borrow.Author.Tests.{le-leb, le-ltb}
+use Rattle.ranges.specs.Limits.{Within}
+use lib.ListN.{length, get_or, take, drop, get_or-eq_default, length-append, length-take, length-drop}
+use Rattle.std.proofs.lemmas.List.{get_or-take, get_or-drop}
 use Rattle.ranges.specs.Ranges.{any_over}
-use Rattle.ranges.proofs.Tests.{Passed}
+use Rattle.ranges.proofs.Tests.{Passed, any_at, any_fails}
+use Rattle.std.specs.List.{AllWithin, HoldsAt}
+use Rattle.std.specs.Simd.{first_chunks}
+use Rattle.sheet.proofs.Windows.{set_at}
+use lib.Seq.{drop-drop}
+use native.Mathlib.Nat.{not-suc-le-zero}
+use native.Mathlib.Numerals.{unary_clauses}
+use native.Mathlib.Decide.{dec_lt}
 use Rattle.ranges.proofs.First.{first_at, first_fails}
 use Rattle.answers.specs.Ruling.{day_quarters}
 use Rattle.sheet.specs.Windows.{seasons, is_set}
 use Rattle.texts.specs.Text.{text_most, text_over}
 use Rattle.lines.specs.Figures.{field_in, figures_line}
-use Rattle.window_lines.specs.Runs.{head_mark, head_line, time_of, run_line, none_line, begins, run_end, run_text, season_text, season_in, windows_text}
+use Rattle.window_lines.specs.Runs.{head_mark, head_line, time_of, run_line, none_line, begins, run_end, run_text, quarters, season_text, season_in, windows_text}
 use Rattle.texts.proofs.Text.{text_short}
 use Rattle.lines.proofs.Figures.{field_short, figures_long}
 
@@ -36,14 +45,6 @@ head_short year level =
 pub line_long : (season from to : ℕ) → length (run_line season from to) ≡ 14
 unfolding run_line time_of
 line_long season from to = refl
-
--- does a run begin at a quarter: the code's cases
-module _ (f : ℕ → Bool) (q : ℕ) where
-  pub begins_first : q ≡ 0 → f q ≡ begins f q
-  begins_first e = rw (eq-eqb q 0 e) (sym (and-true (f q)))
-
-  pub begins_next : (q ≡ 0 → ⊥) → (f q && not (f (q - 1))) ≡ begins f q
-  begins_next e = rw (ne_eqb q 0 e)
 
 -- a run begins at a quarter, or not
 module _ (season : ℕ) (f : ℕ → Bool) (q : ℕ) where
@@ -71,6 +72,35 @@ module _ (f : ℕ → Bool) (q : ℕ) {j : ℕ} (p : Passed (λ k. not (f (q + k
   pub run_through : q < day_quarters → day_quarters - q ≤ j → day_quarters ≡ run_end f q
   run_through l m = omega (arith, first_fails (λ k. not (f (q + k))) (day_quarters - q) (λ k b. p.fails k (omega arith)))
 
+-- the same by the part of a season's quarters that begins at q, as a search in it tells
+module _ (set : List Bool) (q : ℕ) where
+  abbrev pub rest : List Bool
+  rest = take (day_quarters - q) (drop q set)
+
+  rest_at : (k : ℕ) (d : Bool) → k < day_quarters - q → get_or rest k d ≡ get_or set (q + k) d
+  rest_at k d l = get_or-take (day_quarters - q) (drop q set) k d l ∙ get_or-drop q set k d
+
+  passed : (j : ℕ) → j ≤ day_quarters - q → AllWithin (λ x. x ≡ true) rest 0 j → Passed (λ k. not (quarters set (q + k))) j
+  passed j m h = record { fails = λ k l. ap not (sym (rest_at k false (omega arith)) ∙ h k false (omega arith) l) }
+
+  pub rest_stops :
+      (j : ℕ)
+      → (j < length rest) × HoldsAt (λ x. x ≡ false) rest j × AllWithin (λ x. x ≡ true) rest 0 j
+      → (q + j ≡ run_end (quarters set) q) × (q + j ≤ day_quarters)
+  rest_stops j h =
+      let l : j < day_quarters - q = omega (arith, h.0, length-take (day_quarters - q) (drop q set)) in
+      let clear = ap not (sym (rest_at j false l) ∙ h.1 false) in
+      (run_stops (quarters set) q (passed j (omega arith) h.2) (omega arith) clear, omega arith)
+
+  pub rest_through :
+      length set ≡ day_quarters
+      → q < day_quarters
+      → AllWithin (λ x. x ≡ true) rest 0 (length rest)
+      → (day_quarters ≡ run_end (quarters set) q) × (day_quarters ≤ day_quarters)
+  rest_through long l h =
+      let n : length rest ≡ day_quarters - q = length-take (day_quarters - q) (drop q set) ∙ omega (arith, length-drop q set, long) in
+      (run_through (quarters set) q (passed (day_quarters - q) (omega arith) (rw n at h)) l (omega arith), omega arith)
+
 -- a season's lines
 module _ (season : ℕ) (f : ℕ → Bool) where
   pub season_runs : any_over f day_quarters ≡ true → text_over (run_text season f) day_quarters ≡ season_text season f
@@ -88,6 +118,64 @@ module _ (season : ℕ) (f : ℕ → Bool) where
       go : (b : Bool) → length (cond b (text_over (run_text season f) day_quarters) (none_line season)) ≤ 1344
       go true = omega (arith, text_short (run_text season f) day_quarters 14 (λ k l. run_short season f k))
       go false = omega arith
+
+-- is a quarter of a season set: some place of its list is, or none
+is_true : (b : Bool) → beq b true ≡ true → b ≡ true
+is_true true e = refl
+is_true false e = e
+
+is_false : (b : Bool) → beq b true ≡ false → b ≡ false
+is_false true e = e
+is_false false e = refl
+
+pub some_set :
+    (set : List Bool)
+    → length set ≡ day_quarters
+    → (k : ℕ) × (k < length set) × HoldsAt (λ x. beq x true ≡ true) set k
+    → any_over (quarters set) day_quarters ≡ true
+some_set set long h = any_at (quarters set) day_quarters h.0 (omega (arith, long, h.1)) (is_true _ (h.2 false))
+
+pub none_set :
+    (set : List Bool)
+    → length set ≡ day_quarters
+    → AllWithin (λ x. beq x true ≡ false) set 0 (length set)
+    → any_over (quarters set) day_quarters ≡ false
+none_set set long h = any_fails (quarters set) day_quarters (λ k l. is_false _ (h k false (omega arith) (omega (arith, long))))
+
+-- the seasons' lists, cut out of all windows one after the other
+chunk_at : {A : Type 0} (n m : ℕ) (xs : List A) (k : ℕ) (d : List A) → k < m → get_or (first_chunks n m xs) k d ≡ take n (drop (n * k) xs)
+chunk_at n zero xs k d l = absurd (not-suc-le-zero l)
+chunk_at n (suc m) xs zero d l =
+    let e : 0 ≡ n * 0 = omega arith in
+    ap (λ (i : ℕ). take n (drop i xs)) e
+chunk_at n (suc m) xs (suc k) d l =
+    let e : n + n * k ≡ n * suc k = simp unary_clauses (omega arith) in
+    chunk_at n m (drop n xs) k d (omega (arith, l)) ∙ ap (take n) (drop-drop (n * k) n xs) ∙ ap (λ (i : ℕ). take n (drop i xs)) e
+
+-- behind the day no quarter is set
+set_past : (w : List Bool) (s q : ℕ) → Within 1 seasons s → day_quarters ≤ q → false ≡ is_set w s q
+unfolding is_set
+set_past w s q h l = simp (le-leb 1 s h.from, le-leb s seasons h.to, le-ltb q day_quarters l)
+
+module _ (w : List Bool) (k : ℕ) (l : k < seasons) where
+  abbrev part : List Bool
+  part = take day_quarters (drop (day_quarters * k) w)
+
+  part_at : (q : ℕ) → quarters part q ≡ is_set w (k + 1) q
+  part_at q = go (dec_lt q day_quarters)
+    where
+      go : Dec (q < day_quarters) → quarters part q ≡ is_set w (k + 1) q
+      go (yes m) =
+          get_or-take day_quarters (drop (day_quarters * k) w) q false m
+          ∙ get_or-drop (day_quarters * k) w q false
+          ∙ ap (λ (i : ℕ). get_or w i false) (omega arith)
+          ∙ set_at w (k + 1) q (record { from = omega arith; to = omega arith }) m
+      go (no m) =
+          get_or-eq_default part false (omega (arith, length-take day_quarters (drop (day_quarters * k) w)))
+          ∙ set_past w (k + 1) q (record { from = omega arith; to = omega arith }) (omega arith)
+
+  pub season_at : (d : List Bool) → season_text (k + 1) (quarters (get_or (first_chunks day_quarters seasons w) k d)) ≡ season_in w k
+  season_at d = ap (λ s. season_text (k + 1) (quarters s)) (chunk_at day_quarters seasons w k d l) ∙ (λ i. season_text (k + 1) (λ q. part_at q i))
 
 -- all lines: the head, then the seasons
 module _ (year level : ℕ) (windows : List Bool) where

@@ -1,7 +1,7 @@
 -- The lines that the window program prints for an accepted file: a first line with year and level, then the lines of
 -- each season. A run is a stretch of windows without a gap; it never goes over midnight. f tells which quarters of a
 -- season are set. Quarters count from 0, seasons from 1 unless said otherwise. Rule 10.6.
-use Rattle.std.specs.Prelude.{Bool, cond, not, ◌&&◌, ◌||◌, List, [], ◌∷◌, ◌++◌, ℕ, ◌+◌, ◌-◌, ◌*◌, ◌/◌, ◌%◌, eqb}
+use Rattle.std.specs.Prelude.{Bool, false, cond, not, ◌&&◌, ◌||◌, List, [], ◌∷◌, ◌++◌, ℕ, ◌+◌, ◌-◌, ◌*◌, ◌/◌, ◌%◌, eqb, get_or}
 use Rattle.ranges.specs.Ranges.{any_over, first_over}
 use Rattle.answers.specs.Ruling.{day_quarters}
 use Rattle.encoding.specs.Bytes.{ascii}
@@ -34,6 +34,10 @@ run_line season from to = (digit season ∷ ascii " ") ++ time_of from ++ ascii 
 -- the line of a season without windows: its number and `none`
 abbrev pub none_line : ℕ → List ℕ
 none_line season = digit season ∷ ascii " none\n"
+
+-- which quarters are set, by a list that tells it of each
+abbrev pub quarters : List Bool → ℕ → Bool
+quarters set q = get_or set q false
 
 -- a run begins at quarter q: the quarter is set, and it is the day's first or the one before is not set
 abbrev pub begins : (ℕ → Bool) → ℕ → Bool

@@ -1,52 +1,49 @@
 -- `day_text::day_line` meets its contract: date, weekday and word fit into the line's 40 bytes, and the line is written
 -- where it fits.
 -- Assumes nothing.
-use mathlib.Core.Path.{sym, ap, ◌∙◌}
-use mathlib.Core.List.{append_assoc}
+use mathlib.Core.Path.{◌≡◌, refl, sym, ap, ◌∙◌}
 use Prim.Native.Nat.{◌≤◌}
 use native.Mathlib.Omega.{arith}
+use borrow.Author.Rules.{rules}
 use lib.ListN.{length}
 use lib.Seq.{length-take-le}
+use Rattle.texts.specs.Text.{Writes}
+use Rattle.texts.specs.declared.Writer.{Writer}
+use Rattle.day_kinds.specs.Kinds.{kind_code}
 use Rattle.dates.specs.Dates.{weekday_of}
-use Rattle.day_text.specs.Text.{weekday_name, day_line}
-use Rattle.texts.proofs.Text.{wrote_as, put_as, then, taken}
-use Rattle.day_text.proofs.Line.{dated, named, worded}
-use Rattle.day_text.proofs.day_line.Goals.{After-add_bytes-end}
+use Rattle.day_text.specs.Asked.{year_at, day_at}
+use Rattle.day_text.specs.Text.{weekday_name, kind_word, day_line}
+use Rattle.day_text.proofs.Line.{lined}
+use Rattle.day_text.proofs.Short.{weekday_short, word_short}
+use Rattle.texts.proofs.Writing.{copied}
+use Rattle.day_text.proofs.day_line.Goals.{After-add-6}
 use Rattle.day_text.proofs.day_line.Goals as goal
 
-pub slice_bounds-add_bytes-end-2 : goal.slice_bounds-add_bytes-end-2
-slice_bounds-add_bytes-end-2 c = sym (length-take-le 10 c.args.b.now (omega arith))
+-- the whole line is written into the array
+written :
+    (e : After-add-6)
+    → (s : Writer) × (s.at ≡ 0) × (length s.buf.now ≡ 40) × Writes s (day_line e.args.b.now (kind_code e.args.kind)) e.add-6.new.self
+unfolding day_line
+written e =
+    let name : e.weekday_name.result.now ≡ weekday_name (weekday_of (year_at e.args.b.now 0) (day_at e.args.b.now 0)) =
+    e.weekday_name.ensures ∙ ap weekday_name (e.weekday.ensures ∙ (λ i. weekday_of (e.year_at.ensures i) (e.day_at.ensures i))) in
+    let word : e.kind_word.result.now ≡ kind_word (kind_code e.args.kind) = e.kind_word.ensures in
+    let short : length e.weekday_name.result.now ≤ 9 = rw name (weekday_short _) in
+    let line =
+    lined e.args.b.now short (rw word (word_short _)) refl refl e.add.ensures e.add-2.ensures e.add-3.ensures e.add-4.ensures e.add-5.ensures e.add-6.ensures in
+    (_, refl, refl, rw (name, word) at line)
 
-pub add_weekday-name-requires : goal.add_weekday-name-requires
-add_weekday-name-requires c =
-    let d = (dated c.args.b.now (omega arith) c.add_bytes-date.ensures c.add_bytes-space.ensures).1 in
-    omega (arith, d.upto, d.long)
+pub slice_bounds-made-end : goal.slice_bounds-made-end
+slice_bounds-made-end c =
+    let w = written (goal.at.slice_bounds-made-end c).After-add-6 in
+    omega (arith, w.1, w.2, w.3.wrote.end, w.3.wrote.room)
 
-pub add_kind-word-requires : goal.add_kind-word-requires
-add_kind-word-requires c =
-    let d = (dated c.args.b.now (omega arith) c.add_bytes-date.ensures c.add_bytes-space.ensures).1 in
-    let n = (named _ d c.add_weekday-name.ensures c.add_bytes-gap.ensures).1 in
-    omega (arith, n.upto, n.long)
-
--- the whole line lies within its bytes
-ended : (e : After-add_bytes-end) → e.add_bytes-end.result ≤ length e.add_bytes-end.new.buf
-ended e =
-    let d = (dated e.args.b.now (omega arith) e.add_bytes-date.ensures e.add_bytes-space.ensures).1 in
-    let n = (named _ d e.add_weekday-name.ensures e.add_bytes-gap.ensures).1 in
-    let w = (worded _ n e.add_kind-word.ensures e.add_bytes-end.ensures).1 in
-    omega (arith, w.upto, w.long)
-
-pub slice_bounds-line-end : goal.slice_bounds-line-end
-slice_bounds-line-end c = ended (goal.at.slice_bounds-line-end c).After-add_bytes-end
-
-pub slice_bounds-add_bytes-end-9 : goal.slice_bounds-add_bytes-end-9
-slice_bounds-add_bytes-end-9 c = sym (length-take-le _ _ (ended (goal.at.slice_bounds-add_bytes-end-9 c).After-add_bytes-end))
+pub slice_bounds-add_bytes-end : goal.slice_bounds-add_bytes-end
+slice_bounds-add_bytes-end c =
+    let w = written (goal.at.slice_bounds-add_bytes-end c).After-add-6 in
+    sym (length-take-le _ _ (omega (arith, w.1, w.2, w.3.wrote.end, w.3.wrote.room)))
 
 pub returns : goal.returns
-unfolding day_line
 returns c =
-    let d = dated c.args.b.now (omega arith) c.add_bytes-date.ensures c.add_bytes-space.ensures in
-    let day = ap weekday_name (c.weekday-weekday.ensures ∙ (λ i. weekday_of (c.year_at.ensures i) (c.day_at.ensures i))) in
-    let n = named _ d.1 c.add_weekday-name.ensures c.add_bytes-gap.ensures in
-    let w = worded _ n.1 c.add_kind-word.ensures c.add_bytes-end.ensures in
-    put_as (taken (wrote_as (rw day (simp append_assoc)) (then d.0 (then n.0 w.0)))) c.add_bytes.ensures
+    let w = written (goal.at.returns c).After-add-6 in
+    copied c.add_bytes.ensures w.3 w.1 (search rules)

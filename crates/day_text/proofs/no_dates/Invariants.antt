@@ -1,13 +1,8 @@
 -- `day_text::no_dates` meets its contract. The loop's invariant: the bytes before place i fit the form.
 -- Assumes nothing.
-use Prim.Native.Nat.{◌≤◌, ◌-◌}
-use lib.ListN.{length}
 use Rattle.ranges.proofs.Tests.{Passed}
 use Rattle.day_text.specs.Asked.{misfits_at}
 use Rattle.day_text.proofs.no_dates.Given as goal
 
 abbrev pub invariant-loop-i : goal.invariant-loop-i
-invariant-loop-i l = (l.i ≤ length l.b) × Passed (misfits_at l.b) l.i
-
-abbrev pub decreases-loop-i : goal.decreases-loop-i
-decreases-loop-i l = length l.b - l.i
+invariant-loop-i l = Passed (misfits_at l.b) l.i

@@ -1,20 +1,18 @@
-use mathlib.Core.Path.{sym, ◌∙◌}
+-- `day_text::no_such_date` meets its contract: some line has such a date, or none has.
+-- Assumes nothing.
+use mathlib.Core.Path.{◌≡◌, refl}
+use Prim.Native.Nat.{◌*◌}
+use borrow.Author.Rules.{rules}
+use borrow.Author.Tests.{tests}
 use native.Mathlib.Omega.{arith}
-use borrow.Author.Tests.{ne_eqb}
-use Rattle.ranges.proofs.Tests.{passed_none, passed_more}
-use Rattle.day_text.proofs.Laws.{missing_found, none_missing}
+use Rattle.std.proofs.lemmas.Iterator.{cases_from_any, YieldsList-from_range}
+use Rattle.day_text.specs.Asked.{line_size, line_count, day_at}
+use Rattle.day_text.proofs.Laws.{dates_searched}
 use Rattle.day_text.proofs.no_such_date.Goals as goal
 
-pub returns-then-day_at-eq0 : goal.returns-then-day_at-eq0
-returns-then-day_at-eq0 c =
-    missing_found _ c.loop-k.k (omega arith) (sym c.day_at.ensures ∙ c.if-day_at-eq0.true)
-
-pub loop-k-preserved : goal.loop-k-preserved
-loop-k-preserved c =
-    (omega arith, passed_more c.loop-k.invariant.1 (ne_eqb _ _ (λ e. c.if-day_at-eq0.false (c.day_at.ensures ∙ e))))
-
-pub loop-k-init : goal.loop-k-init
-loop-k-init c = (omega arith, passed_none)
-
 pub returns : goal.returns
-returns c = none_missing _ c.loop-k.invariant.1 (omega arith)
+returns c =
+    let b = c.args.b.now in
+    dates_searched b _
+    (cases_from_any _ _ _ (λ k. day_at b (line_size * k) ≡ 0) (λ k. day_at b (line_size * k) ≡ 0 → ⊥) c.any.ensures.ran
+    (YieldsList-from_range 0 (line_count b) (line_count b) refl (omega arith)) (λ x q k. search (rules, tests)) (λ x q k. search (rules, tests)))

@@ -1,37 +1,38 @@
--- `lines::add_field` meets its contract, a law for each return.
+-- `lines::add_field` meets its contract: a space, unless the field is the first, and the number behind it.
 -- Assumes nothing.
-use mathlib.Core.Path.{ap}
+use mathlib.Core.Path.{◌≡◌, ap}
 use mathlib.Core.List.{[], ◌∷◌}
+use Prim.Native.Nat.{ℕ}
 use native.Mathlib.Omega.{arith}
 use lib.ListN.{length}
-use Rattle.texts.specs.Text.{Wrote}
-use Rattle.texts.proofs.Text.{wrote_as, then, fitted}
+use Rattle.texts.specs.declared.Writer.{Writer}
+use Rattle.texts.specs.Text.{Room, Puts, Writes}
+use Rattle.texts.proofs.Writing.{wrote_as, fitted, then}
+use Rattle.lines.specs.Figures.{field_of}
 use Rattle.lines.proofs.Figures.{field_first, field_next}
-use Rattle.lines.proofs.add_field.Goals.{After-add_bytes-n}
+use Rattle.lines.proofs.add_field.Goals.{then-i-ne0, else-i-ne0}
 use Rattle.lines.proofs.add_field.Goals as goal
+
+-- the space has room
+spaced : {s e : Writer} (i x : ℕ) → (i ≡ 0 → ⊥) → Room s (field_of i x) → Puts s (32 ∷ []) e → Writes s (32 ∷ []) e
+spaced i x n room put = fitted put (omega (arith, room, ap length (field_next i x n)))
 
 pub add_number-requires : goal.add_number-requires
 add_number-requires c =
     let a = c.args in
-    omega (arith, ap length (field_first a.i a.x c.if-i-eq0.true))
-
-pub returns-then-i-eq0 : goal.returns-then-i-eq0
-returns-then-i-eq0 c = wrote_as (field_first _ _ c.if-i-eq0.true) c.add_number.ensures
-
--- the space has room, and so has the number behind it
-spaced :
-    (e : After-add_bytes-n)
-    → let a = e.args in Wrote a.buf.now a.at (32 ∷ []) e.add_bytes-n.new.buf e.add_bytes-n.result
-spaced e =
-    let a = e.args in
-    fitted e.add_bytes-n.ensures (omega (arith, ap length (field_next a.i a.x e.if-i-eq0.false)))
-
-pub add_number-requires-2 : goal.add_number-requires-2
-add_number-requires-2 c =
-    let w = goal.at.add_number-requires-2 c in
-    let a = c.args in
-    omega (arith, ap length (field_next a.i a.x c.if-i-eq0.false), (spaced w.After-add_bytes-n).end, (spaced w.After-add_bytes-n).same)
+    elim c.if-i-ne0.branch [
+      | then-i-ne0 w ↦
+          let s = spaced a.i a.x w.if-i-ne0.true c.requires w.add.ensures in
+          rw w.text-is (omega (arith, c.requires, ap length (field_next a.i a.x w.if-i-ne0.true), s.wrote.end, s.wrote.same))
+      | else-i-ne0 w ↦ rw (w.text-is, field_first a.i a.x w.if-i-ne0.false) c.requires
+    ]
 
 pub returns : goal.returns
 returns c =
-    wrote_as (field_next _ _ c.if-i-eq0.false) (then (spaced (goal.at.returns c).After-add_bytes-n) c.add_number-2.ensures)
+    let a = c.args in
+    elim c.if-i-ne0.branch [
+      | then-i-ne0 w ↦
+          wrote_as (field_next a.i a.x w.if-i-ne0.true)
+          (then (spaced a.i a.x w.if-i-ne0.true c.requires w.add.ensures) (rw w.text-is at c.add_number.ensures))
+      | else-i-ne0 w ↦ wrote_as (field_first a.i a.x w.if-i-ne0.false) (rw w.text-is at c.add_number.ensures)
+    ]

@@ -1,26 +1,24 @@
--- `window_lines::windows_text` meets its contract: the text is made in an array that holds every text of
--- windows, and copied where it fits.
+-- `window_lines::windows_text` meets its contract: the text is made in an array that holds every text of windows, and
+-- copied where it fits.
 -- Assumes nothing.
-use mathlib.Core.Path.{sym, ap}
+use mathlib.Core.Path.{refl}
+use borrow.Author.Rules.{rules}
 use native.Mathlib.Omega.{arith}
-use lib.ListN.{length}
-use lib.Seq.{length-take-le}
-use Rattle.texts.proofs.Text.{wrote_as, fits, fitted, short, taken}
-use Rattle.window_lines.proofs.Runs.{windows_short}
+use Rattle.texts.proofs.Writing.{wrote_as, then, copied}
+use Rattle.window_lines.proofs.Runs.{windows_is, windows_long, windows_short}
 use Rattle.window_lines.proofs.windows_text.Goals as goal
 
-pub add_windows-n-requires : goal.add_windows-n-requires
-add_windows-n-requires c =
+pub add_head-requires : goal.add_head-requires
+add_head-requires c =
     let a = c.args in
-    omega (arith, windows_short a.year a.level a.windows.now)
+    omega (arith, windows_long a.year a.level a.windows.now, windows_short a.year a.level a.windows.now)
+
+pub add_seasons-requires : goal.add_seasons-requires
+add_seasons-requires c =
+    let a = c.args in
+    let head = c.add_head.ensures.wrote in
+    omega (arith, windows_long a.year a.level a.windows.now, windows_short a.year a.level a.windows.now, head.end, head.same)
 
 pub returns : goal.returns
 returns c =
-    let text = taken c.add_windows-n.ensures in
-    fits (wrote_as text (fitted c.add_bytes.ensures (omega (arith, ap length text))))
-
-pub returns-then-buf-n : goal.returns-then-buf-n
-returns-then-buf-n c = short _ _ _ (omega arith)
-
-pub slice_bounds-add_bytes-end : goal.slice_bounds-add_bytes-end
-slice_bounds-add_bytes-end c = sym (length-take-le _ _ (omega arith))
+    copied c.add_bytes.ensures (wrote_as (windows_is _ _ _) (then c.add_head.ensures c.add_seasons.ensures)) refl (search rules)
