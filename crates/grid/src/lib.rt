@@ -7,9 +7,9 @@ ghost use Rattle.std.specs.Prelude.{◌≡◌, List, ℕ, ◌<◌, length};
 ghost use Rattle.answers.specs.Ruling.{day_quarters};
 ghost use Rattle.editions.specs.Editions.{edition_of};
 ghost use Rattle.readings.specs.Legal.{highest_of};
-ghost use Rattle.sheet.specs.Answers.{said_of_written};
+ghost use Rattle.sheet.specs.Answers.{said_of_write};
 ghost use Rattle.sheet.specs.Windows.{seasons, flat_windows};
-ghost use Rattle.grid.specs.Answers.{said_of_grid, Gives, curve_of, curves_of, finish_answer, finished, windows_answer, windows_buffer};
+ghost use Rattle.grid.specs.Answers.{said_of_refusal, said_of_grid, Gives, curve_of, curves_of, grid_open_answer, finish_answer, finished, windows_answer, windows_buffer};
 
 use answers::{Edition, Place};
 use editions::Editions;
@@ -29,27 +29,30 @@ pub enum GridRefusal {
     DayOut,
 }
 
-fn as_grid_answer(written: Result<(), WriteRefusal>) -> Result<(), GridRefusal>
-    ensures { said_of_grid result ≡ said_of_written written }
-{
-    match written {
-        Ok(()) => Ok(()),
-        Err(WriteRefusal::Short) => Err(GridRefusal::Short),
-        Err(WriteRefusal::YearOut) => Err(GridRefusal::YearOut),
-        Err(WriteRefusal::LevelOut) => Err(GridRefusal::LevelOut),
-        Err(WriteRefusal::Malformed) => Err(GridRefusal::Malformed),
+// What refuses the sheet of the windows refuses the series.
+impl From<WriteRefusal> for GridRefusal {
+    ghost from_gives = { λ written refusal. said_of_refusal refusal ≡ said_of_write written };
+
+    fn from(refusal: WriteRefusal) -> GridRefusal {
+        match refusal {
+            WriteRefusal::Short => GridRefusal::Short,
+            WriteRefusal::YearOut => GridRefusal::YearOut,
+            WriteRefusal::LevelOut => GridRefusal::LevelOut,
+            WriteRefusal::Malformed => GridRefusal::Malformed,
+        }
     }
 }
 
 // Writes the curve of season s, from 0, out of the flat curves, one array that has the four one after the other. (It
 // is written where it is to stand: so the compiler sees that the four together are the flat array once more, and makes
 // no copy where that is not needed any more.)
+// Kept: a loop, since `copy_from_slice` makes that copy: 1552 bytes of stack more.
 fn write_curve(out: &mut [u32; answers::DAY_QUARTERS], flat: &[u32; sheet::WINDOW_PLACES], s: usize)
     requires { (length out.old ≡ day_quarters) × (s < seasons) }
     ensures { out.new ≡ curve_of flat.now s }
 {
-    for q in 0..answers::DAY_QUARTERS {
-        out[q] = flat[answers::DAY_QUARTERS * s + q];
+    for (q, value) in out.iter_mut().enumerate() {
+        *value = flat[answers::DAY_QUARTERS * s + q];
     }
 }
 
@@ -58,8 +61,8 @@ fn by_season(flat: &[u32; sheet::WINDOW_PLACES]) -> [[u32; answers::DAY_QUARTERS
     ensures { result ≡ curves_of flat.now }
 {
     let mut out = [[0; answers::DAY_QUARTERS]; sheet::SEASONS];
-    for s in 0..sheet::SEASONS {
-        write_curve(&mut out[s], flat, s);
+    for (s, curve) in out.iter_mut().enumerate() {
+        write_curve(curve, flat, s);
     }
     out
 }
@@ -71,8 +74,8 @@ fn flat_windows(
     ensures { result ≡ flat_windows chosen }
 {
     let mut out = [false; sheet::WINDOW_PLACES];
-    for p in 0..sheet::WINDOW_PLACES {
-        out[p] = chosen[p / answers::DAY_QUARTERS][p % answers::DAY_QUARTERS];
+    for (p, set) in out.iter_mut().enumerate() {
+        *set = chosen[p / answers::DAY_QUARTERS][p % answers::DAY_QUARTERS];
     }
     out
 }
@@ -95,15 +98,13 @@ fn finish_by(
         return Err(GridRefusal::NoPeak);
     }
     let windows = flat_windows(windows::chosen(edition, peak, curves));
-    as_grid_answer(sheet_write::write_by(
-        edition,
-        Sheet {
-            year,
-            level,
-            windows,
-        },
-        out,
-    ))
+    let sheet = Sheet {
+        year,
+        level,
+        windows,
+    };
+    sheet_write::write_by(edition, sheet, out)?;
+    Ok(())
 }
 
 // What flat curves are answered by an edition once all days are in: 7 for a peak of zero, else the sheet of their
@@ -122,6 +123,19 @@ pub fn finish(
     finish_by(edition, year, level, &seasons, peaks::highest(curves), out)
 }
 
+// What refuses a series before its first reading: 1, then 2. Any edition, year and level have an answer.
+pub fn opens(edition: Edition, year: u16, level: u8) -> Result<(), GridRefusal>
+    ensures { said_of_grid result ≡ grid_open_answer edition year level }
+{
+    if answers::lacks_year(edition, year) {
+        return Err(GridRefusal::YearOut);
+    }
+    if answers::level_out(level) {
+        return Err(GridRefusal::LevelOut);
+    }
+    Ok(())
+}
+
 // The windows of a whole series by an edition, as a sheet in a lent buffer. Refuses 14, 1, 2, 4, 5, 7 in this order,
 // and then changes no byte.
 fn windows_by(
@@ -137,12 +151,7 @@ fn windows_by(
     if out.len() < sheet::SHEET_SIZE {
         return Err(GridRefusal::Short);
     }
-    if answers::lacks_year(edition, year) {
-        return Err(GridRefusal::YearOut);
-    }
-    if answers::level_out(level) {
-        return Err(GridRefusal::LevelOut);
-    }
+    opens(edition, year, level)?;
     let run = Run::Period(year);
     if series.len() != readings::run_readings(run) {
         return Err(GridRefusal::WrongLength);

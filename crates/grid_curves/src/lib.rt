@@ -16,29 +16,19 @@ ghost use Rattle.grid_curves.specs.Four.{four_days, overlaid, Without};
 use readings::{Change, Run};
 
 // How many readings four usual days have.
-const FOUR_DAYS: usize = 384;
-
-// The last day number that 16 bits hold.
-const LAST_DAY: u16 = 65535;
+const FOUR_DAYS: usize = 4 * answers::DAY_QUARTERS;
 
 // The number of winter; seasons count from 1.
 const WINTER: u8 = 1;
-
-// The smaller of two numbers.
-fn smaller(a: usize, b: usize) -> usize
-    ensures { result ≡ min a b }
-{
-    if a < b { a } else { b }
-}
 
 // The season, from 1, of day d, from 0, of a period. Days behind every period lie in winter.
 fn season_of(year: u16, d: u16) -> u8
     ensures { result ≡ period_season year (d + 1) }
 {
-    if d < LAST_DAY {
-        return periods::period_season(year, d + 1);
+    match d.checked_add(1) {
+        Some(k) => periods::period_season(year, k),
+        None => WINTER,
     }
-    WINTER
 }
 
 // Lays the readings of day d, from 0, which has `len` of them, over the curve of its season, from 1: every day counts,
@@ -55,9 +45,9 @@ fn lay(
     ensures { curves.new ≡ merged year curves.old d day.now }
 {
     let base = answers::DAY_QUARTERS * (season as usize - 1);
-    for p in 0..day.len() {
+    for (p, reading) in day.iter().enumerate() {
         let at = base + readings::quarter_in(len, p);
-        curves[at] = peaks::larger(curves[at], day[p]);
+        curves[at] = curves[at].max(*reading);
     }
 }
 
@@ -66,25 +56,23 @@ pub fn lay_day(curves: &mut [u32; sheet::WINDOW_PLACES], year: u16, d: u16, day:
     ensures { curves.new ≡ merged year curves.old d day.now }
 {
     let len = readings::day_len(Run::Period(year), d);
-    let n = smaller(day.len(), len);
+    let n = day.len().min(len);
     lay(&mut *curves, year, d, season_of(year, d), len, &day[..n]);
 }
 
 // Lays four days of one season, from 1, which stand one after the other, over the curves: a curve's value is read and
 // written once for all four.
+// Kept: five stretches are read at one place q; four zips in a row are no plainer.
 fn lay_four(curves: &mut [u32; sheet::WINDOW_PLACES], season: u8, four: &[u32])
     requires { (length four.now ≡ four_days) × (1 ≤ season) × (season ≤ 4) }
     ensures { curves.new ≡ overlaid season curves.old four.now }
 {
     let base = answers::DAY_QUARTERS * (season as usize - 1);
     for q in 0..answers::DAY_QUARTERS {
-        let early = peaks::larger(four[q], four[answers::DAY_QUARTERS + q]);
-        let late = peaks::larger(
-            four[2 * answers::DAY_QUARTERS + q],
-            four[3 * answers::DAY_QUARTERS + q],
-        );
+        let early = four[q].max(four[answers::DAY_QUARTERS + q]);
+        let late = four[2 * answers::DAY_QUARTERS + q].max(four[3 * answers::DAY_QUARTERS + q]);
         let at = base + q;
-        curves[at] = peaks::larger(curves[at], peaks::larger(early, late));
+        curves[at] = curves[at].max(early.max(late));
     }
 }
 
@@ -103,6 +91,7 @@ fn stop_at(sunday: u16, from: u16, end: u16) -> u16
 // Lays days of a season with 96 readings each over the curves, four at once, from day `from`, from 0, on: as long as
 // there are four before `end`, and readings for them. Hands back how many days of the period are laid then. (Where the
 // first of them stands is asked once, and four days on stand 384 readings on.)
+// Kept: a `while`, since the month or the series ends it, and the day that it came to is handed back.
 fn lay_fours(
     curves: &mut [u32; sheet::WINDOW_PLACES],
     year: u16,
@@ -141,8 +130,8 @@ fn lay_held(
     ensures { curves.new ≡ flat_curves year series.now (d + 1) }
 {
     let span = readings::span_by(change, d);
-    let from = smaller(span.start, series.len());
-    let to = smaller(span.start + span.len, series.len());
+    let from = span.start.min(series.len());
+    let to = (span.start + span.len).min(series.len());
     lay(&mut *curves, year, d, season, span.len, &series[from..to]);
 }
 
@@ -162,16 +151,16 @@ fn lay_month(
     let season = periods::period_season(year, from + 1);
     let end = from + 1 + periods::period_left(year, from + 1);
     let usual = stop_at(change.long, from, stop_at(change.short, from, end));
-    let mut d = lay_fours(&mut *curves, year, season, change, usual, from, series);
-    while d < end {
+    let laid = lay_fours(&mut *curves, year, season, change, usual, from, series);
+    for d in laid..end {
         lay_held(&mut *curves, year, season, change, d, series);
-        d += 1;
     }
-    d
+    end
 }
 
 // The curves of the period's days in any series, month by month: one pass, over one array. Behind the last reading
 // there is 0. The period's two Sundays of the clock change are worked out once, and handed on.
+// Kept: a `while`, since how many days a month's step takes is known only once it is done.
 pub fn collect(year: u16, series: &[u32]) -> [u32; sheet::WINDOW_PLACES]
     ensures { result ≡ flat_curves year series.now (period_days year) }
 {

@@ -26,34 +26,11 @@ use Rattle.grid_days.specs.declared.Grid.{Grid}
 use Rattle.std.specs.Prelude.{Result, Ok, Err, is_ok, ⊤}
 use Rattle.ranges.proofs.Bools.{clash}
 use Rattle.grid.specs.declared.GridRefusal.{GridRefusal}
-use Rattle.grid.specs.declared.GridRefusal.TheVariants.{Short, YearOut, LevelOut, WrongLength, BadReading, NoPeak, Malformed, DayOut}
 use Rattle.grid.specs.Answers.{said_of_grid, finish_answer, finished, grid_open_answer}
 use Rattle.grid_days.specs.Days.{fresh_grid, shut_grid, open_grid, grid_day_answer, grid_taken, day_grid, day_curves, grid_close_answer, grid_close_buffer}
-use Rattle.grid.proofs.Answered.{open_year, open_level, open_done, finished_again}
+use Rattle.grid.proofs.Answered.{refuses, finished_again}
 
--- opening
-module _ (ed : Edition) (y level : ℕ) where
-  pub opened_year : lacks_year ed y ≡ true → (only 1 ≡ grid_open_answer ed y level) × (shut_grid ≡ open_grid ed y level)
-  opened_year e = refusal_keeps (only 1) (fresh_grid ed y level) shut_grid (open_year ed y level e) refl
-
-  module _ (a : lacks_year ed y ≡ false) where
-    pub opened_level : level_out level ≡ true → (only 2 ≡ grid_open_answer ed y level) × (shut_grid ≡ open_grid ed y level)
-    opened_level e = refusal_keeps (only 2) (fresh_grid ed y level) shut_grid (open_level ed y level a e) refl
-
-    pub opened_done : level_out level ≡ false → (only 0 ≡ grid_open_answer ed y level) × (fresh_grid ed y level ≡ open_grid ed y level)
-    opened_done e = done_hands (only 0) (fresh_grid ed y level) shut_grid (open_done ed y level a e) refl
-
--- no refusal is 0
-pub refuses : (e : GridRefusal) → eqb (said_of_grid (Err e)).number 0 ≡ false
-refuses Short = refl
-refuses YearOut = refl
-refuses LevelOut = refl
-refuses WrongLength = refl
-refuses (BadReading place) = refl
-refuses NoPeak = refl
-refuses Malformed = refl
-refuses DayOut = refl
-
+-- what is not refused is 0, and no refusal is
 pub answered : (r : Result ⊤ GridRefusal) → is_ok r ≡ true → only 0 ≡ said_of_grid r
 answered (Ok done) e = refl
 answered (Err refusal) e = absurd (clash e refl)
@@ -61,6 +38,14 @@ answered (Err refusal) e = absurd (clash e refl)
 pub refused : (r : Result ⊤ GridRefusal) → is_ok r ≡ false → eqb (said_of_grid r).number 0 ≡ false
 refused (Ok done) e = absurd (clash refl e)
 refused (Err refusal) e = refuses refusal
+
+-- opening
+module _ (ed : Edition) (y level : ℕ) (r : Result ⊤ GridRefusal) (said : said_of_grid r ≡ grid_open_answer ed y level) where
+  pub opened_shut : is_ok r ≡ false → shut_grid ≡ open_grid ed y level
+  opened_shut e = (refusal_keeps _ (fresh_grid ed y level) shut_grid said (refused r e)).1
+
+  pub opened_fresh : is_ok r ≡ true → fresh_grid ed y level ≡ open_grid ed y level
+  opened_fresh e = (done_hands (only 0) (fresh_grid ed y level) shut_grid (answered r e ∙ said) refl).1
 
 -- a day that is taken is one of the period's
 pub day_left : (y seen : ℕ) (day : List ℕ) → only 0 ≡ next_answer (Period y) grid_most seen day → seen < period_days y

@@ -77,20 +77,15 @@ impl Grid {
     fn open_by(edition: Edition, year: u16, level: u8) -> Stepped
         ensures { Gives result.answer (grid_open_answer edition year level) result.grid (open_grid edition year level) }
     {
-        if answers::lacks_year(edition, year) {
+        let answer = grid::opens(edition, year, level);
+        if answer.is_err() {
             return Stepped {
-                answer: Err(GridRefusal::YearOut),
-                grid: Grid::shut(),
-            };
-        }
-        if answers::level_out(level) {
-            return Stepped {
-                answer: Err(GridRefusal::LevelOut),
+                answer,
                 grid: Grid::shut(),
             };
         }
         Stepped {
-            answer: Ok(()),
+            answer,
             grid: Grid {
                 edition,
                 year,

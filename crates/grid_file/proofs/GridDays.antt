@@ -9,10 +9,9 @@ use lib.Dec.{eqb}
 use Rattle.answers.specs.Said.{Said}
 use Rattle.answers.specs.declared.Place.{Place}
 use Rattle.grid_days.specs.declared.Grid.{Grid}
-use Rattle.std.specs.Prelude.{Err}
 use Rattle.grid.specs.declared.GridRefusal.{GridRefusal}
 use Rattle.grid.specs.declared.GridRefusal.TheVariants.{Short, YearOut, LevelOut, WrongLength, BadReading, NoPeak, Malformed, DayOut}
-use Rattle.grid.specs.Answers.{said_of_grid}
+use Rattle.grid.specs.Answers.{said_of_refusal}
 use Rattle.grid_days.specs.Days.{grid_day_answer, day_grid}
 use Rattle.fields.specs.declared.Stage.{Stage}
 use Rattle.fields.specs.declared.Stage.TheVariants.{Refused}
@@ -40,7 +39,7 @@ module _ (s : GridFile) (day : List ℕ) where
 pub not_five :
     (e : GridRefusal)
     → ((place : Place) → e ≡ BadReading place → ⊥)
-    → Refused (said_of_grid (Err e)).number ≡ day_stage (said_of_grid (Err e))
+    → Refused (said_of_refusal e).number ≡ day_stage (said_of_refusal e)
 unfolding stage_of
 not_five Short h = refl
 not_five YearOut h = refl

@@ -9,6 +9,7 @@ ghost use Rattle.answer_numbers.specs.Numbers.{numbers_of};
 use answer_numbers::Numbers;
 use grid::GridRefusal;
 
+// Kept: a function and no `From`, since neither type is this crate's own.
 // An answer's number; 5 has the place of the illegal reading as its figures, the day from 1 and the position from 0.
 pub fn of_answer(answer: Result<(), GridRefusal>) -> Numbers
     ensures { result ≡ numbers_of (said_of_grid answer) }

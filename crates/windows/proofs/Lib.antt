@@ -1,4 +1,5 @@
 pub mod Kept
+pub mod Counted
 pub mod Ahead
 pub mod Cutting
 pub mod Added

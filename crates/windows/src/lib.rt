@@ -13,9 +13,6 @@ ghost use Rattle.windows.specs.Cuts.{line_of, higher_than, MostBetween, kept_at}
 
 use answers::Edition;
 
-// The highest value of a curve that 32 bits hold.
-const VALUE_MOST: u64 = 4_294_967_295;
-
 // Two limits between which a season is cut.
 #[derive(Clone, Copy)]
 struct Limits {
@@ -35,14 +32,7 @@ struct Cut {
 fn line_of(edition: Edition, peak: u32) -> u64
     ensures { result ≡ line_of edition peak }
 {
-    edition.line as u64 * (peak as u64) / answers::WHOLE_SHARE
-}
-
-// 1 where a is higher than b, else 0.
-fn if_higher(b: u32, a: u32) -> u32
-    ensures { (result ≡ bit (ltb b a)) × (result ≤ 1) }
-{
-    if b < a { 1 } else { 0 }
+    u64::from(edition.line) * u64::from(peak) / answers::WHOLE_SHARE
 }
 
 // How many quarters are higher than a limit.
@@ -50,18 +40,20 @@ fn count_above(curve: &[u32; answers::DAY_QUARTERS], limit: u32) -> usize
     ensures { result ≡ higher_than curve.now limit }
 {
     let mut n: u32 = 0;
-    for p in 0..answers::DAY_QUARTERS {
-        n += if_higher(limit, curve[p]);
+    for value in curve {
+        n += u32::from(limit < *value);
     }
     n as usize
 }
 
 // Two limits that are nearer, `most` quarters or more above the low one and no more than `most` above the high one: the
 // value in the middle is one of them. Where just so many are above it, the search is over.
-fn nearer(curve: &[u32; answers::DAY_QUARTERS], most: usize, low: u32, high: u32) -> Limits
-    requires { (low + 1 < high) × MostBetween curve.now most low high }
-    ensures { (low ≤ result.low) × (result.low < result.high) × (result.high - result.low < high - low) × MostBetween curve.now most result.low result.high }
+fn nearer(curve: &[u32; answers::DAY_QUARTERS], most: usize, between: Limits) -> Limits
+    requires { (between.low + 1 < between.high) × MostBetween curve.now most between.low between.high }
+    ensures { (between.low ≤ result.low) × (result.low < result.high) × (result.high - result.low < between.high - between.low)
+        × MostBetween curve.now most result.low result.high }
 {
+    let Limits { low, high } = between;
     let middle = low + (high - low) / 2;
     let n = count_above(curve, middle);
     if n < most {
@@ -78,18 +70,15 @@ fn nearer(curve: &[u32; answers::DAY_QUARTERS], most: usize, low: u32, high: u32
 
 // A limit that no more than `most` quarters are above, while as many or more are above the value before it: the way
 // between two limits is halved.
-fn limit_between(curve: &[u32; answers::DAY_QUARTERS], most: usize, from: u32, to: u32) -> u32
-    requires { (from < to) × MostBetween curve.now most from to }
-    ensures { (from < result) × MostBetween curve.now most (result - 1) result }
+fn limit_between(curve: &[u32; answers::DAY_QUARTERS], most: usize, between: Limits) -> u32
+    requires { (between.low < between.high) × MostBetween curve.now most between.low between.high }
+    ensures { (between.low < result) × MostBetween curve.now most (result - 1) result }
 {
-    let mut low = from;
-    let mut high = to;
-    while 1 < high - low {
-        let next = nearer(curve, most, low, high);
-        low = next.low;
-        high = next.high;
+    let mut limits = between;
+    while 1 < limits.high - limits.low {
+        limits = nearer(curve, most, limits);
     }
-    high
+    limits.high
 }
 
 // The cut that keeps what is above a limit.
@@ -104,16 +93,18 @@ fn above(limit: u32) -> Cut
 fn cut_of(edition: Edition, peak: u32, curve: &[u32; answers::DAY_QUARTERS]) -> Cut
     ensures { table (kept_at curve.now result.limit result.equals) day_quarters ≡ kept_of edition peak curve.now }
 {
-    let most = edition.limit as usize;
-    let line = line_of(edition, peak);
-    if VALUE_MOST < line {
+    let most = usize::from(edition.limit);
+    let Ok(line) = u32::try_from(line_of(edition, peak)) else {
         return above(peaks::highest(curve));
+    };
+    if count_above(curve, line) <= most {
+        return above(line);
     }
-    let from = line as u32;
-    if count_above(curve, from) <= most {
-        return above(from);
-    }
-    let limit = limit_between(curve, most, from, peaks::highest(curve));
+    let between = Limits {
+        low: line,
+        high: peaks::highest(curve),
+    };
+    let limit = limit_between(curve, most, between);
     Cut {
         limit,
         equals: most - count_above(curve, limit),
@@ -129,8 +120,8 @@ fn mark_above(
     requires { length out.old ≡ day_quarters }
     ensures { out.new ≡ table (λ (q : ℕ). ltb limit (get_or curve.now q 0)) day_quarters }
 {
-    for q in 0..answers::DAY_QUARTERS {
-        out[q] = limit < curve[q];
+    for (q, value) in curve.iter().enumerate() {
+        out[q] = limit < *value;
     }
 }
 
@@ -145,10 +136,10 @@ fn add_equals(
     ensures { out.new ≡ table (kept_at curve.now limit equals) day_quarters }
 {
     let mut n: usize = 0;
-    for q in 0..answers::DAY_QUARTERS {
-        let equal = curve[q] == limit;
-        out[q] = out[q] | (equal & (n < equals));
-        n += answers::one_if(equal);
+    for (q, value) in curve.iter().enumerate() {
+        let equal = *value == limit;
+        out[q] |= equal & (n < equals);
+        n += usize::from(equal);
     }
 }
 
@@ -172,7 +163,7 @@ fn keep(
 
 // The windows of four curves by an edition, for any peak: by season and by quarter, both from 0. Each season's
 // curve is lent on.
-// (Four calls, since a loop is unrolled with all that it calls, and takes 400 bytes of stack more.)
+// Kept: four calls, since a loop is unrolled with all that it calls, and takes 400 bytes of stack more.
 pub fn chosen(
     edition: Edition,
     peak: u32,

@@ -2,7 +2,6 @@
 -- left have a day's quarters.
 -- Assumes nothing.
 use mathlib.Core.List.{[]}
-use Prim.Native.Nat.{◌-◌}
 use Rattle.sheet.specs.Windows.{seasons}
 use Rattle.ranges.proofs.Tables.{Filled}
 use Rattle.grid.specs.Answers.{curve_of}
@@ -10,7 +9,4 @@ use Rattle.grid.proofs.RowsLeft.{Left}
 use Rattle.grid.proofs.by_season.Given as goal
 
 abbrev pub invariant-loop-s : goal.invariant-loop-s
-invariant-loop-s l = Filled (curve_of l.flat) seasons [] l.s l.out × Left l.s l.out
-
-abbrev pub decreases-loop-s : goal.decreases-loop-s
-decreases-loop-s l = seasons - l.s
+invariant-loop-s l = Filled (curve_of l.flat) seasons [] l.s l.curve-items × Left l.s l.curve-items

@@ -2,7 +2,7 @@
 -- Assumes nothing.
 use mathlib.Core.Bool.{false}
 use mathlib.Core.List.{[]}
-use Prim.Native.Nat.{ℕ, ◌-◌, ◌/◌, ◌%◌}
+use Prim.Native.Nat.{ℕ, ◌/◌, ◌%◌}
 use lib.ListN.{get_or}
 use Rattle.answers.specs.Ruling.{day_quarters}
 use Rattle.sheet.specs.Windows.{window_places}
@@ -10,7 +10,4 @@ use Rattle.ranges.proofs.Tables.{Filled}
 use Rattle.grid.proofs.flat_windows.Given as goal
 
 abbrev pub invariant-loop-p : goal.invariant-loop-p
-invariant-loop-p l = Filled (λ (k : ℕ). get_or (get_or l.chosen (k / day_quarters) []) (k % day_quarters) false) window_places false l.p l.out
-
-abbrev pub decreases-loop-p : goal.decreases-loop-p
-decreases-loop-p l = window_places - l.p
+invariant-loop-p l = Filled (λ (k : ℕ). get_or (get_or l.chosen (k / day_quarters) []) (k % day_quarters) false) window_places false l.p l.set-items

@@ -10,7 +10,7 @@ use Rattle.readings.specs.Runs.{day_len, day_start}
 use Rattle.readings.proofs.Near.{own_span}
 use Rattle.readings.proofs.Runs.{start_most, len_most, span_start, span_len}
 use Rattle.grid_curves.proofs.Curves.{curves_held}
-use Rattle.grid_curves.proofs.lay_held.Goals.{After-smaller-to, After-span_by-span}
+use Rattle.grid_curves.proofs.lay_held.Goals.{After-min-to, After-span_by-span}
 use Rattle.grid_curves.proofs.lay_held.Goals as goal
 
 -- the day's span, which lies far below 64 bits
@@ -35,26 +35,26 @@ spans e =
 
 -- the part of the series that holds the day's readings, as far as it does
 from_to :
-    (e : After-smaller-to)
+    (e : After-min-to)
     → let a = e.args in
     let start = e.span_by-span.result.start in
-    (e.smaller-from.result ≡ min start (length a.series.now))
-    × (e.smaller-to.result ≡ min (start + day_len (Period a.year) a.d) (length a.series.now))
+    (e.min-from.result ≡ min start (length a.series.now))
+    × (e.min-to.result ≡ min (start + day_len (Period a.year) a.d) (length a.series.now))
 from_to e =
     let a = e.args in
     let len = span_len _ _ (e.span_by-span.ensures ∙ own_span (Period a.year) a.d e.requires.2) in
-    (e.smaller-from.ensures, omega (arith, e.smaller-to.ensures, len))
+    (e.min-from.ensures, omega (arith, e.min-to.ensures, len))
 
 pub lay-requires : goal.lay-requires
 lay-requires c =
     let w = goal.at.lay-requires c in
-    let h = from_to w.After-smaller-to in
+    let h = from_to w.After-min-to in
     ((spans w.After-span_by-span).len_is, simp (length-take, length-drop) (omega (arith, (spans w.After-span_by-span).len_is)), c.requires.1)
 
 pub returns : goal.returns
 returns c =
     let a = c.args in
-    let h = from_to (goal.at.returns c).After-smaller-to in
+    let h = from_to (goal.at.returns c).After-min-to in
     c.lay.ensures ∙ curves_held a.year a.series.now a.d (spans (goal.at.returns c).After-span_by-span).start_is h.0 h.1 c.requires.3
 
 pub overflow_add-span : goal.overflow_add-span

@@ -32,9 +32,9 @@ month e =
           stays e.args.year e.args.from k a (omega (arith, left)) ∙ sym e.period_season-season.ensures;
     }
 
-pub lay_fours-d-requires : goal.lay_fours-d-requires
-lay_fours-d-requires c =
-    let m = month (goal.at.lay_fours-d-requires c).After-period_left in
+pub lay_fours-laid-requires : goal.lay_fours-laid-requires
+lay_fours-laid-requires c =
+    let m = month (goal.at.lay_fours-laid-requires c).After-period_left in
     let a = c.args in
     let none = c.stop_at.ensures in
     let usual = c.stop_at-usual.ensures in (
@@ -50,7 +50,7 @@ lay_fours-d-requires c =
 
 pub loop-d-init : goal.loop-d-init
 loop-d-init c =
-    let h = c.lay_fours-d.ensures in
+    let h = c.lay_fours-laid.ensures in
     (h.from, omega (arith, h.upto, c.stop_at-usual.ensures.at_most, c.stop_at.ensures.at_most), h.are)
 
 pub lay_held-requires : goal.lay_held-requires
@@ -59,15 +59,11 @@ lay_held-requires c =
     let inv = c.loop-d.invariant in
     (omega (arith, m.inside), sym (m.alike c.loop-d.d inv.0 (omega arith)), c.requires.1, inv.2)
 
-pub overflow_add-d : goal.overflow_add-d
-overflow_add-d c =
-    let few = period_most c.args.year in
-    omega (arith, (month (goal.at.overflow_add-d c).After-period_left).inside)
-
 pub returns : goal.returns
 returns c =
     let m = month (goal.at.returns c).After-period_left in
-    record { from = omega arith; upto = omega (arith, m.inside); are = c.loop-d.invariant.2 }
+    let all : c.loop-d.d ≡ c.args.from + 1 + c.period_left.result = omega arith in
+    record { from = omega arith; upto = omega (arith, m.inside); are = rw all at c.loop-d.invariant.2 }
 
 pub overflow_add-from : goal.overflow_add-from
 overflow_add-from c = let m = period_most c.args.year in omega arith

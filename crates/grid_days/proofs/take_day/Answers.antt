@@ -1,7 +1,8 @@
 -- `grid_days::take_day` meets its contract: a refusal leaves the curves, and a day that is not refused is laid over
 -- them. Assumes nothing.
 use Rattle.std.proofs.lemmas.Result.{err_from_is_err_and}
-use Rattle.grid_days.proofs.Steps.{refuses, curves_refused, curves_taken}
+use Rattle.grid.proofs.Answered.{refuses}
+use Rattle.grid_days.proofs.Steps.{curves_refused, curves_taken}
 use Rattle.grid_days.proofs.take_day.Goals as goal
 
 pub returns-in_err-day_answer : goal.returns-in_err-day_answer

@@ -5,6 +5,6 @@ use Rattle.windows.proofs.limit_between.Goals as goal
 
 pub returns : goal.returns
 returns c =
-    let loop = c.loop-high in
-    let next : loop.high - 1 ≡ loop.low = omega arith in
+    let loop = c.loop-limits in
+    let next : loop.limits.high - 1 ≡ loop.limits.low = omega arith in
     (omega arith, rw next loop.invariant.2)

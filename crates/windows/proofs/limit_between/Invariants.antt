@@ -5,8 +5,9 @@ use Prim.Native.Nat.{◌≤◌, ◌<◌, ◌-◌}
 use Rattle.windows.specs.Cuts.{MostBetween}
 use Rattle.windows.proofs.limit_between.Given as goal
 
-abbrev pub invariant-loop-high : goal.invariant-loop-high
-invariant-loop-high l = (l.from ≤ l.low) × (l.low < l.high) × MostBetween l.curve l.most l.low l.high
+abbrev pub invariant-loop-limits : goal.invariant-loop-limits
+invariant-loop-limits l =
+    (l.initial.limits.low ≤ l.limits.low) × (l.limits.low < l.limits.high) × MostBetween l.curve l.most l.limits.low l.limits.high
 
-abbrev pub decreases-loop-high : goal.decreases-loop-high
-decreases-loop-high l = l.high - l.low
+abbrev pub decreases-loop-limits : goal.decreases-loop-limits
+decreases-loop-limits l = l.limits.high - l.limits.low

@@ -9,6 +9,6 @@ use Rattle.windows.proofs.nearer.Goals as goal
 pub returns : goal.returns
 returns c =
     let a = c.args in
-    let middle = a.low + (a.high - a.low) / 2 in
+    let middle = a.between.low + (a.between.high - a.between.low) / 2 in
     let more = fewer a.curve.now {low = middle - 1} {high = middle} (omega arith) in
     (omega arith, omega arith, omega arith, (omega arith, omega arith))
