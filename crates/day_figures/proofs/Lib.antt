@@ -1,5 +1,6 @@
 pub mod OneDay
 pub mod Sunday
+pub mod Search
 pub mod DaySums
 pub mod Masks
 pub mod Fits

@@ -5,9 +5,9 @@
 // in (`day_fits`, proofs/Fits); else the answer is 13 or 4.
 #![tactic(auto)]
 
-ghost use Rattle.std.specs.Prelude.{◌≡◌, Ok, Err, false, cond, ◌&&◌, ℕ, ◌+◌, ◌%◌, ◌≤◌, ◌<◌, min, eqb, length, get_or};
+ghost use Rattle.std.specs.Prelude.{◌≡◌, Ok, Err, unwrap_or, IfSome, Bool, false, cond, ◌&&◌, ℕ, ◌+◌, ◌%◌, ◌≤◌, ◌<◌, eqb, length, get_or, position, zip};
 ghost use Rattle.std.specs.Int.Bits.{bit_and};
-ghost use Rattle.ranges.specs.Ranges.{first_over, number_if};
+ghost use Rattle.ranges.specs.Ranges.{number_if};
 ghost use Rattle.answers.specs.Ruling.{day_quarters};
 ghost use Rattle.readings.specs.Legal.{highest_of};
 ghost use Rattle.day_figures.specs.declared.TakingRefusal.TheVariants.{WrongLength};
@@ -17,13 +17,8 @@ ghost use Rattle.day_figures.specs.Passes.{four_end, all_ones, masks_of, some_le
 use readings::Change;
 use tariff::Figures;
 
-// No day adds more than this to a sum: 100 readings of 32 bits, all bits set. And the highest sum of 64 bits.
+// No day adds more than this to a sum: 100 readings of 32 bits, all bits set.
 const DAY_MOST: u64 = 429_496_729_500;
-
-const SUM_MOST: u64 = 18_446_744_073_709_551_615;
-
-// A mask that leaves every bit.
-const ALL_ONES: u32 = 4_294_967_295;
 
 // Four readings below this, 2^30, have a sum that fits 32 bits.
 const FOUR_END: u32 = 1_073_741_824;
@@ -42,19 +37,12 @@ pub enum TakingRefusal {
     DayOut,
 }
 
-// A reading as a number of 64 bits.
-fn wide(x: u32) -> u64
-    ensures { (result ≡ x) × (result ≤ 4294967295) }
-{
-    x as u64
-}
-
 // Four readings below 2^30, added up: their sum fits 32 bits.
 fn sum_four(a: u32, b: u32, c: u32, e: u32) -> u64
     requires { (a < four_end) × (b < four_end) × (c < four_end) × (e < four_end) }
     ensures { (result ≡ a + b + c + e) × (result < 4294967296) }
 {
-    wide(a + b + c + e)
+    u64::from(a + b + c + e)
 }
 
 // The sum of a day whose readings are all below 2^30: in four fourths, so that only sums of four are widened.
@@ -75,9 +63,9 @@ fn sum_each(day: &[u32]) -> u64
     requires { length day.now ≤ 100 }
     ensures { DaySum day.now result }
 {
-    let mut sum: u64 = 0;
-    for p in 0..day.len() {
-        sum += wide(day[p]);
+    let mut sum = 0;
+    for reading in day {
+        sum += u64::from(*reading);
     }
     sum
 }
@@ -109,27 +97,18 @@ fn tops_of(day: &[u32]) -> Tops
 fn mask_if(set: bool) -> u32
     ensures { result ≡ number_if set all_ones }
 {
-    if set { ALL_ONES } else { 0 }
-}
-
-// How many quarters a row says something about: at most 96, since a day has no more.
-fn row_end(row: &[bool]) -> usize
-    ensures { result ≡ min (length row.now) day_quarters }
-{
-    if row.len() < answers::DAY_QUARTERS {
-        row.len()
-    } else {
-        answers::DAY_QUARTERS
-    }
+    if set { u32::MAX } else { 0 }
 }
 
 // The row as 96 masks, all ones where a quarter counts: as wide as a reading, so that none has to be widened for each.
+// What a row says of more than a day's 96 quarters is passed over.
 fn masks_of(row: &[bool]) -> [u32; answers::DAY_QUARTERS]
     ensures { result ≡ masks_of row.now }
 {
     let mut out = [0; answers::DAY_QUARTERS];
-    for q in 0..row_end(row) {
-        out[q] = mask_if(row[q]);
+    let end = row.len().min(answers::DAY_QUARTERS);
+    for (q, set) in row[..end].iter().enumerate() {
+        out[q] = mask_if(*set);
     }
     out
 }
@@ -139,17 +118,10 @@ fn some_left(masks: &[u32; answers::DAY_QUARTERS]) -> bool
     ensures { result ≡ some_left masks.now }
 {
     let mut any = false;
-    for q in 0..answers::DAY_QUARTERS {
-        any = any | (0 < masks[q]);
+    for mask in masks {
+        any |= 0 < *mask;
     }
     any
-}
-
-// What a mask leaves of a reading.
-fn masked(reading: u32, mask: u32) -> u32
-    ensures { result ≡ bit_and reading mask }
-{
-    reading & mask
 }
 
 // The highest reading of a usual day that the masks leave: mask p is for position p.
@@ -158,8 +130,8 @@ fn masked_usual(masks: &[u32; answers::DAY_QUARTERS], day: &[u32]) -> u32
     ensures { result ≡ masked_high masks.now day.now }
 {
     let mut high = 0;
-    for p in 0..answers::DAY_QUARTERS {
-        high = peaks::larger(high, masked(day[p], masks[p]));
+    for (reading, mask) in day.iter().zip(masks) {
+        high = high.max(*reading & *mask);
     }
     high
 }
@@ -168,20 +140,16 @@ fn masked_usual(masks: &[u32; answers::DAY_QUARTERS], day: &[u32]) -> u32
 fn is_in(row: &[bool], q: usize) -> bool
     ensures { result ≡ get_or row.now q false }
 {
-    if q < row.len() { row[q] } else { false }
+    row.get(q).copied().unwrap_or(false)
 }
 
-// The first position of a usual day that counts and whose reading is `high`, or the day's length where none is.
-fn first_in(row: &[bool], day: &[u32], high: u32) -> usize
-    ensures { result ≡ first_over (λ (p : ℕ). get_or row.now p false && eqb (alone day.now p) high)
-        (length day.now) }
+// The first position of a usual day that counts and whose reading is `high`. Behind the row's end nothing counts.
+fn first_in(row: &[bool], day: &[u32], high: u32) -> Option<usize>
+    ensures { result ≡ position (λ (pair : Bool × ℕ). pair.0 && eqb pair.1 high) (zip row.now day.now) }
 {
-    for p in 0..day.len() {
-        if is_in(row, p) & (day[p] == high) {
-            return p;
-        }
-    }
-    day.len()
+    row.iter()
+        .zip(day)
+        .position(|(set, reading)| *set & (*reading == high))
 }
 
 // The figures with a day's highest reading and sum taken in, H as it was.
@@ -191,7 +159,7 @@ fn plain_day(f: Figures, day: &[u32]) -> Figures
 {
     let t = tops_of(day);
     Figures {
-        peak: peaks::larger(f.peak, t.peak),
+        peak: f.peak.max(t.peak),
         sum: f.sum + t.sum,
         any: f.any,
         high: f.high,
@@ -200,15 +168,15 @@ fn plain_day(f: Figures, day: &[u32]) -> Figures
     }
 }
 
-// The figures with H at a position of day d, or as they are where the day has no such position.
-fn high_at(f: Figures, d: u16, day: &[u32], at: usize) -> Figures
-    requires { (d < 65535) × Sized day.now }
-    ensures { result ≡ high_at f d day.now at }
+// The figures with H at a position of day d, or as they are where there is none.
+fn high_at(f: Figures, d: u16, day: &[u32], at: Option<usize>) -> Figures
+    requires { (d < 65535) × Sized day.now × IfSome at (λ p. p < length day.now) }
+    ensures { result ≡ high_at f d day.now (unwrap_or at (length day.now)) }
 {
     let n = day.len();
-    if n <= at {
+    let Some(at) = at else {
         return f;
-    }
+    };
     Figures {
         peak: f.peak,
         sum: f.sum,
@@ -259,36 +227,30 @@ fn take_fit(
     next
 }
 
-// A reading, or the one before it; a position, or the one before it: no jump depends on a reading.
-fn pick_reading(new: bool, reading: u32, before: u32) -> u32
-    ensures { result ≡ cond new reading before }
+// A value, or the one before it: no jump depends on a reading.
+fn pick<T: Copy>(new: bool, value: T, before: T) -> T
+    ensures { result ≡ cond new value before }
 {
-    if new { reading } else { before }
+    if new { value } else { before }
 }
 
-fn pick_position(new: bool, p: usize, before: usize) -> usize
-    ensures { result ≡ cond new p before }
-{
-    if new { p } else { before }
-}
-
-// Where in a day H comes to stand, by the row where the flag is set: the day's length where it stays. Reading by
+// Where in a day H comes to stand, by the row where the flag is set, if it moves. Reading by
 // reading, for the two Sundays of the clock change: so all loops over a usual day have 96 turns. (In numbers alone:
 // figures that go through a loop are copied every day. And so short that both callers have it laid into them.)
-fn new_high(f: Figures, flag: bool, row: &[bool], day: &[u32]) -> usize
-    ensures { HighAt f (row_if flag row.now) day.now result }
+fn new_high(f: Figures, flag: bool, row: &[bool], day: &[u32]) -> Option<usize>
+    ensures { HighAt f (row_if flag row.now) day.now (unwrap_or result (length day.now))
+        × IfSome result (λ p. p < length day.now) }
 {
     let n = day.len();
     let mut any = f.any;
     let mut high = f.high;
-    let mut at = n;
-    for p in 0..n {
-        let v = day[p];
+    let mut at = None;
+    for (p, v) in day.iter().enumerate() {
         let counts = flag & is_in(row, readings::quarter_in(n, p));
-        let new = counts & (!any | (high < v));
-        any = any | counts;
-        high = pick_reading(new, v, high);
-        at = pick_position(new, p, at);
+        let new = counts & (!any | (high < *v));
+        any |= counts;
+        high = pick(new, *v, high);
+        at = pick(new, Some(p), at);
     }
     at
 }
@@ -325,7 +287,7 @@ fn days_out(days: u16, from: u16, n: usize, sum: u64) -> bool
     if ((days - from) as usize) < n {
         return true;
     }
-    SUM_MOST - DAY_MOST * (n as u64) < sum
+    u64::MAX - DAY_MOST * (n as u64) < sum
 }
 
 // The figures with a Sunday of the clock change taken in, or 4 for a day that is not as long as one. By a row without
@@ -388,11 +350,11 @@ pub fn take_days(
     let some = some_left(&masks);
     let mut figures = f;
     let mut start = readings::span_by(change, from).start;
-    for k in 0..flags.len() {
+    for (k, flag) in flags.iter().enumerate() {
         let d = from + k as u16;
         let end = start + readings::len_by(change, d);
         let day = &series[start..end];
-        figures = take_any(figures, d, flags[k], some, row, &masks, day);
+        figures = take_any(figures, d, *flag, some, row, &masks, day);
         start = end;
     }
     Ok(figures)

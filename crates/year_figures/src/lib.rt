@@ -46,17 +46,11 @@ pub fn day_row<'a>(
 ) -> &'a [bool]
     ensures { result.now ≡ day_row year carrying.now windows.now d }
 {
-    let all = &windows[..];
-    let flags = &carrying[..];
-    let at = d as usize;
-    if flags.len() <= at {
-        return &all[0..0];
-    }
+    let Some(carries) = carrying.get(d as usize) else {
+        return &[];
+    };
     let row = season_row(year, d, windows);
-    if flags[at] {
-        return row;
-    }
-    &all[0..0]
+    if *carries { row } else { &[] }
 }
 
 // The figures of a year's series, or 4 for a series of another length. Month by month, since all days of a month have

@@ -9,8 +9,8 @@ use Rattle.ranges.specs.Ranges.{any_over}
 use Rattle.answers.specs.Ruling.{day_quarters}
 use Rattle.day_figures.proofs.some_left.Given as goal
 
-abbrev pub invariant-loop-q : goal.invariant-loop-q
-invariant-loop-q l = (l.q ≤ day_quarters) × (l.any ≡ any_over (λ (k : ℕ). ltb 0 (get_or l.masks k 0)) l.q)
+abbrev pub invariant-loop-mask : goal.invariant-loop-mask
+invariant-loop-mask l = (l.mask-index ≤ day_quarters) × (l.any ≡ any_over (λ (k : ℕ). ltb 0 (get_or l.masks k 0)) l.mask-index)
 
-abbrev pub decreases-loop-q : goal.decreases-loop-q
-decreases-loop-q l = day_quarters - l.q
+abbrev pub decreases-loop-mask : goal.decreases-loop-mask
+decreases-loop-mask l = day_quarters - l.mask-index

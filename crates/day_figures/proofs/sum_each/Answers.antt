@@ -6,22 +6,21 @@ use Rattle.ranges.proofs.Sums.{sum_none, sum_more}
 use Rattle.day_figures.specs.Day.{alone}
 use Rattle.day_figures.proofs.sum_each.Goals as goal
 
-pub loop-p-preserved : goal.loop-p-preserved
-loop-p-preserved c =
-    let at = c.loop-p in
-    let day = c.args.day.now in
-    let wide = c.wide-sum.ensures in (
+pub loop-reading-preserved : goal.loop-reading-preserved
+loop-reading-preserved c =
+    let at = c.loop-reading in
+    let day = c.args.day.now in (
       at.invariant.0,
       omega arith,
-      omega (arith, at.invariant.2, wide.0, sum_more (alone day) at.p),
-      omega (arith, at.invariant.3, wide.1),
+      omega (arith, at.invariant.2, sum_more (alone day) at.reading-index),
+      omega (arith, at.invariant.3),
     )
 
 pub returns : goal.returns
 returns c =
-    let at = c.loop-p in
-    let all : at.p ≡ length c.args.day.now = omega arith in
+    let at = c.loop-reading in
+    let all : at.reading-index ≡ length c.args.day.now = omega arith in
     record { is = at.invariant.2 ∙ ap (sum_over _) all; most = omega arith }
 
-pub loop-p-init : goal.loop-p-init
-loop-p-init c = (omega arith, omega arith, sym (sum_none _), omega arith)
+pub loop-reading-init : goal.loop-reading-init
+loop-reading-init c = (omega arith, omega arith, sym (sum_none _), omega arith)

@@ -7,9 +7,9 @@ use Rattle.ranges.specs.Ranges.{sum_over}
 use Rattle.day_figures.specs.Day.{alone}
 use Rattle.day_figures.proofs.sum_each.Given as goal
 
-abbrev pub invariant-loop-p : goal.invariant-loop-p
-invariant-loop-p l =
-    (length l.day ≤ 100) × (l.p ≤ length l.day) × (l.sum ≡ sum_over (alone l.day) l.p) × (l.sum ≤ 4294967295 * l.p)
+abbrev pub invariant-loop-reading : goal.invariant-loop-reading
+invariant-loop-reading l =
+    (length l.day ≤ 100) × (l.reading-index ≤ length l.day) × (l.sum ≡ sum_over (alone l.day) l.reading-index) × (l.sum ≤ 4294967295 * l.reading-index)
 
-abbrev pub decreases-loop-p : goal.decreases-loop-p
-decreases-loop-p l = length l.day - l.p
+abbrev pub decreases-loop-reading : goal.decreases-loop-reading
+decreases-loop-reading l = length l.day - l.reading-index

@@ -2,6 +2,8 @@
 -- Assumes nothing.
 use mathlib.Core.Path.{ap, ◌∙◌}
 use native.Mathlib.Omega.{arith}
+use lib.ListN.{length}
+use Rattle.std.specs.Prelude.{unwrap_or}
 use Rattle.tariff.specs.declared.Figures.{Figures}
 use Rattle.day_figures.specs.Passes.{high_at}
 use Rattle.day_figures.proofs.OneDay.{sized_most}
@@ -12,8 +14,8 @@ pub returns-then-day-ne-DAY_QUARTERS : goal.returns-then-day-ne-DAY_QUARTERS
 returns-then-day-ne-DAY_QUARTERS c =
     let a = c.args in
     c.high_at.ensures
-    ∙ ap (λ (g : Figures). high_at g a.d a.day.now c.new_high.result) c.plain_day-other.ensures
-    ∙ c.new_high.ensures.is a.d
+    ∙ ap (λ (g : Figures). high_at g a.d a.day.now (unwrap_or c.new_high.result (length a.day.now))) c.plain_day-other.ensures
+    ∙ c.new_high.ensures.0.is a.d
 
 pub take_fit-requires : goal.take_fit-requires
 take_fit-requires c =
@@ -24,7 +26,7 @@ pub plain_day-other-requires : goal.plain_day-other-requires
 plain_day-other-requires c = (sized_most c.args.day.now c.requires.1, c.requires.2)
 
 pub high_at-requires : goal.high_at-requires
-high_at-requires c = (c.requires.0, c.requires.1)
+high_at-requires c = (c.requires.0, c.requires.1, c.new_high.ensures.1)
 
 pub plain_day-next-requires : goal.plain_day-next-requires
 plain_day-next-requires c = (omega (arith, c.if-day-ne-DAY_QUARTERS.false), c.requires.2)

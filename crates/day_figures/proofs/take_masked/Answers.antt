@@ -8,6 +8,7 @@ use lib.ListN.{length}
 use Rattle.ranges.specs.Ranges.{largest_in}
 use Rattle.ranges.proofs.Bools.{both}
 use Rattle.day_figures.specs.Day.{alone, in_row}
+use Rattle.day_figures.proofs.Search.{first_found}
 use Rattle.day_figures.proofs.OneDay.{masked_in, first_in, taken_old, taken_first}
 use borrow.Author.Rules.{rules}
 use Rattle.day_figures.proofs.take_masked.Goals.{After-masked_usual-high}
@@ -35,8 +36,9 @@ returns-then-f-high c =
 
 pub high_at-requires : goal.high_at-requires
 high_at-requires c =
+    let a = c.args in
     let fits = c.requires.0 in
-    (fits.on, λ l. absurd (omega (arith, fits.usual)))
+    (fits.on, λ l. absurd (omega (arith, fits.usual)), (first_found a.row.now a.day.now c.masked_usual-high.result c.first_in.ensures).1)
 
 pub returns : goal.returns
 returns c =
@@ -44,5 +46,5 @@ returns c =
     let fits = c.requires.0 in
     c.high_at.ensures
     ∙ taken_first (in_row (length a.day.now) a.row.now) a.d a.day.now a.f refl (high_in (goal.at.returns c).After-masked_usual-high)
-    (c.first_in.ensures ∙ first_in a.row.now a.day.now fits.usual c.masked_usual-high.result) fits.next_is
+    ((first_found a.row.now a.day.now c.masked_usual-high.result c.first_in.ensures).0 ∙ first_in a.row.now a.day.now fits.usual c.masked_usual-high.result) fits.next_is
     (λ t. let u = rw t at c.if-f-high.false in search rules)

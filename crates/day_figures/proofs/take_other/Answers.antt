@@ -3,7 +3,7 @@
 use mathlib.Core.Path.{refl, ap, ◌∙◌}
 use borrow.Author.Tests.{ne_eqb}
 use lib.ListN.{length}
-use Rattle.std.specs.Prelude.{Ok}
+use Rattle.std.specs.Prelude.{Ok, unwrap_or}
 use Rattle.tariff.specs.declared.Figures.{Figures}
 use Rattle.day_figures.specs.Day.{in_row}
 use Rattle.day_figures.specs.Passes.{Sized, high_at}
@@ -31,12 +31,12 @@ returns c =
     let a = c.args in
     let taken =
     c.high_at.ensures
-    ∙ ap (λ (g : Figures). high_at g a.d a.day.now c.new_high.result) c.plain_day-next.ensures
-    ∙ c.new_high.ensures.is a.d in
+    ∙ ap (λ (g : Figures). high_at g a.d a.day.now (unwrap_or c.new_high.result (length a.day.now))) c.plain_day-next.ensures
+    ∙ c.new_high.ensures.0.is a.d in
     rw (ne_eqb _ _ c.requires.2, c.if-day.false) (ap Ok taken)
 
 pub plain_day-next-requires : goal.plain_day-next-requires
 plain_day-next-requires c = (sized_most c.args.day.now (sized c), c.requires.1)
 
 pub high_at-requires : goal.high_at-requires
-high_at-requires c = (c.requires.0, sized (goal.at.high_at-requires c).Else-day)
+high_at-requires c = (c.requires.0, sized (goal.at.high_at-requires c).Else-day, c.new_high.ensures.1)
