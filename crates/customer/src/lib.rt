@@ -26,29 +26,19 @@ pub fn decide(
     ensures { said_of result
         ≡ decide_answer (basis editions sheet.now holidays.now prices option) series.now }
 {
-    let opening = terms::open(editions, sheet, holidays, prices, option);
-    let answer = opening.answer;
-    let Decision::Taken = answer else {
-        return answer;
+    let terms = match terms::open(editions, sheet, holidays, prices, option) {
+        Ok(terms) => terms,
+        Err(refusal) => return refusal.into(),
     };
-    let rates = opening.terms.rates;
-    let collected = year_figures::year_figures(
-        rates.year,
-        &opening.terms.carrying,
-        &opening.terms.windows,
-        series,
-    );
+    let year = terms.rates.year;
+    let collected = year_figures::year_figures(year, &terms.carrying, &terms.windows, series);
     let Ok(figures) = collected else {
         return Decision::WrongLength;
     };
     if answers::CUSTOMER_MOST < figures.peak {
-        let run = Run::Year(rates.year);
-        return Decision::BadReading(legal_readings::first_illegal(
-            run,
-            series,
-            answers::CUSTOMER_MOST,
-        ));
+        let run = Run::Year(year);
+        let place = legal_readings::first_illegal(run, series, answers::CUSTOMER_MOST);
+        return Decision::BadReading(place);
     }
-    let edition = opening.terms.edition;
-    decision::judge(edition, figures, rates)
+    decision::judge(terms.edition, figures, terms.rates)
 }

@@ -40,7 +40,7 @@ pub struct Stepped {
 fn day_answer(year: u16, seen: u16, sum: u64, day: &[u32]) -> Decision
     ensures { said_of result ≡ day_under year seen sum day.now }
 {
-    if DAY_SUM_MOST * (seen as u64) < sum {
+    if DAY_SUM_MOST * u64::from(seen) < sum {
         return Decision::DayOut;
     }
     if dates::year_days(year) <= seen {
@@ -73,25 +73,22 @@ impl Customer {
         ensures { let k = basis editions sheet.now holidays.now prices option in
             Steps (customer_open_answer k) (open_customer k) result }
     {
-        let opened = terms::open(editions, sheet, holidays, prices, option);
-        let answer = opened.answer;
-        let terms = opened.terms;
-        let Decision::Taken = answer else {
-            return Stepped {
-                answer,
+        match terms::open(editions, sheet, holidays, prices, option) {
+            Ok(terms) => Stepped {
+                answer: Decision::Taken,
                 customer: Customer {
                     terms,
+                    seen: 0,
+                    figures: tariff::NO_FIGURES,
+                },
+            },
+            Err(refusal) => Stepped {
+                answer: refusal.into(),
+                customer: Customer {
+                    terms: terms::no_terms(),
                     seen: readings::SHUT_DAYS,
                     figures: tariff::NO_FIGURES,
                 },
-            };
-        };
-        Stepped {
-            answer,
-            customer: Customer {
-                terms,
-                seen: 0,
-                figures: tariff::NO_FIGURES,
             },
         }
     }
@@ -101,10 +98,13 @@ impl Customer {
         requires { DayFits self day.now }
         ensures { result ≡ customer_taken self day.now }
     {
-        let terms = self.terms;
-        let seen = self.seen;
+        let Customer {
+            terms,
+            seen,
+            figures,
+        } = self;
         let row = year_figures::day_row(terms.rates.year, seen, &terms.carrying, &terms.windows);
-        let taking = day_figures::take_day(self.figures, seen, row, day);
+        let taking = day_figures::take_day(figures, seen, row, day);
         Customer {
             terms,
             seen: seen + 1,
@@ -123,20 +123,19 @@ impl Customer {
                 customer: self,
             };
         };
-        let customer = self.add(day);
-        Stepped { answer, customer }
+        Stepped {
+            answer,
+            customer: self.add(day),
+        }
     }
 
     // The decision over the days taken: 13 where they are not all in, else as the whole series.
     pub fn close(self) -> Decision
         ensures { said_of result ≡ customer_close_answer self }
     {
-        let rates = self.terms.rates;
-        if self.seen != dates::year_days(rates.year) {
+        if self.seen != dates::year_days(self.terms.rates.year) {
             return Decision::DayOut;
         }
-        let edition = self.terms.edition;
-        let figures = self.figures;
-        decision::judge(edition, figures, rates)
+        decision::judge(self.terms.edition, self.figures, self.terms.rates)
     }
 }

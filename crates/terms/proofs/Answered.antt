@@ -3,9 +3,9 @@
 use mathlib.Core.Path.{◌≡◌, refl, sym, ap, ◌∙◌}
 use mathlib.Core.Bool.{true, false}
 use native.Mathlib.Decide.{ℕ_discrete}
-use native.Mathlib.Omega.{arith}
 use borrow.Author.Tests.{ne_eqb}
 use lib.Dec.{eqb}
+use Rattle.std.proofs.Common.{Err}
 use Rattle.answers.specs.Said.{Said, only, or_else}
 use Rattle.answers.proofs.Laws.{refusal_keeps, done_hands, refusal_stands}
 use Rattle.holidays.specs.Holidays.{bad_holidays}
@@ -14,7 +14,17 @@ use Rattle.sheet.proofs.Answered.{read_taken}
 use Rattle.sheet.proofs.Exactly.{read_zero}
 use Rattle.tariff.specs.Prices.{prices_out}
 use Rattle.terms.specs.Basis.{Basis, basis_year, basis_edition}
-use Rattle.terms.specs.Opening.{lists_answer, customer_open_answer, terms_of, no_terms, open_terms}
+use Rattle.terms.specs.declared.OpenRefusal.{OpenRefusal}
+use Rattle.terms.specs.declared.OpenRefusal.TheVariants.{YearOut, LevelOut, BadHolidays, PriceOut, Malformed}
+use Rattle.terms.specs.Opening.{lists_answer, customer_open_answer, terms_of, no_terms, open_terms, said_of_refusal, Opens}
+
+-- what refuses an opening has a number
+pub refuses : (e : OpenRefusal) → eqb (said_of_refusal e).number 0 ≡ false
+refuses YearOut = refl
+refuses LevelOut = refl
+refuses BadHolidays = refl
+refuses PriceOut = refl
+refuses Malformed = refl
 
 module _ (k : Basis) where
   pub open_read : (a : Said) → eqb a.number 0 ≡ false → a ≡ read_answer (basis_edition k) k.sheet → a ≡ customer_open_answer k
@@ -59,3 +69,6 @@ module _ (k : Basis) where
   pub open_taken : only 0 ≡ customer_open_answer k → terms_of k ≡ open_terms k
   unfolding open_terms
   open_taken e = (done_hands (only 0) (terms_of k) no_terms e refl).1
+
+  pub refused : (e : OpenRefusal) → said_of_refusal e ≡ customer_open_answer k → Opens k (Err e)
+  refused e said = record { said = said; terms = open_refused (said_of_refusal e) (refuses e) said }

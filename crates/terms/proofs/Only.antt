@@ -1,14 +1,37 @@
 -- Nothing else meets the promise of `open` (Rule 13.1).
 -- Assumes nothing.
-use mathlib.Core.Path.{◌≡◌}
+use mathlib.Core.Path.{◌≡◌, refl, sym, ◌∙◌}
+use mathlib.Core.Bool.{cond}
+use Rattle.std.proofs.Common.{Result, Ok, Err}
+use lib.Dec.{eqb}
+use Rattle.answers.specs.Said.{Said}
 use Rattle.answers.proofs.Laws.{one_answer}
-use Rattle.tariff.proofs.Only.{decision_only}
-use Rattle.terms.specs.declared.Opening.{Opening}
+use Rattle.terms.specs.declared.Terms.{Terms}
+use Rattle.terms.specs.declared.OpenRefusal.{OpenRefusal}
+use Rattle.terms.specs.declared.OpenRefusal.TheVariants.{YearOut, LevelOut, BadHolidays, PriceOut, Malformed}
 use Rattle.terms.specs.Basis.{Basis}
-use Rattle.terms.specs.Opening.{Opens}
+use Rattle.terms.specs.Opening.{said_of_opening, terms_beside, Opens}
 
-pub opening_only : {k : Basis} {r s : Opening} → Opens k r → Opens k s → r ≡ s
-opening_only p q =
-    let a = decision_only p.said q.said in
+-- what opening hands back, back from what it says and from the terms beside it
+abbrev opening_back : Said → Terms → Result Terms OpenRefusal
+opening_back a t =
+    cond (eqb a.number 0) (Ok t)
+    (cond (eqb a.number 1) (Err YearOut)
+    (cond (eqb a.number 2) (Err LevelOut)
+    (cond (eqb a.number 3) (Err BadHolidays)
+    (cond (eqb a.number 6) (Err PriceOut)
+    (Err Malformed)))))
+
+back : (r : Result Terms OpenRefusal) → opening_back (said_of_opening r) (terms_beside r) ≡ r
+back (Ok t) = refl
+back (Err YearOut) = refl
+back (Err LevelOut) = refl
+back (Err BadHolidays) = refl
+back (Err PriceOut) = refl
+back (Err Malformed) = refl
+
+pub opening_only : {k : Basis} {r s : Result Terms OpenRefusal} → Opens k r → Opens k s → r ≡ s
+opening_only {k} {r} {s} p q =
+    let a = one_answer p.said q.said in
     let t = one_answer p.terms q.terms in
-    λ i. record { answer = a i; terms = t i }
+    sym (back r) ∙ (λ i. opening_back (a i) (t i)) ∙ back s

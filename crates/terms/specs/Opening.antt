@@ -1,6 +1,6 @@
 -- What an opening of a customer's year on the basis k answers, and the terms that it hands over: all tests that need no
 -- readings, in the order sheet (12, 1, 2, 12), holidays (3), prices (6). Rules 8.2, 9.3 and 9.5.
-use Rattle.std.specs.Prelude.{◌≡◌, false, cond, List, ℕ, replicate}
+use Rattle.std.specs.Prelude.{◌≡◌, false, cond, List, ℕ, replicate, Result, Ok, Err}
 use Rattle.answers.specs.Edition.{no_edition}
 use Rattle.answers.specs.Said.{Said, only, after, or_else}
 use Rattle.dates.specs.Dates.{most_days}
@@ -12,9 +12,9 @@ use Rattle.tariff.specs.declared.Row.{Row}
 use Rattle.tariff.specs.declared.Prices.{Prices}
 use Rattle.tariff.specs.declared.Rates.{Rates}
 use Rattle.tariff.specs.Prices.{prices_out}
-use Rattle.tariff.specs.Answers.{said_of}
 use Rattle.terms.specs.declared.Terms.{Terms}
-use Rattle.terms.specs.declared.Opening.{Opening}
+use Rattle.terms.specs.declared.OpenRefusal.{OpenRefusal}
+use Rattle.terms.specs.declared.OpenRefusal.TheVariants.{YearOut, LevelOut, BadHolidays, PriceOut, Malformed}
 use Rattle.terms.specs.Basis.{Basis, basis_sheet, basis_year, basis_edition, basis_rates}
 
 -- the holidays and the prices, for the year y: 3, then 6
@@ -60,7 +60,23 @@ no_terms =
 unfoldable pub open_terms : Basis → Terms
 open_terms k = after (customer_open_answer k) (terms_of k) no_terms
 
+-- the number of each refusal of the code, and what opening hands back says, and the terms beside it
+abbrev pub said_of_refusal : OpenRefusal → Said
+said_of_refusal YearOut = only 1
+said_of_refusal LevelOut = only 2
+said_of_refusal BadHolidays = only 3
+said_of_refusal PriceOut = only 6
+said_of_refusal Malformed = only 12
+
+abbrev pub said_of_opening : Result Terms OpenRefusal → Said
+said_of_opening (Ok terms) = only 0
+said_of_opening (Err refusal) = said_of_refusal refusal
+
+abbrev pub terms_beside : Result Terms OpenRefusal → Terms
+terms_beside (Ok terms) = terms
+terms_beside (Err refusal) = no_terms
+
 -- what is promised of opening: its answer, and the terms beside it
-pub record Opens (k : Basis) (r : Opening) : Type 0 where
-  pub said : said_of r.answer ≡ customer_open_answer k
-  pub terms : r.terms ≡ open_terms k
+pub record Opens (k : Basis) (r : Result Terms OpenRefusal) : Type 0 where
+  pub said : said_of_opening r ≡ customer_open_answer k
+  pub terms : terms_beside r ≡ open_terms k

@@ -8,7 +8,7 @@ ghost use Rattle.std.specs.Prelude.{◌≡◌};
 ghost use Rattle.sheet.specs.Answers.{said_of_read};
 ghost use Rattle.tariff.specs.Answers.{said_of};
 ghost use Rattle.terms.specs.Basis.{basis};
-ghost use Rattle.terms.specs.Opening.{lists_answer, no_terms, Opens};
+ghost use Rattle.terms.specs.Opening.{said_of_refusal, no_terms, Opens};
 
 use answers::Edition;
 use editions::Editions;
@@ -25,39 +25,44 @@ pub struct Terms {
     pub carrying: [bool; dates::MOST_DAYS],
 }
 
-// What opening answers, and the terms beside it.
-#[derive(Clone, Copy)]
-pub struct Opening {
-    pub answer: Decision,
-    pub terms: Terms,
+// Why an opening refuses: 1, 2, 3, 6, 12.
+#[derive(Clone, Copy, PartialEq, Eq)]
+pub enum OpenRefusal {
+    YearOut,
+    LevelOut,
+    BadHolidays,
+    PriceOut,
+    Malformed,
 }
 
-// What refuses the sheet, as an answer of the decision.
-fn as_decision(refusal: ReadRefusal) -> Decision
-    ensures { said_of result ≡ said_of_read refusal }
-{
-    match refusal {
-        ReadRefusal::YearOut => Decision::YearOut,
-        ReadRefusal::LevelOut => Decision::LevelOut,
-        ReadRefusal::Malformed => Decision::Malformed,
+impl From<ReadRefusal> for OpenRefusal {
+    ghost from_gives = { λ a r. said_of_refusal r ≡ said_of_read a };
+
+    fn from(refusal: ReadRefusal) -> OpenRefusal {
+        match refusal {
+            ReadRefusal::YearOut => OpenRefusal::YearOut,
+            ReadRefusal::LevelOut => OpenRefusal::LevelOut,
+            ReadRefusal::Malformed => OpenRefusal::Malformed,
+        }
     }
 }
 
-// What the holidays and the prices are answered: 3, then 6.
-fn lists_answer(year: u16, holidays: &[u16], prices: Prices) -> Decision
-    ensures { said_of result ≡ lists_answer year holidays.now prices }
-{
-    if holidays::bad_holidays(year, holidays) {
-        return Decision::BadHolidays;
+impl From<OpenRefusal> for Decision {
+    ghost from_gives = { λ a r. said_of r ≡ said_of_refusal a };
+
+    fn from(refusal: OpenRefusal) -> Decision {
+        match refusal {
+            OpenRefusal::YearOut => Decision::YearOut,
+            OpenRefusal::LevelOut => Decision::LevelOut,
+            OpenRefusal::BadHolidays => Decision::BadHolidays,
+            OpenRefusal::PriceOut => Decision::PriceOut,
+            OpenRefusal::Malformed => Decision::Malformed,
+        }
     }
-    if price_limits::prices_out(prices) {
-        return Decision::PriceOut;
-    }
-    Decision::Taken
 }
 
-// The fixed terms beside a refusal.
-fn no_terms() -> Terms
+// The fixed terms beside a refusal: a state that is handed back has them.
+pub fn no_terms() -> Terms
     ensures { result ≡ no_terms }
 {
     Terms {
@@ -83,47 +88,35 @@ fn no_terms() -> Terms
 }
 
 // Opens a customer's year; the terms keep the edition of that year. Refuses 12, 1, 2, 12, 3, 6 in this order (Rule
-// 8.2). Beside every refusal stand the same terms.
+// 8.2).
 pub fn open(
     editions: Editions,
     sheet: &[u8],
     holidays: &[u16],
     prices: Prices,
     option: bool,
-) -> Opening
+) -> Result<Terms, OpenRefusal>
     ensures { Opens (basis editions sheet.now holidays.now prices option) result }
 {
     let edition = editions::pick(editions, encoding::two_at(sheet, sheet::YEAR_AT));
-    let meaning = match sheet_read::read_by(edition, sheet) {
-        Ok(meaning) => meaning,
-        Err(refusal) => {
-            return Opening {
-                answer: as_decision(refusal),
-                terms: no_terms(),
-            };
-        }
-    };
-    let answer = lists_answer(meaning.year, holidays, prices);
-    let Decision::Taken = answer else {
-        return Opening {
-            answer,
-            terms: no_terms(),
-        };
-    };
+    let meaning = sheet_read::read_by(edition, sheet)?;
+    if holidays::bad_holidays(meaning.year, holidays) {
+        return Err(OpenRefusal::BadHolidays);
+    }
+    if price_limits::prices_out(prices) {
+        return Err(OpenRefusal::PriceOut);
+    }
     let windows = meaning.windows;
     let carrying = calendar::window_days(meaning.year, holidays);
-    Opening {
-        answer,
-        terms: Terms {
-            edition,
-            rates: Rates {
-                year: meaning.year,
-                level: meaning.level,
-                option,
-                prices,
-            },
-            windows,
-            carrying,
+    Ok(Terms {
+        edition,
+        rates: Rates {
+            year: meaning.year,
+            level: meaning.level,
+            option,
+            prices,
         },
-    }
+        windows,
+        carrying,
+    })
 }

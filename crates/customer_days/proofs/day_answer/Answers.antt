@@ -17,17 +17,17 @@ use Rattle.readings.proofs.Runs.{len_most, year_run}
 use Rattle.readings.proofs.Legal.{found_illegal, none_illegal}
 use Rattle.readings.proofs.Days.{next_out, next_length, next_bad, next_taken}
 use Rattle.customer_days.specs.Days.{sum_most}
-use Rattle.customer_days.proofs.day_answer.Goals.{Else-day-day_len, Else-seen-sum, Else-year_days-seen}
+use Rattle.customer_days.proofs.day_answer.Goals.{Else-day-day_len, Else-from-sum, Else-year_days-seen}
 use Rattle.customer_days.proofs.day_answer.Goals as goal
 
 -- the sum is one of legal days, so the run answers
 fair :
-    (e : Else-seen-sum) {said : Said}
+    (e : Else-from-sum) {said : Said}
     → let a = e.args in
     let next = next_answer (Year a.year) customer_most a.seen a.day.now in
     said ≡ next
     → said ≡ cond (ltb (sum_most a.seen) a.sum) (only 13) next
-fair e next = rw (le-ltb (sum_most e.args.seen) e.args.sum (omega arith)) next
+fair e next = rw (le-ltb (sum_most e.args.seen) e.args.sum (omega (arith, e.from.ensures))) next
 
 -- a day is left, and the given one has its length
 left : (e : Else-year_days-seen) → let a = e.args in a.seen < run_days (Year a.year)
@@ -42,18 +42,18 @@ long :
     length a.day.now ≡ day_len (Year a.year) a.seen
 long e = e.if-day-day_len.false ∙ e.day_len.ensures
 
-pub returns-then-seen-sum : goal.returns-then-seen-sum
-returns-then-seen-sum c = rw (lt-ltb (sum_most c.args.seen) c.args.sum (omega arith))
+pub returns-then-from-sum : goal.returns-then-from-sum
+returns-then-from-sum c = rw (lt-ltb (sum_most c.args.seen) c.args.sum (omega (arith, c.from.ensures)))
 
 pub returns-then-year_days-seen : goal.returns-then-year_days-seen
 returns-then-year_days-seen c =
     let a = c.args in
-    fair (goal.at.returns-then-year_days-seen c).Else-seen-sum (next_out (Year a.year) customer_most a.seen a.day.now (rw year_run (omega arith)))
+    fair (goal.at.returns-then-year_days-seen c).Else-from-sum (next_out (Year a.year) customer_most a.seen a.day.now (rw year_run (omega arith)))
 
 pub returns-then-day-day_len : goal.returns-then-day-day_len
 returns-then-day-day_len c =
     let a = c.args in
-    fair (goal.at.returns-then-day-day_len c).Else-seen-sum
+    fair (goal.at.returns-then-day-day_len c).Else-from-sum
     (next_length (Year a.year) customer_most a.seen a.day.now (left (goal.at.returns-then-day-day_len c).Else-year_days-seen)
     (λ e. c.if-day-day_len.true (e ∙ sym c.day_len.ensures)))
 
@@ -68,14 +68,14 @@ returns-then-first-day c =
     let a = c.args in
     let first = c.first_above-first.ensures in
     let bad = found_illegal customer_most a.day.now (omega (arith, first)) in
-    fair w.Else-seen-sum
+    fair w.Else-from-sum
     (next_bad (Year a.year) customer_most a.seen a.day.now (left w.Else-year_days-seen) (long w.Else-day-day_len) bad first)
 
 pub returns : goal.returns
 returns c =
     let a = c.args in
     let none = none_illegal customer_most a.day.now (omega (arith, c.first_above-first.ensures)) in
-    fair (goal.at.returns c).Else-seen-sum
+    fair (goal.at.returns c).Else-from-sum
     (next_taken (Year a.year) customer_most a.seen a.day.now (left (goal.at.returns c).Else-year_days-seen) (long (goal.at.returns c).Else-day-day_len) none)
 
 pub overflow_add-result : goal.overflow_add-result

@@ -28,8 +28,8 @@ returns-in_default c =
     in
     record { said = e; state = day_refused a.self a.day.now _ z e }
 
-pub add-customer-requires : goal.add-customer-requires
-add-customer-requires c =
+pub add-requires : goal.add-requires
+add-requires c =
     let a = c.args in
     day_fits a.self a.day.now (sym (ap (λ (s : Said). s.number) (taken_at c)))
 
@@ -38,5 +38,5 @@ returns c =
     let a = c.args in
     record {
       said = answer_at (goal.at.returns c).After-day_answer-answer;
-      state = day_taken_law a.self a.day.now (taken_at (goal.at.returns c).In-Taken) c.add-customer.ensures;
+      state = day_taken_law a.self a.day.now (taken_at (goal.at.returns c).In-Taken) c.add.ensures;
     }

@@ -1,26 +1,23 @@
--- `customer_days::Customer::open` meets its contract: under the terms that opening hands over, a refusal is the fixed
--- state, 0 a year without a day. Assumes nothing.
+-- `customer_days::Customer::open` meets its contract: a year without a day under the terms that opening hands over, and
+-- the fixed state beside a refusal. Assumes nothing.
 use mathlib.Core.Path.{sym, ap, ◌∙◌}
-use Rattle.tariff.specs.Answers.{said_of}
-use Rattle.tariff.proofs.Taken.{untaken}
-use Rattle.terms.specs.Basis.{Basis, basis}
-use Rattle.terms.proofs.Exactly.{open_zero}
+use Rattle.terms.specs.Basis.{basis}
+use Rattle.terms.specs.Opening.{said_of_opening, terms_beside}
+use Rattle.terms.proofs.Answered.{refuses}
 use Rattle.customer_days.proofs.Steps.{open_begins, open_shuts}
-use Rattle.customer_days.proofs.Customer.open.Goals.{After-open-opened}
 use Rattle.customer_days.proofs.Customer.open.Goals as goal
 
--- the basis that is opened
-abbrev given : After-open-opened → Basis
-given e = let a = e.args in basis a.editions a.sheet.now a.holidays.now a.prices a.option
+pub returns-in-Ok : goal.returns-in-Ok
+returns-in-Ok c =
+    let a = c.args in
+    let k = basis a.editions a.sheet.now a.holidays.now a.prices a.option in
+    let said = ap said_of_opening (sym c.in-Ok.is) ∙ c.«open».ensures.said in
+    record { said = said; state = open_begins k (ap terms_beside (sym c.in-Ok.is) ∙ c.«open».ensures.terms) said }
 
-pub returns-in_default : goal.returns-in_default
-returns-in_default c =
-    let k = given (goal.at.returns-in_default c).After-open-opened in
-    let opens = c.open-opened.ensures in
-    let z = untaken {d = c.open-opened.result.answer} opens.said (open_zero k) c.in_default.not-Taken in
-    record { said = opens.said; state = open_shuts k opens.terms _ z opens.said }
-
-pub returns : goal.returns
-returns c =
-    let opens = c.open-opened.ensures in
-    record { said = opens.said; state = open_begins (given (goal.at.returns c).After-open-opened) opens.terms (ap said_of (sym c.in-Taken.is) ∙ opens.said) }
+pub returns-in-Err : goal.returns-in-Err
+returns-in-Err c =
+    let a = c.args in
+    let k = basis a.editions a.sheet.now a.holidays.now a.prices a.option in
+    let said = ap said_of_opening (sym c.in-Err.is) ∙ c.«open».ensures.said in
+    let beside = c.no_terms.ensures ∙ ap terms_beside (sym c.in-Err.is) ∙ c.«open».ensures.terms in
+    record { said = c.into.ensures ∙ said; state = open_shuts k beside _ (refuses c.in-Err.refusal) said }
