@@ -1,4 +1,4 @@
--- What a day is answered, and what the machine that reads a customer file is after a day.
+-- What a day is answered; and an answer that is not 5: where the machine stands after it.
 -- Assumes nothing.
 use mathlib.Core.Path.{◌≡◌, refl}
 use mathlib.Core.Bool.{Bool, true, false, cond, not}
@@ -17,13 +17,9 @@ use Rattle.tariff.specs.declared.Decision.{Decision}
 use Rattle.tariff.specs.declared.Decision.TheVariants.{Accepted, Eligible, Taken, YearOut, LevelOut, BadHolidays, WrongLength, BadReading, PriceOut, NoWindow, ShareShort, MoveShort, ReductionShort, Malformed, DayOut}
 use Rattle.tariff.specs.Answers.{said_of}
 use Rattle.customer_days.specs.declared.Customer.{Customer}
-use Rattle.customer_days.specs.Days.{overfull, customer_day_answer, day_customer}
+use Rattle.customer_days.specs.Days.{overfull, customer_day_answer}
 use Rattle.fields.specs.declared.Stage.{Stage}
-use Rattle.fields.specs.Stages.{stage_of, day_stage}
-use Rattle.fields.specs.Machine.{day_given}
-use Rattle.customer_file.specs.declared.CustomerFile.{CustomerFile}
-use Rattle.customer_file.specs.CustomerMachine.{customer_reader}
-use Rattle.fields.proofs.Machine.{given_staged}
+use Rattle.fields.specs.Stages.{stage_of}
 
 -- what a day is answered: 13, 4, 5 with its place, or 0 without figures
 module _ (P : Said → Type 0) (thirteen : P (only 13)) (four : P (only 4)) (five : (place : Place) → P (bad_place place)) (taken : P (only 0)) where
@@ -62,18 +58,3 @@ stage_number (MoveShort a) n = refl
 stage_number (ReductionShort a) n = refl
 stage_number Malformed n = refl
 stage_number DayOut n = refl
-
--- the state after a day: the customer's year hands back itself where it refuses the day
-module _ (s : CustomerFile) (day : List ℕ) where
-  abbrev said : Said
-  said = customer_day_answer s.customer day
-
-  abbrev with : Customer → Stage → CustomerFile
-  with c stage = record { editions = s.editions; field = s.field; head = s.head; customer = c; stage = stage }
-
-  kept : eqb said.number 0 ≡ false → day_customer s.customer day ≡ s.customer
-  unfolding day_customer
-  kept z = rw z
-
-  pub day_given_law : with (day_customer s.customer day) (day_stage said) ≡ day_given customer_reader s day
-  day_given_law = given_staged customer_reader s day (with (day_customer s.customer day)) (λ z. refl) (λ z i. with (kept z i) (stage_of said))

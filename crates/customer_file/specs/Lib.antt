@@ -1,2 +1,3 @@
 pub mod Customer
 pub mod CustomerMachine
+pub mod CustomerLaws

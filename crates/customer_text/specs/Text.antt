@@ -3,9 +3,8 @@
 use Rattle.std.specs.Prelude.{List, ℕ}
 use Rattle.editions.specs.declared.Editions.{Editions}
 use Rattle.lines.specs.Figures.{statement_line}
-use Rattle.customer_file.specs.declared.CustomerFile.{CustomerFile}
 use Rattle.customer_file.specs.Customer.{customer_answer}
-use Rattle.customer_file.specs.CustomerMachine.{answer_of}
+use Rattle.customer_file.specs.CustomerMachine.{CustomerFile, answer_of}
 
 -- all that the statement program prints of a file with these bytes, by the list of editions es
 abbrev pub statement_printed : Editions → List ℕ → List ℕ

@@ -21,7 +21,7 @@ fn answer(file: CustomerFile) -> Numbers
         Stage::Going => answer_numbers::only(13),
         Stage::Refused(number) => answer_numbers::only(number as u64),
         Stage::BadReading(place) => answer_numbers::with_place(place),
-        Stage::Complete => decision_numbers::of_decision(file.customer.close()),
+        Stage::Complete => decision_numbers::of_decision(file.series.customer.close()),
     }
 }
 

@@ -68,6 +68,10 @@ pub record Fits (l : Layout) (most size k : ℕ) : Type 0 where
   pub field : 0 < l.width k → k < l.count
   pub none : l.width k ≡ 0 → l.count ≤ k
 
+-- room for more bytes in a field
+pub fits_wider : {l : Layout} {few most size k : ℕ} → Fits l few size k → few ≤ most → Fits l most size k
+fits_wider f h = record { few = omega (arith, f.few, h); room = f.room; field = f.field; none = f.none }
+
 -- field k of a table of widths and a table of starts: it has a byte, at most `most`, and ends within `size` bytes
 pub record Tabled (widths starts : List ℕ) (most size k : ℕ) : Type 0 where
   pub some : 1 ≤ get_or widths k 0

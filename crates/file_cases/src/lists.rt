@@ -36,7 +36,7 @@ fn edition<R: Read>(input: &mut R) -> io::Result<Edition> {
 pub(crate) fn list<R: Read>(input: &mut R) -> io::Result<Editions> {
     let count = byte(input)?;
     let mut list = editions::none();
-    for k in 0..count {
+    for _ in 0..count {
         let _ = list.load(edition(input)?);
     }
     Ok(list)

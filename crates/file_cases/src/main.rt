@@ -11,85 +11,24 @@
 
 mod lists;
 
-use customer_file::CustomerFile;
 use editions::Editions;
-use grid_file::GridFile;
 use std::env::FillError;
 use std::io::Read;
 use std::rt::{Env, Files};
 use std::{fs, io};
 
-// No field and no day has more bytes.
-const PART_MOST: usize = 400;
-
-// Parts that a file has at most: 16 fields, 40 holidays, 366 days, and what is left over after them.
-const PARTS: u32 = 423;
-
 // No path has more bytes.
 const NAME_MOST: usize = 4096;
 
-// Hands the machine what came: fewer bytes than the part has where the file ends.
-fn feed_grid<R: Read>(input: &mut R, file: GridFile, part: &mut [u8]) -> io::Result<GridFile> {
-    let n = inputs::read_full(input, part)?;
-    Ok(file.feed(&part[0..n]))
-}
-
-fn next_grid<R: Read>(input: &mut R, file: GridFile) -> io::Result<GridFile> {
-    let mut part = [0u8; PART_MOST];
-    let want = file.want();
-    feed_grid(input, file, &mut part[..want])
-}
-
-fn run_grid<R: Read>(input: &mut R, editions: Editions) -> io::Result<GridFile> {
-    let mut file = GridFile::start(editions);
-    let mut left = PARTS;
-    while left > 0 {
-        if file.want() == 0 {
-            return Ok(file);
-        }
-        file = next_grid(input, file)?;
-        left -= 1;
-    }
-    Ok(file)
-}
-
 fn print_windows<R: Read>(rt: &impl Print, input: &mut R, editions: Editions) -> io::Result<()> {
     let mut text = [0u8; texts::TEXT_MOST];
-    let n = grid_text::text(run_grid(input, editions)?, &mut text);
+    let n = grid_text::text(drive::drive(input, editions)?, &mut text);
     rt.write_all(&text[0..n])
-}
-
-fn feed_customer<R: Read>(
-    input: &mut R,
-    file: CustomerFile,
-    part: &mut [u8],
-) -> io::Result<CustomerFile> {
-    let n = inputs::read_full(input, part)?;
-    Ok(file.feed(&part[0..n]))
-}
-
-fn next_customer<R: Read>(input: &mut R, file: CustomerFile) -> io::Result<CustomerFile> {
-    let mut part = [0u8; PART_MOST];
-    let want = file.want();
-    feed_customer(input, file, &mut part[..want])
-}
-
-fn run_customer<R: Read>(input: &mut R, editions: Editions) -> io::Result<CustomerFile> {
-    let mut file = CustomerFile::start(editions);
-    let mut left = PARTS;
-    while left > 0 {
-        if file.want() == 0 {
-            return Ok(file);
-        }
-        file = next_customer(input, file)?;
-        left -= 1;
-    }
-    Ok(file)
 }
 
 fn print_statement<R: Read>(rt: &impl Print, input: &mut R, editions: Editions) -> io::Result<()> {
     let mut text = [0u8; texts::TEXT_MOST];
-    let n = customer_text::text(run_customer(input, editions)?, &mut text);
+    let n = customer_text::text(drive::drive(input, editions)?, &mut text);
     rt.write_all(&text[0..n])
 }
 

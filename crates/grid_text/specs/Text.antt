@@ -13,9 +13,8 @@ use Rattle.fields.specs.declared.Stage.TheVariants.{Going, Refused, BadReading, 
 use Rattle.lines.specs.Figures.{line_figures, refused_line}
 use Rattle.window_lines.specs.Runs.{windows_text}
 use Rattle.grid_head.specs.Header.{grid_year}
-use Rattle.grid_file.specs.declared.GridFile.{GridFile}
 use Rattle.grid_file.specs.Grid.{grid_answer}
-use Rattle.grid_file.specs.GridMachine.{closed_grid}
+use Rattle.grid_file.specs.GridMachine.{GridFile, closed_grid}
 
 -- the lines of an answer by an edition: the windows of the sheet whose bytes are the figures of 0, or the refusal
 abbrev pub sheet_text : Sheet → List ℕ
@@ -37,4 +36,4 @@ stage_text (BadReading place) g = refused_line (line_figures (bad_place place))
 stage_text Complete g = window_lines g.edition (closed_grid g)
 
 abbrev pub grid_text : GridFile → List ℕ
-grid_text s = stage_text s.stage s.grid
+grid_text s = stage_text s.stage s.series.grid

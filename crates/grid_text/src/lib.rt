@@ -54,6 +54,6 @@ pub fn text(file: GridFile, out: &mut [u8]) -> usize
         Stage::Going => refused(13, out),
         Stage::Refused(number) => refused(number as u64, out),
         Stage::BadReading(place) => refused_at(place, out),
-        Stage::Complete => closed(file.grid, out),
+        Stage::Complete => closed(file.series.grid, out),
     }
 }

@@ -39,12 +39,11 @@ use Rattle.fields.proofs.Driven.{Stopped, TakesEnd, FileMachine, file_driven}
 use Rattle.fields.proofs.Fed.{held_in, FeedsField, head_over, feeds_field, held_after, FeedsDay, feeds_takes}
 use Rattle.lines.specs.Figures.{statement_line}
 use Rattle.fields.specs.declared.Stage.TheVariants.{Going, Refused, Complete}
-use Rattle.customer_file.specs.declared.CustomerFile.{CustomerFile}
 use Rattle.fields.specs.Stages.{going, stage_of, said_of_stage}
 use Rattle.customer_head.specs.Header.{customer_head_most, customer_layout}
 use Rattle.customer_opening.specs.Opening.{basis_in, opened_in}
 use Rattle.customer_file.specs.Customer.{customer_answer}
-use Rattle.customer_file.specs.CustomerMachine.{opened_with, customer_head, customer_start, customer_ended, customer_reader, customer_wants, customer_fed, answer_of}
+use Rattle.customer_file.specs.CustomerMachine.{CustomerFile, opened_with, customer_head, customer_start, customer_ended, customer_reader, customer_wants, customer_fed, answer_of}
 use Rattle.customer_text.specs.Text.{customer_text}
 use Rattle.customer_head.proofs.CustomerLayout.{count_few, count_is}
 use Rattle.fields.proofs.Machine.{wants_field, wants_day, wants_end, fed_none, fed_field, fed_day, fed_end, field_cut, field_refused, field_taken, day_cut, day_refused, day_taken_law, end_left, end_done}
@@ -128,7 +127,7 @@ module _ (es : Editions) (bytes : List ℕ) where
 
   -- the machine stands behind the header, with a state of the machine of days
   abbrev inside : Customer → CustomerFile
-  inside c = record { editions = es; field = l.count; head = held l.count; customer = c; stage = Going }
+  inside c = record { editions = es; field = l.count; head = held l.count; series = record { customer = c }; stage = Going }
 
   abbrev in_days : ℕ → CustomerFile
   in_days d = inside (held_after run (holding terms) h bytes d)
@@ -136,7 +135,7 @@ module _ (es : Editions) (bytes : List ℕ) where
   -- before the first byte
   starts : customer_start es ≡ in_head 0
   starts =
-      ap (λ (c : Customer). record { editions = es; field = 0; head = blank; customer = c; stage = Going })
+      ap (λ (c : Customer). record { editions = es; field = 0; head = blank; series = record { customer = c }; stage = Going })
       (sym (unopened es blank 0 (omega (arith, count_is es blank))))
       ∙ ap (λ (n : ℕ). customer_head es shut_customer 0 (held_in blank bytes n)) (sym (field_none l))
 
@@ -200,7 +199,7 @@ module _ (es : Editions) (bytes : List ℕ) where
 
     -- the end: what closing says is what the whole series is answered
     closes : Passed (bad_in run customer_most xs) (run_days run) → length bytes ≡ file_size run h
-        → customer_close_answer (in_days (run_days run)).customer ≡ done
+        → customer_close_answer (in_days (run_days run)).series.customer ≡ done
     closes c z =
         ap (λ (ys : List ℕ). customer_close_answer (holding terms ys (run_days run))) (series_all run h bytes z)
         ∙ closes_holding terms xs

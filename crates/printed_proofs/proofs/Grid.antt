@@ -44,11 +44,10 @@ use Rattle.fields.proofs.Driven.{Stopped, TakesEnd, FileMachine, file_driven}
 use Rattle.fields.proofs.Fed.{held_in, LooksBack, FeedsField, feeds_field, held_after, FeedsDay, feeds_takes}
 use Rattle.lines.specs.Figures.{refused_line}
 use Rattle.fields.specs.declared.Stage.TheVariants.{Going, Refused, Complete}
-use Rattle.grid_file.specs.declared.GridFile.{GridFile}
 use Rattle.grid_head.specs.Header.{grid_mark, grid_layout, grid_year, grid_level}
 use Rattle.grid_file.specs.Grid.{blank_sheet, with_sheet, whole_grid, grid_answer}
 use Rattle.fields.specs.Stages.{stage_of}
-use Rattle.grid_file.specs.GridMachine.{grid_head, grid_ended, grid_reader, grid_wants, grid_fed, closed_grid}
+use Rattle.grid_file.specs.GridMachine.{GridFile, grid_head, grid_ended, grid_reader, grid_wants, grid_fed, closed_grid}
 use Rattle.grid_text.specs.Text.{window_lines, grid_text}
 use Rattle.encoding.proofs.Bytes.{two_same}
 use Rattle.fields.proofs.Common.{mark_own, version_own, year_own, level_own, year_no, level_no, unrefused}
@@ -137,7 +136,7 @@ module _ (es : Editions) (bytes : List ℕ) where
 
   -- the state whose machine of days stands at g
   abbrev inside : Grid → GridFile
-  inside g = record { editions = es; field = 4; head = held 4; grid = g; stage = Going }
+  inside g = record { editions = es; field = 4; head = held 4; series = record { grid = g }; stage = Going }
 
   abbrev in_days : ℕ → GridFile
   in_days d = inside (held_after run (holding ed y level) (head_size l) bytes d)

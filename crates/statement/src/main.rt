@@ -1,53 +1,14 @@
 // The statement program: takes a customer file from standard input and prints the decision, or the refusal. Nothing is
-// decided here: `want` of room `customer_file` says how many bytes are read next, `feed` tests them, and room
-// `customer_text` makes the text. What is printed is specified in `customer_text`, specs/Text, and that each input has
-// the text of its bytes in `printed_proofs`, specs/Printed. Rules 10.1, 10.3 and 10.7.
+// decided here: room `drive` hands the machine of room `customer_file` what it reads, and room `customer_text` makes the
+// text. What is printed is specified in `customer_text`, specs/Text, and that each input has the text of its bytes in
+// `printed_proofs`, specs/Printed. Rules 10.1, 10.3 and 10.7.
 #![tactic(auto)]
 
-use customer_file::CustomerFile;
 use std::io;
-use std::io::Read;
-
-// A part is a field or a day. `want` never asks for more bytes than this, which the long Sunday has.
-const PART_MOST: usize = 400;
-
-// A file has at most so many parts: 16 fields and 40 holidays, 366 days, and a byte that should not be there.
-const PARTS: u32 = 423;
-
-// Hands the machine what came: fewer bytes than it wants where the input ends.
-fn read_into<R: Read>(
-    input: &mut R,
-    file: CustomerFile,
-    part: &mut [u8],
-) -> io::Result<CustomerFile> {
-    let n = inputs::read_full(input, part)?;
-    Ok(file.feed(&part[0..n]))
-}
-
-// One field or one day. A part is tested before the next is asked for (Rules 10.4 and 10.5).
-fn next<R: Read>(input: &mut R, file: CustomerFile) -> io::Result<CustomerFile> {
-    let mut part = [0u8; PART_MOST];
-    let want = file.want();
-    read_into(input, file, &mut part[..want])
-}
-
-// Part after part. A machine that has ended wants nothing, so its answer is printed at once, whatever the input still
-// has.
-fn run<R: Read>(input: &mut R) -> io::Result<CustomerFile> {
-    let mut file = CustomerFile::start(editions::todays());
-    let mut left = PARTS;
-    while left > 0 {
-        if file.want() == 0 {
-            return Ok(file);
-        }
-        file = next(input, file)?;
-        left -= 1;
-    }
-    Ok(file)
-}
 
 fn main(rt: HostRuntime) -> io::Result<()> {
     let mut text = [0u8; texts::TEXT_MOST];
-    let n = customer_text::text(run(&mut rt.stdin())?, &mut text);
+    let file = drive::drive(&mut rt.stdin(), editions::todays())?;
+    let n = customer_text::text(file, &mut text);
     rt.write_all(&text[0..n])
 }
