@@ -4,14 +4,13 @@
 // and nothing else meets the contract (`exactly`, `kind_only`, proofs/Answers).
 #![tactic(auto)]
 
-ghost use Rattle.std.specs.Prelude.{◌≡◌, ◌-◌, ◌≤◌, ◌<◌};
+ghost use Rattle.std.specs.Prelude.{◌≡◌, ◌≤◌, ◌<◌};
 ghost use Rattle.dates.specs.Dates.{most_days};
 ghost use Rattle.editions.specs.Editions.{edition_of};
 ghost use Rattle.day_kinds.specs.Kinds.{christmas, free, candidate, bridge, kind_by, window_days};
 ghost use Rattle.calendar.specs.Answer.{said_of_day, day_out, calendar_answer};
 ghost use Rattle.calendar.specs.Marks.{mark_places, last_mark, mark_place, marked, Marks};
 
-use answers::Edition;
 use day_kinds::DayKind;
 use editions::Editions;
 
@@ -40,8 +39,7 @@ pub enum DayRefusal {
 fn place_of(day: u16) -> usize
     ensures { (result ≡ mark_place day) × (result < mark_places) }
 {
-    let at = day as usize;
-    if at < LAST_MARK { at } else { LAST_MARK }
+    usize::from(day).min(LAST_MARK)
 }
 
 // The listed days, marked once, so that no day searches the list.
@@ -49,9 +47,8 @@ fn marks(holidays: &[u16]) -> [bool; MARK_PLACES]
     ensures { Marks holidays.now result }
 {
     let mut out = [false; MARK_PLACES];
-    for k in 0..holidays.len() {
-        let at = place_of(holidays[k]);
-        out[at] = true;
+    for day in holidays {
+        out[place_of(*day)] = true;
     }
     out
 }
@@ -91,13 +88,6 @@ fn is_candidate(year: u16, marks: &[bool; MARK_PLACES], on: u8, beside: u16, day
     false
 }
 
-// The Monday of a Friday's week, and day 0 where it lies in the year before.
-fn monday_of(friday: u16) -> u16
-    ensures { result ≡ friday - 4 }
-{
-    if friday < 4 { 0 } else { friday - 4 }
-}
-
 // Is a day the bridge day of its week: a Monday that is a candidate, or a Friday that is one where its Monday is none?
 fn is_bridge(year: u16, marks: &[bool; MARK_PLACES], day: u16) -> bool
     requires { (1 ≤ day) × (day ≤ most_days) }
@@ -107,7 +97,8 @@ fn is_bridge(year: u16, marks: &[bool; MARK_PLACES], day: u16) -> bool
         return true;
     }
     if is_candidate(year, marks, FRIDAY, day - 1, day) {
-        let first = monday_of(day);
+        // the Monday of its week, and day 0 where that lies in the year before
+        let first = day.saturating_sub(4);
         return !is_candidate(year, marks, MONDAY, first + 1, first);
     }
     false
@@ -139,8 +130,8 @@ pub fn window_days(year: u16, holidays: &[u16]) -> [bool; dates::MOST_DAYS]
 {
     let m = marks(holidays);
     let mut out = [false; dates::MOST_DAYS];
-    for k in 0..dates::MOST_DAYS {
-        out[k] = kind(year, &m, (k + 1) as u16) == DayKind::Windows;
+    for (k, carries) in out.iter_mut().enumerate() {
+        *carries = kind(year, &m, (k + 1) as u16) == DayKind::Windows;
     }
     out
 }
@@ -152,16 +143,16 @@ fn day_out(year: u16, day: u16) -> bool
     (day < 1) | (dates::year_days(year) < day)
 }
 
-// Of which kind is a day, from 1, of a year by an edition? Refuses 1, 3, 13 in this order.
-fn day_kind_by(
-    edition: Edition,
+// Of which kind is a day, from 1, of a charge year? Refuses 1, 3, 13 in this order.
+pub fn day_kind(
+    editions: Editions,
     year: u16,
     holidays: &[u16],
     day: u16,
 ) -> Result<DayKind, DayRefusal>
-    ensures { said_of_day result ≡ calendar_answer edition year holidays.now day }
+    ensures { said_of_day result ≡ calendar_answer (edition_of editions year) year holidays.now day }
 {
-    if answers::lacks_year(edition, year) {
+    if editions::year_out(editions, year) {
         return Err(DayRefusal::YearOut);
     }
     if holidays::bad_holidays(year, holidays) {
@@ -172,16 +163,4 @@ fn day_kind_by(
     }
     let m = marks(holidays);
     Ok(kind(year, &m, day))
-}
-
-// Of which kind is a day, from 1, of a charge year? Refuses 1, 3, 13 in this order.
-pub fn day_kind(
-    editions: Editions,
-    year: u16,
-    holidays: &[u16],
-    day: u16,
-) -> Result<DayKind, DayRefusal>
-    ensures { said_of_day result ≡ calendar_answer (edition_of editions year) year holidays.now day }
-{
-    day_kind_by(editions::pick(editions, year), year, holidays, day)
 }

@@ -19,6 +19,7 @@ pub const OCTOBER: u16 = 10;
 // place 0.
 const DAYS_BEFORE: [u16; 13] = [0, 31, 59, 90, 120, 151, 181, 212, 243, 273, 304, 334, 365];
 
+// Kept: seasons are numbers, since a season's place in a sheet, a curve and a table is computed from its number.
 const SEASONS: [u8; 12] = [1, 1, 2, 2, 2, 3, 3, 3, 4, 4, 4, 1];
 
 const MONTHS: usize = 12;
@@ -34,7 +35,7 @@ fn is_leap(year: u16) -> bool
 fn leap_day(year: u16) -> u16
     ensures { (result ≡ leap_day year) × (result < 2) }
 {
-    if is_leap(year) { 1 } else { 0 }
+    u16::from(is_leap(year))
 }
 
 // How many days any year has.
@@ -56,6 +57,7 @@ fn days_to(year: u16, month: usize) -> u16
     }
 }
 
+// Kept: 0 and no Option, as `day_number` (Dates) defines it: a listed date of another year is 0, too, which is no day.
 // The number of a date in its year, from 1; 0 where the year does not have it. Months and days count from 1.
 pub fn day_number(year: u16, month: u16, day: u16) -> u16
     ensures { result ≡ day_number year month day }
@@ -71,6 +73,7 @@ pub fn day_number(year: u16, month: u16, day: u16) -> u16
     before + day
 }
 
+// Kept: the months are a range and no list, and `find` with December for none of them says it no plainer.
 // The month of a day, 1 to 12: the first that does not end before it.
 fn month(year: u16, day: u16) -> usize
     ensures { result ≡ month_of year day }
@@ -96,17 +99,18 @@ pub fn month_left(year: u16, day: u16) -> u16
     ensures { result ≡ month_left year day }
 {
     let end = days_to(year, month(year, day));
-    if end < day { 0 } else { end - day }
+    end.saturating_sub(day)
 }
 
+// Kept: weekdays are numbers: a day's is computed by a remainder, and what is free or last is told by their order.
 // The weekday of any day of any year, 0 Monday to 6 Sunday. Years are not looped over: the leap days before a year are
 // counted by three divisions.
 pub fn weekday(year: u16, day: u16) -> u8
     ensures { result ≡ weekday_of year day }
 {
-    let y = year as u32;
+    let y = u32::from(year);
     let leaps = (y + 3) / 4 - (y + 99) / 100 + (y + 399) / 400;
-    ((y + leaps + (day as u32) + 4) % 7) as u8
+    ((y + leaps + u32::from(day) + 4) % 7) as u8
 }
 
 // The last Sunday of a month, which counts from 1, as a day of the year; 0 for a month that there is not.

@@ -8,7 +8,8 @@ use mathlib.Core.List.{List}
 use Prim.Native.Nat.{ℕ, ◌<◌}
 use native.Mathlib.Omega.{arith}
 use borrow.Author.Tests.{lt-ltb, le-ltb, ltb-true}
-use lib.ListN.{get_or}
+use lib.ListN.{length, take, get_or}
+use lib.Seq.{length-take-le, get_or-take}
 use Rattle.ranges.specs.Ranges.{joined, any_over, first_over}
 use Rattle.ranges.proofs.Bools.{decided, clash}
 use Rattle.ranges.proofs.Tests.{Passed, passed_none, all_passed, any_at}
@@ -18,8 +19,20 @@ use Rattle.answers.specs.Edition.{today, no_edition}
 use Rattle.answers.specs.Ruling.{lacks_year, HasYear}
 use Rattle.answers.proofs.Laws.{has_year}
 use Rattle.editions.specs.declared.Editions.{Editions}
-use Rattle.editions.specs.Editions.{no_editions, todays, loaded_in, no_record, record_at, place_for, edition_of, HasRecord}
+use Rattle.editions.specs.Editions.{editions_most, no_editions, todays, loaded_in, no_record, record_at, place_for, edition_of, HasRecord}
 use Rattle.editions.specs.Loading.{bad_years, bad_shares, bad_numbers, bad_edition, overlaps, load_answer, loaded_with}
+
+-- the records that count, as a part of the list's eight places
+pub record Counted (es : Editions) (records : List Edition) : Type 0 where
+  pub long : length records ≡ loaded_in es
+  pub each : (k : ℕ) → k < loaded_in es → get_or records k no_record ≡ record_at es k
+
+pub counted : (es : Editions) (n : ℕ) → length es.records ≡ editions_most → n ≡ loaded_in es → Counted es (take n es.records)
+counted es n l e =
+    record {
+      long = length-take-le n es.records (omega arith) ∙ e;
+      each = λ k h. get_or-take n es.records k no_record (omega arith);
+    }
 
 -- does the record at place k, from 0, of some records hold for the year?
 abbrev pub holding : List Edition → ℕ → ℕ → Bool

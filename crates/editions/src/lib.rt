@@ -8,7 +8,7 @@ ghost use Rattle.answers.specs.Edition.{today};
 ghost use Rattle.editions.specs.Editions.{editions_most, no_editions, todays, loaded_in, edition_of, year_out};
 ghost use Rattle.editions.specs.Loading.{said_of_loading, bad_years, bad_shares, bad_numbers, bad_edition, meets, overlaps, load_answer, loaded_with};
 
-use answers::Edition;
+use answers::{Edition, WHOLE_SHARE};
 
 // How many records a list may have.
 pub const EDITIONS_MOST: usize = 8;
@@ -25,6 +25,7 @@ const REDUCTION_MOST: u32 = 1_000_000;
 
 const HOURS_MOST: u16 = 8_784;
 
+// Kept: a count beside eight places: a list of any count has an answer (Rule 9.6), and there is no heap for another.
 // A list of editions: how many records are loaded, and the places for them, the first at place 0. A list that no call
 // handed back has an answer, too: its first eight records count at most.
 #[derive(Clone, Copy)]
@@ -41,13 +42,12 @@ pub struct NotLoaded;
 pub fn today() -> Edition
     ensures { result ≡ today }
 {
-    let shares = SHARES;
     Edition {
         first: 2014,
         last: 2028,
         line: 95,
         limit: 40,
-        shares,
+        shares: SHARES,
         least_move: 100_000,
         floor: 20,
         least_reduction: 50_000,
@@ -76,8 +76,7 @@ pub fn todays() -> Editions
 fn loaded_in(editions: Editions) -> usize
     ensures { (result ≡ loaded_in editions) × (result ≤ editions_most) }
 {
-    let n = editions.count as usize;
-    if n < EDITIONS_MOST { n } else { EDITIONS_MOST }
+    EDITIONS_MOST.min(usize::from(editions.count))
 }
 
 // The record that holds for a year, the first if there are several; the edition of no year where there is none. Any
@@ -85,11 +84,9 @@ fn loaded_in(editions: Editions) -> usize
 pub fn pick(editions: Editions, year: u16) -> Edition
     ensures { result ≡ edition_of editions year }
 {
-    let n = loaded_in(editions);
-    for k in 0..n {
-        let record = editions.records[k];
-        if !answers::lacks_year(record, year) {
-            return record;
+    for record in &editions.records[..loaded_in(editions)] {
+        if !answers::lacks_year(*record, year) {
+            return *record;
         }
     }
     answers::NO_EDITION
@@ -106,12 +103,7 @@ pub fn year_out(editions: Editions, year: u16) -> bool
 fn bad_shares(shares: [u8; 7]) -> bool
     ensures { result ≡ bad_shares shares }
 {
-    for k in 0..7 {
-        if answers::WHOLE_SHARE < shares[k] as u64 {
-            return true;
-        }
-    }
-    false
+    shares.iter().any(|share| WHOLE_SHARE < u64::from(*share))
 }
 
 // Does a record begin before 2014, end before it begins, or end behind 2060?
@@ -128,9 +120,9 @@ fn bad_numbers(edition: Edition) -> bool
     ensures { result ≡ bad_numbers edition }
 {
     (edition.limit < 1)
-        | (answers::DAY_QUARTERS < edition.limit as usize)
-        | (answers::WHOLE_SHARE < edition.line as u64)
-        | (answers::WHOLE_SHARE < edition.floor as u64)
+        | (answers::DAY_QUARTERS < usize::from(edition.limit))
+        | (WHOLE_SHARE < u64::from(edition.line))
+        | (WHOLE_SHARE < u64::from(edition.floor))
         | (MOVE_MOST < edition.least_move)
         | (REDUCTION_MOST < edition.least_reduction)
         | (HOURS_MOST < edition.hours)
@@ -140,8 +132,7 @@ fn bad_numbers(edition: Edition) -> bool
 fn bad_edition(edition: Edition) -> bool
     ensures { result ≡ bad_edition edition }
 {
-    let shares = edition.shares;
-    bad_years(edition) | bad_shares(shares) | bad_numbers(edition)
+    bad_years(edition) | bad_shares(edition.shares) | bad_numbers(edition)
 }
 
 // Does each of two records begin no later than the other ends?
@@ -155,14 +146,9 @@ fn do_meet(a: Edition, b: Edition) -> bool
 fn do_overlap(editions: Editions, edition: Edition) -> bool
     ensures { result ≡ overlaps editions edition }
 {
-    let n = loaded_in(editions);
-    for k in 0..n {
-        let record = editions.records[k];
-        if do_meet(record, edition) {
-            return true;
-        }
-    }
-    false
+    editions.records[..loaded_in(editions)]
+        .iter()
+        .any(|record| do_meet(*record, edition))
 }
 
 impl Editions {
@@ -172,7 +158,7 @@ impl Editions {
     pub fn load(&mut self, edition: Edition) -> Result<(), NotLoaded>
         ensures { (said_of_loading result ≡ load_answer self.old edition) × (self.new ≡ loaded_with self.old edition) }
     {
-        let n = self.count as usize;
+        let n = usize::from(self.count);
         if EDITIONS_MOST <= n {
             return Err(NotLoaded);
         }

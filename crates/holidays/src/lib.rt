@@ -23,12 +23,11 @@ pub fn bad_holidays(year: u16, holidays: &[u16]) -> bool
         return true;
     }
     let mut last = 0;
-    for k in 0..holidays.len() {
-        let day = holidays[k];
-        if bad_holiday(year, last, day) {
+    for day in holidays {
+        if bad_holiday(year, last, *day) {
             return true;
         }
-        last = day;
+        last = *day;
     }
     false
 }

@@ -21,7 +21,7 @@ struct Date {
 fn years_back(year: u16, n: u16) -> u16
     ensures { result ≡ year - n }
 {
-    if year < n { 0 } else { year - n }
+    year.saturating_sub(n)
 }
 
 // How many days the reference period of any charge year has: as many as the year in which it ends.

@@ -14,7 +14,7 @@ no_monday e = sym e.is_candidate.ensures ∙ e.if-is_candidate.false
 pub returns-then-is_candidate-2 : goal.returns-then-is_candidate-2
 returns-then-is_candidate-2 c =
     ap not c.is_candidate-then-is_candidate-2.ensures
-    ∙ bridge_friday _ _ _ c.monday_of-first.ensures (no_monday (goal.at.returns-then-is_candidate-2 c).Else-is_candidate)
+    ∙ bridge_friday _ _ _ c.saturating_sub-first.ensures (no_monday (goal.at.returns-then-is_candidate-2 c).Else-is_candidate)
     (sym c.is_candidate-2.ensures ∙ c.if-is_candidate-2.true)
 
 pub returns : goal.returns

@@ -6,11 +6,11 @@ use Rattle.calendar.specs.Marks.{mark_places}
 use Rattle.calendar.proofs.Marked.{marking_none, marking_more, marking_all}
 use Rattle.calendar.proofs.marks.Goals as goal
 
-pub loop-k-preserved : goal.loop-k-preserved
-loop-k-preserved c = marking_more _ c.loop-k.invariant (omega arith) c.place_of-at.ensures.0
+pub loop-day-preserved : goal.loop-day-preserved
+loop-day-preserved c = marking_more _ c.loop-day.invariant (omega arith) c.place_of.ensures.0
 
-pub loop-k-init : goal.loop-k-init
-loop-k-init c = marking_none _ refl (λ d b. get_or-replicate {A = Bool} mark_places d false false (omega arith))
+pub loop-day-init : goal.loop-day-init
+loop-day-init c = marking_none _ refl (λ d b. get_or-replicate {A = Bool} mark_places d false false (omega arith))
 
 pub returns : goal.returns
-returns c = marking_all _ c.loop-k.invariant (omega arith)
+returns c = marking_all _ c.loop-day.invariant (omega arith)

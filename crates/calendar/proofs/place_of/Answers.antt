@@ -1,11 +1,19 @@
--- `calendar::place_of` meets its contract: the code's test is the definition's.
+-- `calendar::place_of` meets its contract: the smaller of two numbers is the definition's choice.
 -- Assumes nothing.
+use mathlib.Core.Path.{◌≡◌, ◌∙◌}
+use Prim.Native.Nat.{ℕ, ◌<◌, min}
+use native.Mathlib.Decide.{dec_lt}
 use native.Mathlib.Omega.{arith}
 use borrow.Author.Tests.{lt-ltb, le-ltb}
+use Rattle.calendar.specs.Marks.{last_mark, mark_place}
 use Rattle.calendar.proofs.place_of.Goals as goal
 
-pub returns-then-at-lt-LAST_MARK : goal.returns-then-at-lt-LAST_MARK
-returns-then-at-lt-LAST_MARK c = (simp (lt-ltb _ _ c.if-at-lt-LAST_MARK.true), omega arith)
+smaller : (d : ℕ) → min d last_mark ≡ mark_place d
+smaller d = go (dec_lt d last_mark)
+  where
+    go : Dec (d < last_mark) → min d last_mark ≡ mark_place d
+    go (yes h) = rw (lt-ltb d last_mark h) (omega arith)
+    go (no h) = rw (le-ltb d last_mark (omega arith)) (omega arith)
 
-pub returns-else-at-lt-LAST_MARK : goal.returns-else-at-lt-LAST_MARK
-returns-else-at-lt-LAST_MARK c = (simp (le-ltb _ _ c.if-at-lt-LAST_MARK.false), omega arith)
+pub returns : goal.returns
+returns c = let e = rw c.from.ensures at c.min.ensures in (e ∙ smaller _, omega (arith, e))

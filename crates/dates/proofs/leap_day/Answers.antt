@@ -1,12 +1,20 @@
--- `dates::leap_day` meets its contract, by the two laws of a leap day.
+-- `dates::leap_day` meets its contract: what a truth is as a number.
 -- Assumes nothing.
-use mathlib.Core.Path.{sym}
+use mathlib.Core.Path.{◌≡◌, refl, ap, ◌∙◌}
+use mathlib.Core.Bool.{Bool, true, false}
 use native.Mathlib.Omega.{arith}
-use Rattle.dates.proofs.Leaps.{leap_yes, leap_no}
+use mir.Val.{bool_byte}
+use Rattle.ranges.specs.Ranges.{bit}
+use Rattle.dates.specs.Dates.{leap_day}
+use Rattle.dates.proofs.Leaps.{leap_small}
 use Rattle.dates.proofs.leap_day.Goals as goal
 
-pub returns-then-is_leap : goal.returns-then-is_leap
-returns-then-is_leap c = (sym (leap_yes _ (cc)), omega arith)
+byte_is : (b : Bool) → bool_byte b ≡ bit b
+byte_is true = refl
+byte_is false = refl
 
-pub returns-else-is_leap : goal.returns-else-is_leap
-returns-else-is_leap c = (sym (leap_no _ (cc)), omega arith)
+pub returns : goal.returns
+unfolding leap_day
+returns c =
+    let e = c.from.ensures ∙ ap bool_byte c.is_leap.ensures ∙ byte_is _ in
+    (e, omega (arith, e, leap_small c.args.year))

@@ -11,13 +11,9 @@ use Rattle.dates.proofs.month_left.Goals as goal
 ends : (e : After-days_to-end) → let a = e.args in e.days_to-end.result ≡ days_to a.year (month_of a.year a.day)
 ends e = e.days_to-end.ensures.0 ∙ ap (days_to _) e.month.ensures
 
-pub returns-then-end-day : goal.returns-then-end-day
+pub returns : goal.returns
 unfolding month_left
-returns-then-end-day c = omega (arith, ends c.before)
-
-pub returns-else-end-day : goal.returns-else-end-day
-unfolding month_left
-returns-else-end-day c = omega (arith, ends c.before)
+returns c = omega (arith, ends c.before, c.saturating_sub.ensures)
 
 pub days_to-end-requires : goal.days_to-end-requires
 days_to-end-requires c = let r = month_range c.args.year c.args.day in omega arith

@@ -4,4 +4,4 @@ use Rattle.dates.proofs.Weekdays.{weekday_by_leaps}
 use Rattle.dates.proofs.weekday.Goals as goal
 
 pub returns : goal.returns
-returns c = weekday_by_leaps _ _
+returns c = rw (c.from-y.ensures, c.from.ensures) (weekday_by_leaps _ _)

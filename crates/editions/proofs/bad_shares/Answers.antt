@@ -1,17 +1,25 @@
-use native.Mathlib.Omega.{arith}
-use borrow.Author.Tests.{le-ltb}
-use Rattle.ranges.proofs.Tests.{passed_none, passed_more}
-use Rattle.editions.proofs.Refused.{shares_at, shares_none}
+-- `editions::bad_shares` meets its contract: the test of each share, in a row.
+-- Assumes nothing.
+use mathlib.Core.Path.{◌≡◌, ap, ◌∙◌}
+use borrow.Author.Rules.{rules}
+use lib.Dec.{ltb}
+use lib.ListN.{length}
+use Rattle.std.proofs.lemmas.Iterator.{YieldsList-from_slice}
+use Rattle.std.proofs.lemmas.Iterator.Search.{any_from_yields_List}
+use Rattle.ranges.specs.Ranges.{any_over}
+use Rattle.answers.specs.Edition.{whole_share}
+use Rattle.editions.specs.Loading.{bad_shares}
+use Rattle.editions.proofs.Refused.{any_listed}
+use Rattle.editions.proofs.bad_shares.Goals.{After-any}
 use Rattle.editions.proofs.bad_shares.Goals as goal
 
-pub returns-then-shares-k-gt-WHOLE_SHARE : goal.returns-then-shares-k-gt-WHOLE_SHARE
-returns-then-shares-k-gt-WHOLE_SHARE c = shares_at _ c.loop-k.k (omega arith) c.if-shares-k-gt-WHOLE_SHARE.true
-
-pub loop-k-preserved : goal.loop-k-preserved
-loop-k-preserved c = (omega arith, passed_more c.loop-k.invariant.1 (le-ltb _ _ c.if-shares-k-gt-WHOLE_SHARE.false))
+-- there are seven shares
+seven : (e : After-any) → length e.args.shares ≡ 7
+seven e = e.well_formed.0.1.0.1
 
 pub returns : goal.returns
-returns c = shares_none _ c.loop-k.k (omega arith) c.loop-k.invariant.1
-
-pub loop-k-init : goal.loop-k-init
-loop-k-init c = (omega arith, passed_none)
+unfolding bad_shares
+returns c =
+    any_from_yields_List (ltb whole_share) _ _ _ c.any.ensures.ran (YieldsList-from_slice c.args.shares cc) (λ x b q k. search rules)
+    ∙ any_listed (ltb whole_share) 0 c.args.shares
+    ∙ ap (any_over _) (seven c)

@@ -1,12 +1,9 @@
--- `editions::pick` meets its contract. The loop's invariant: none of the first k records holds for the year.
+-- `editions::pick` meets its contract. The loop's invariant: none of the records before the loop's place holds for the
+-- year.
 -- Assumes nothing.
-use Prim.Native.Nat.{◌≤◌, ◌-◌}
 use Rattle.ranges.proofs.Tests.{Passed}
 use Rattle.editions.proofs.Picked.{holding}
 use Rattle.editions.proofs.pick.Given as goal
 
-abbrev pub invariant-loop-k : goal.invariant-loop-k
-invariant-loop-k l = (l.k ≤ l.n) × Passed (holding l.editions.records l.year) l.k
-
-abbrev pub decreases-loop-k : goal.decreases-loop-k
-decreases-loop-k l = l.n - l.k
+abbrev pub invariant-loop-record : goal.invariant-loop-record
+invariant-loop-record l = Passed (holding l.fn.editions.records l.year) l.record-index

@@ -6,18 +6,18 @@ use Rattle.holidays.proofs.bad_holidays.Goals as goal
 
 pub returns-then-bad_holiday : goal.returns-then-bad_holiday
 returns-then-bad_holiday c =
-    bad_at_law _ _ c.loop-k.k (entry _ _ c.loop-k.k c.loop-k.invariant.1 (sym c.bad_holiday.ensures ∙ c.if-bad_holiday.true)) (omega arith)
+    bad_at_law _ _ c.loop-day.day-index (entry _ _ c.loop-day.day-index c.loop-day.invariant.0 (sym c.bad_holiday.ensures ∙ c.if-bad_holiday.true)) (omega arith)
 
-pub loop-k-preserved : goal.loop-k-preserved
-loop-k-preserved c =
-    let kept = entry _ _ c.loop-k.k c.loop-k.invariant.1 (sym c.bad_holiday.ensures ∙ c.if-bad_holiday.false) in
-    (omega arith, before_next _ c.loop-k.k, passed_more c.loop-k.invariant.2 kept)
+pub loop-day-preserved : goal.loop-day-preserved
+loop-day-preserved c =
+    let kept = entry _ _ c.loop-day.day-index c.loop-day.invariant.0 (sym c.bad_holiday.ensures ∙ c.if-bad_holiday.false) in
+    (before_next _ c.loop-day.day-index, passed_more c.loop-day.invariant.1 kept)
 
 pub returns-then-holidays-gt-HOLIDAYS_MOST : goal.returns-then-holidays-gt-HOLIDAYS_MOST
 returns-then-holidays-gt-HOLIDAYS_MOST c = bad_long _ _ (omega arith)
 
-pub loop-k-init : goal.loop-k-init
-loop-k-init c = (omega arith, refl, passed_none)
+pub loop-day-init : goal.loop-day-init
+loop-day-init c = (refl, passed_none)
 
 pub returns : goal.returns
-returns c = bad_none _ _ c.loop-k.invariant.2 (omega arith) (omega arith)
+returns c = bad_none _ _ c.loop-day.invariant.1 (omega arith) (omega arith)

@@ -16,7 +16,8 @@ returns-then-bad_edition-do_overlap c =
 
 pub returns : goal.returns
 returns c =
-    said_loaded _ _ (omega arith) (both c.bad_edition.ensures c.do_overlap.ensures c.if-bad_edition-do_overlap.false)
+    rw c.from-n.ensures
+    (said_loaded _ _ (omega arith) (both c.bad_edition.ensures c.do_overlap.ensures c.if-bad_edition-do_overlap.false))
 
 pub returns-then-n-ge-EDITIONS_MOST : goal.returns-then-n-ge-EDITIONS_MOST
 returns-then-n-ge-EDITIONS_MOST c = said_full _ _ (omega arith)
