@@ -4,22 +4,11 @@
 ghost use Rattle.std.specs.Prelude.{◌≡◌, ◌-◌, min};
 ghost use Rattle.encoding.specs.Bytes.{laid};
 
-// How many of `size` bytes fit into `room` bytes from place `at` on.
-fn fitting(size: usize, room: usize, at: usize) -> usize
-    ensures { result ≡ min size (room - at) }
-{
-    if room < at {
-        return 0;
-    }
-    if size < room - at { size } else { room - at }
-}
-
 // Lays bytes over a lent buffer from place `at` on, those that fit; all others stay.
 pub fn lay(out: &mut [u8], at: usize, b: &[u8])
     ensures { out.new ≡ laid out.old at b.now }
 {
-    let n = fitting(b.len(), out.len(), at);
-    for i in 0..n {
-        out[at + i] = b[i];
-    }
+    let from = at.min(out.len());
+    let n = b.len().min(out.len() - from);
+    out[from..from + n].copy_from_slice(&b[..n]);
 }

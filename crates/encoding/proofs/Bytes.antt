@@ -1,16 +1,17 @@
 -- Laws of numbers and marks in bytes: what they look at, byte by byte, and bytes that are laid over others.
 -- Assumes nothing.
 use mathlib.Core.Path.{◌≡◌, refl, sym, ap, ◌∙◌}
-use mathlib.Core.Bool.{false, not, ◌||◌}
+use mathlib.Core.Bool.{Bool, true, false, not, ◌&&◌, ◌||◌}
 use mathlib.Core.Logic.{◌↔◌}
-use mathlib.Core.List.{List}
+use mathlib.Core.List.{List, [], ◌∷◌}
 use Prim.Native.Nat.{ℕ, ◌+◌, ◌-◌, ◌*◌, ◌≤◌, ◌<◌, min}
-use native.Mathlib.Numerals.{add-one}
 use native.Mathlib.Omega.{arith}
 use borrow.Author.Tests.{eq-eqb, eqb-true, not-false}
 use lib.Dec.{eqb}
-use lib.ListN.{length, get_or, set, take, length-set, get_or-eq_default}
-use lib.Seq.{paste, paste-zero, paste-suc, take-take, length-take-le}
+use lib.ListN.{length, get_or, take, get_or-eq_default}
+use lib.Seq.{paste, take-take, length-take-le}
+use Rattle.std.specs.Prelude.{nat_eq}
+use lib.Pointwise.{pointwise}
 use Rattle.ranges.specs.Ranges.{joined, any_over, in_base}
 use Rattle.ranges.proofs.Tests.{any_cong, any_fails, all_passed}
 use Rattle.ranges.proofs.Digits.{base_cong}
@@ -30,15 +31,28 @@ module _ (b : List ℕ) (i : ℕ) where
   unfolding four_at in_base joined
   four_bytes_law = omega arith
 
-  -- a mark by its bytes
-  pub other_mark_bytes :
-      (mark : List ℕ)
-      → (not (eqb (get_or b (i + 0) 0) (get_or mark 0 0))
-      || not (eqb (get_or b (i + 1) 0) (get_or mark 1 0))
-      || not (eqb (get_or b (i + 2) 0) (get_or mark 2 0)))
-      ≡ other_mark mark b i
-  unfolding other_mark any_over joined
-  other_mark_bytes mark = refl
+-- three bytes are other than a mark exactly when one of them is
+differ : (p q r : Bool) → not (p && (q && (r && true))) ≡ (not p || not q || not r)
+differ true true true = refl
+differ true true false = refl
+differ true false r = refl
+differ false q r = refl
+
+pub other_mark_bytes :
+    (b : List ℕ) (i : ℕ) (mark : List ℕ) {x y z : ℕ}
+    → length mark ≡ mark_size
+    → x ≡ get_or b (i + 0) 0
+    → y ≡ get_or b (i + 1) 0
+    → z ≡ get_or b (i + 2) 0
+    → not (pointwise nat_eq (x ∷ y ∷ z ∷ []) mark) ≡ other_mark mark b i
+unfolding other_mark any_over joined
+other_mark_bytes b i [] l e f g = absurd (omega arith)
+other_mark_bytes b i (u ∷ []) l e f g = absurd (omega arith)
+other_mark_bytes b i (u ∷ v ∷ []) l e f g = absurd (omega arith)
+other_mark_bytes b i (u ∷ v ∷ w ∷ _ ∷ _) l e f g = absurd (omega arith)
+other_mark_bytes b i (u ∷ v ∷ w ∷ []) {x} {y} {z} l e f g =
+    differ (nat_eq x u) (nat_eq y v) (nat_eq z w)
+    ∙ (λ k. not (nat_eq (e k) u) || not (nat_eq (f k) v) || not (nat_eq (g k) w))
 
 -- the mark stands there exactly when each of its bytes does
 pub alike : (mark b : List ℕ) (i : ℕ) → (other_mark mark b i ≡ false) ↔ ((k : ℕ) → k < mark_size → get_or b (i + k) 0 ≡ get_or mark k 0)
@@ -67,33 +81,6 @@ module _ (a b : List ℕ) (i j : ℕ) where
   pub other_mark_same : (mark : List ℕ) → ((k : ℕ) → k < mark_size → get_or a (i + k) 0 ≡ get_or b (j + k) 0) → other_mark mark a i ≡ other_mark mark b j
   unfolding other_mark
   other_mark_same mark h = any_cong _ _ mark_size (λ k l. ap (λ (x : ℕ). not (eqb x (get_or mark k 0))) (h k l))
-
--- what a loop that lays bytes over others keeps: the first i are there
-pub record Laid (d : List ℕ) (at : ℕ) (b : List ℕ) (n i : ℕ) (out : List ℕ) : Type 0 where
-  pub some : i ≤ n
-  pub long : length out ≡ length d
-  pub is : out ≡ paste d at b i
-
-module _ {d : List ℕ} {at : ℕ} {b : List ℕ} {n : ℕ} (e : n ≡ min (length b) (length d - at)) where
-  pub laid_none : Laid d at b n 0 d
-  laid_none = record { some = omega arith; long = refl; is = paste-zero d at b }
-
-  pub laid_more : {i : ℕ} {out : List ℕ} → Laid d at b n i out → i < n → Laid d at b n (i + 1) (set out (at + i) (get_or b i 0))
-  laid_more {i} {out} h l =
-      record {
-        some = omega arith;
-        long = simp length-set h.long;
-        is =
-            ap (λ (o : List ℕ). set o (at + i) (get_or b i 0)) h.is
-            ∙ paste-suc d at b i 0 (omega arith) (omega arith)
-            ∙ ap (paste d at b) (sym (add-one i));
-      }
-
-  pub laid_all : {i : ℕ} {out : List ℕ} → Laid d at b n i out → n ≤ i → out ≡ laid d at b
-  unfolding laid
-  laid_all {i} h l =
-      let all : i ≡ min (length b) (length d - at) = omega (arith, h.some) in
-      h.is ∙ ap (paste d at b) all
 
 -- bytes that all fit
 pub laid_whole : (d : List ℕ) (at : ℕ) (b : List ℕ) (n : ℕ) → at + n ≤ length d → n ≤ length b → laid d at (take n b) ≡ paste d at b n

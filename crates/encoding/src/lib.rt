@@ -12,11 +12,6 @@ pub const MARK_SIZE: usize = 3;
 
 pub const FORMAT_VERSION: u16 = 1;
 
-// The version's two bytes.
-pub const VERSION_HIGH: u8 = 0;
-
-pub const VERSION_LOW: u8 = 1;
-
 // What stands behind the last byte.
 const BEHIND: u8 = 0;
 
@@ -24,39 +19,31 @@ const BEHIND: u8 = 0;
 pub fn byte_at(b: &[u8], i: usize, k: usize) -> u8
     ensures { result ≡ get_or b.now (i + k) 0 }
 {
-    if i < b.len() {
-        if k < b.len() - i {
-            return b[i + k];
-        }
-    }
-    BEHIND
-}
-
-// A byte as a number of 32 bits.
-fn wide(x: u8) -> u32
-    ensures { (result ≡ x) × (result < 256) }
-{
-    x as u32
+    b.get(i.saturating_add(k)).copied().unwrap_or(BEHIND)
 }
 
 // The number of 16 bits at place i, high byte first.
 pub fn two_at(b: &[u8], i: usize) -> u16
     ensures { result ≡ two_at b.now i }
 {
-    (256 * wide(byte_at(b, i, 0)) + wide(byte_at(b, i, 1))) as u16
+    u16::from_be_bytes([byte_at(b, i, 0), byte_at(b, i, 1)])
 }
 
 // The number of 32 bits at place i, high byte first.
 pub fn four_at(b: &[u8], i: usize) -> u32
     ensures { result ≡ four_at b.now i }
 {
-    let first = 256 * wide(byte_at(b, i, 0)) + wide(byte_at(b, i, 1));
-    256 * (256 * first + wide(byte_at(b, i, 2))) + wide(byte_at(b, i, 3))
+    u32::from_be_bytes([
+        byte_at(b, i, 0),
+        byte_at(b, i, 1),
+        byte_at(b, i, 2),
+        byte_at(b, i, 3),
+    ])
 }
 
 // Are the three bytes at place i another mark?
 pub fn other_mark(b: &[u8], i: usize, mark: &[u8; MARK_SIZE]) -> bool
     ensures { result ≡ other_mark mark.now b.now i }
 {
-    (byte_at(b, i, 0) != mark[0]) | (byte_at(b, i, 1) != mark[1]) | (byte_at(b, i, 2) != mark[2])
+    [byte_at(b, i, 0), byte_at(b, i, 1), byte_at(b, i, 2)] != *mark
 }

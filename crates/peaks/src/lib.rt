@@ -8,7 +8,7 @@ ghost use Rattle.readings.specs.Legal.{highest_of};
 pub fn larger(a: u32, b: u32) -> u32
     ensures { result ≡ max a b }
 {
-    if a < b { b } else { a }
+    a.max(b)
 }
 
 // The highest of some readings, and 0 of none.
@@ -16,8 +16,8 @@ pub fn highest(readings: &[u32]) -> u32
     ensures { result ≡ highest_of readings.now }
 {
     let mut top = 0;
-    for i in 0..readings.len() {
-        top = larger(top, readings[i]);
+    for reading in readings {
+        top = larger(top, *reading);
     }
     top
 }

@@ -11,6 +11,8 @@ use lib.Dec.{eqb}
 use lib.ListN.{length, get_or, get_or-append}
 use lib.Seq.{get_or-append-add}
 use lib.Pow.{pow_mono}
+use Rattle.std.specs.List.{list_any}
+use Rattle.std.proofs.Math.Bool.{or-false}
 use Rattle.ranges.specs.Ranges.{bit, in_base, digit_of, table}
 use Rattle.ranges.proofs.Bools.{bit_le}
 use Rattle.ranges.proofs.Tests.{count_cong}
@@ -50,6 +52,16 @@ full_bytes ed b =
     (sym (season_set b 1 (omega arith)))
     (sym (season_set b 2 (omega arith)))
     (sym (season_set b 3 (omega arith)))
+
+-- the same by a list of the places where the seasons begin
+pub any_full : (ed : Edition) (b : List ℕ) → list_any (season_full ed b) (8 ∷ 20 ∷ 32 ∷ 44 ∷ []) ≡ too_full ed (windows_in b)
+any_full ed b = four (season_full ed b 8) (season_full ed b 20) (season_full ed b 32) (season_full ed b 44) ∙ full_bytes ed b
+  where
+    four : (p q r s : Bool) → (p || (q || (r || (s || false)))) ≡ (p || q || r || s)
+    four true q r s = refl
+    four false true r s = refl
+    four false false true s = refl
+    four false false false s = or-false s
 
 -- a bit is the digit 0 or 1, and says whether it is set
 bit_digit : (b : Bool) → eqb (bit b) 1 ≡ b

@@ -3,7 +3,7 @@
 #![tactic(auto)]
 
 ghost use Rattle.std.specs.Prelude.{◌≡◌, ◌<◌, length};
-ghost use Rattle.sheet.specs.Windows.{too_full};
+ghost use Rattle.std.specs.List.{list_any};
 ghost use Rattle.sheet.specs.Bytes.{sheet_size, bit_of, windows_in, season_full};
 ghost use Rattle.sheet.specs.Answers.{shown_of, read_of};
 ghost use Rattle.sheet_read.specs.Editions.{sheet_edition};
@@ -17,7 +17,7 @@ const VERSION_AT: usize = 3;
 
 const LEVEL_AT: usize = 7;
 
-const SEASONS_AT: [usize; 4] = [8, 20, 32, 44];
+const SEASONS_AT: [usize; sheet::SEASONS] = [8, 20, 32, 44];
 
 // Bit j of a byte, from 0 at the highest.
 fn bit_at(byte: u8, j: usize) -> bool
@@ -33,8 +33,8 @@ fn unpack(b: &[u8]) -> [bool; sheet::WINDOW_PLACES]
     ensures { result ≡ windows_in b.now }
 {
     let mut windows = [false; sheet::WINDOW_PLACES];
-    for p in 0..sheet::WINDOW_PLACES {
-        windows[p] = bit_at(b[sheet::WINDOWS_AT + p / 8], p % 8);
+    for (p, window) in windows.iter_mut().enumerate() {
+        *window = bit_at(b[sheet::WINDOWS_AT + p / 8], p % 8);
     }
     windows
 }
@@ -48,18 +48,14 @@ pub fn season_full(edition: Edition, b: &[u8], i: usize) -> bool
     for q in 0..answers::DAY_QUARTERS {
         n += answers::one_if(bit_at(encoding::byte_at(b, i, q / 8), q % 8));
     }
-    let most = edition.limit as usize;
-    most < n
+    usize::from(edition.limit) < n
 }
 
 // Does some season in a sheet's bytes have more set quarters than an edition's limit?
 fn bytes_full(edition: Edition, b: &[u8]) -> bool
-    ensures { result ≡ too_full edition (windows_in b.now) }
+    ensures { result ≡ list_any (season_full edition b.now) SEASONS_AT }
 {
-    season_full(edition, b, SEASONS_AT[0])
-        | season_full(edition, b, SEASONS_AT[1])
-        | season_full(edition, b, SEASONS_AT[2])
-        | season_full(edition, b, SEASONS_AT[3])
+    SEASONS_AT.iter().any(|at| season_full(edition, b, *at))
 }
 
 // Reads a sheet by an edition, for a caller that has picked the one of the sheet's year. Refuses 12 (length, mark or

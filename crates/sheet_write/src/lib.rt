@@ -30,7 +30,7 @@ fn set_in(windows: &[bool; sheet::WINDOW_PLACES], season: usize) -> usize
 fn too_full(edition: Edition, windows: &[bool; sheet::WINDOW_PLACES]) -> bool
     ensures { result ≡ too_full edition windows.now }
 {
-    let most = edition.limit as usize;
+    let most = usize::from(edition.limit);
     (most < set_in(windows, 1))
         | (most < set_in(windows, 2))
         | (most < set_in(windows, 3))
@@ -65,14 +65,16 @@ fn fill(year: u16, level: u8, windows: &[bool; sheet::WINDOW_PLACES], out: &mut 
     requires { sheet_size ≤ length out.old }
     ensures { out.new ≡ bytes_of year level windows.now ++ drop sheet_size out.old }
 {
+    let [version_high, version_low] = encoding::FORMAT_VERSION.to_be_bytes();
+    let [year_high, year_low] = year.to_be_bytes();
     let head = [
         b'H',
         b'L',
         b'Z',
-        encoding::VERSION_HIGH,
-        encoding::VERSION_LOW,
-        (year / 256) as u8,
-        (year % 256) as u8,
+        version_high,
+        version_low,
+        year_high,
+        year_low,
         level,
     ];
     for i in 0..sheet::SHEET_SIZE {

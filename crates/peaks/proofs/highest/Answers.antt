@@ -7,10 +7,12 @@ use Rattle.peaks.proofs.highest.Goals as goal
 
 pub returns : goal.returns
 unfolding highest_of
-returns c = let e : c.loop-i.i ≡ length c.args.readings.now = omega arith in rw e at c.loop-i.invariant.1
+returns c =
+    let e : c.loop-reading.reading-index ≡ length c.args.readings.now = omega arith in
+    rw e at c.loop-reading.invariant.1
 
-pub loop-i-init : goal.loop-i-init
-loop-i-init c = (omega arith, sym (largest_none _))
+pub loop-reading-init : goal.loop-reading-init
+loop-reading-init c = (omega arith, sym (largest_none _))
 
-pub loop-i-preserved : goal.loop-i-preserved
-loop-i-preserved c = (omega arith, rw largest_more (omega arith))
+pub loop-reading-preserved : goal.loop-reading-preserved
+loop-reading-preserved c = (omega arith, rw largest_more (omega arith))

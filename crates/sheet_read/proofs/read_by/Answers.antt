@@ -12,6 +12,7 @@ use Rattle.encoding.specs.Bytes.{two_at}
 use Rattle.sheet.specs.Bytes.{year_at, level_at}
 use Rattle.sheet.specs.Rows.{Formed}
 use Rattle.ranges.proofs.Bools.{clash}
+use Rattle.sheet.proofs.Bytes.{any_full}
 use Rattle.sheet.proofs.Answered.{read_refused, read_taken, marked, read_form, read_year, read_level, read_full, read_accepted}
 use Rattle.sheet_read.proofs.read_by.Goals.{Else-lacks_year, Else-level_out, Else-two_at-ne-FORMAT_VERSION}
 use Rattle.sheet_read.proofs.read_by.Goals as goal
@@ -68,12 +69,12 @@ returns-then-level_out c =
 pub returns-then-bytes_full : goal.returns-then-bytes_full
 returns-then-bytes_full c =
     let w = goal.at.returns-then-bytes_full c in
-    let full = sym c.bytes_full.ensures ∙ c.if-bytes_full.true in
+    let full = sym (c.bytes_full.ensures ∙ any_full _ _) ∙ c.if-bytes_full.true in
     read_refused _ _ (read_full _ _ (formed_at w.Else-two_at-ne-FORMAT_VERSION) (legal_year w.Else-lacks_year) (legal_level w.Else-level_out) full) refl
 
 pub returns : goal.returns
 returns c =
     let w = goal.at.returns c in
-    let roomy = sym c.bytes_full.ensures ∙ c.if-bytes_full.false in
+    let roomy = sym (c.bytes_full.ensures ∙ any_full _ _) ∙ c.if-bytes_full.false in
     rw (c.two_at-year.ensures, c.unpack-windows.ensures)
     (read_taken _ _ (read_accepted _ _ (formed_at w.Else-two_at-ne-FORMAT_VERSION) (legal_year w.Else-lacks_year) (legal_level w.Else-level_out) roomy))

@@ -1,4 +1,6 @@
 use mathlib.Core.Path.{◌≡◌, sym, ap, ◌∙◌}
+use Prim.Native.Nat.{ℕ}
+use lib.Dec.{ltb}
 use native.Mathlib.Omega.{arith}
 use Rattle.ranges.specs.Ranges.{bit}
 use Rattle.answers.specs.Ruling.{day_quarters}
@@ -16,7 +18,7 @@ pub returns : goal.returns
 unfolding set_from
 returns c =
     let e : c.loop-q.q ≡ day_quarters = omega arith in
-    ap (too_many c.args.edition) (rw e at c.loop-q.invariant.2)
+    ap (λ (m : ℕ). ltb m c.loop-q.n) c.from.ensures ∙ ap (too_many c.args.edition) (rw e at c.loop-q.invariant.2)
 
 pub loop-q-init : goal.loop-q-init
 loop-q-init c = (omega arith, omega arith, sym (count_none _))

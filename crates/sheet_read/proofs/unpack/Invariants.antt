@@ -8,7 +8,4 @@ use Rattle.ranges.proofs.Tables.{Filled}
 use Rattle.sheet_read.proofs.unpack.Given as goal
 
 abbrev pub invariant-loop-p : goal.invariant-loop-p
-invariant-loop-p l = Filled (window_at l.b) window_places false l.p l.windows
-
-abbrev pub decreases-loop-p : goal.decreases-loop-p
-decreases-loop-p l = window_places - l.p
+invariant-loop-p l = Filled (window_at l.b) window_places false l.p l.window-items

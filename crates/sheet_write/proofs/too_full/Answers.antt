@@ -5,4 +5,4 @@ use Rattle.sheet_write.proofs.too_full.Goals as goal
 
 pub returns : goal.returns
 returns c =
-    too_full_law _ _ _ _ _ _ c.set_in.ensures c.set_in-2.ensures c.set_in-3.ensures c.set_in-4.ensures
+    rw c.from-most.ensures (too_full_law _ _ _ _ _ _ c.set_in.ensures c.set_in-2.ensures c.set_in-3.ensures c.set_in-4.ensures)
