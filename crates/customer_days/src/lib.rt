@@ -50,8 +50,7 @@ fn day_answer(year: u16, seen: u16, sum: u64, day: &[u32]) -> Decision
     if day.len() != readings::day_len(run, seen) {
         return Decision::WrongLength;
     }
-    let first = legal_readings::first_above(day, answers::CUSTOMER_MOST);
-    if first < day.len() {
+    if let Some(first) = legal_readings::first_above(day, answers::CUSTOMER_MOST) {
         return Decision::BadReading(Place {
             day: seen + 1,
             position: first as u16,

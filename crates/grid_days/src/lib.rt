@@ -45,8 +45,7 @@ fn day_answer(year: u16, seen: u16, day: &[u32]) -> Result<(), GridRefusal>
     if day.len() != readings::day_len(Run::Period(year), seen) {
         return Err(GridRefusal::WrongLength);
     }
-    let first = legal_readings::first_above(day, answers::GRID_MOST);
-    if first < day.len() {
+    if let Some(first) = legal_readings::first_above(day, answers::GRID_MOST) {
         return Err(GridRefusal::BadReading(Place {
             day: seen + 1,
             position: first as u16,

@@ -4,8 +4,8 @@
 // read past the series' end.
 #![tactic(auto)]
 
-ghost use Rattle.std.specs.Prelude.{◌≡◌, get_or};
-ghost use Rattle.readings.specs.Legal.{illegal, highest_of, first_above, first_illegal};
+ghost use Rattle.std.specs.Prelude.{◌≡◌, get_or, position};
+ghost use Rattle.readings.specs.Legal.{illegal, highest_of, place_above, first_illegal};
 
 use answers::Place;
 use readings::Run;
@@ -15,33 +15,34 @@ fn any_above(readings: &[u32], limit: u32) -> bool
     ensures { result ≡ illegal limit (highest_of readings.now) }
 {
     let mut any = false;
-    for i in 0..readings.len() {
-        any = any | (limit < readings[i]);
+    for reading in readings {
+        any |= limit < *reading;
     }
     any
 }
 
-// The place, from 0, of the first reading above a limit, or how many readings there are where none is. It is searched
-// for only where there is one.
-pub fn first_above(readings: &[u32], limit: u32) -> usize
-    ensures { result ≡ first_above limit readings.now }
+// The place, from 0, of the first reading above a limit, by a search from the front.
+fn searched(readings: &[u32], limit: u32) -> Option<usize>
+    ensures { result ≡ position (illegal limit) readings.now }
+{
+    readings.iter().position(|reading| limit < *reading)
+}
+
+// The same, but searched for only where there is one.
+pub fn first_above(readings: &[u32], limit: u32) -> Option<usize>
+    ensures { result ≡ place_above limit readings.now }
 {
     if !any_above(readings, limit) {
-        return readings.len();
+        return None;
     }
-    for i in 0..readings.len() {
-        if limit < readings[i] {
-            return i;
-        }
-    }
-    readings.len()
+    searched(readings, limit)
 }
 
 // The reading at place i, from 0, of a series, and 0 past its end.
 fn reading_at(series: &[u32], i: usize) -> u32
     ensures { result ≡ get_or series.now i 0 }
 {
-    if i < series.len() { series[i] } else { 0 }
+    series.get(i).copied().unwrap_or(0)
 }
 
 // The place of the first reading of a run above a limit: the earliest day, from 1, and on it the earliest position,

@@ -1,8 +1,11 @@
 -- Laws of legal readings: the search for the first illegal one, and that there is one exactly where the highest is
 -- illegal.
 -- Assumes nothing.
-use mathlib.Core.Path.{◌≡◌, sym, ◌∙◌}
-use mathlib.Core.Bool.{Bool, true}
+use mathlib.Core.Path.{◌≡◌, refl, sym, ap, ◌∙◌}
+use mathlib.Core.Bool.{Bool, true, cond}
+use Rattle.std.specs.Prelude.{Option, Some, None, MatchOption, position}
+use Rattle.std.specs.List.{position_or_len}
+use Rattle.std.proofs.lemmas.List.Sums.{position_or_len_is}
 use mathlib.Core.List.{List}
 use Prim.Native.Nat.{ℕ, ◌+◌, ◌*◌, ◌≤◌, ◌<◌}
 use native.Mathlib.Nat.{le_trans}
@@ -14,12 +17,12 @@ use lib.ListN.{length, get_or}
 use Rattle.ranges.specs.Ranges.{any_over}
 use Rattle.ranges.proofs.Largest.{largest_above}
 use Rattle.ranges.proofs.Tests.{Passed, any_at, any_fails, any_cong, all_passed, passed_more}
-use Rattle.ranges.proofs.First.{first_fails, first_at, any_first, any_above}
+use Rattle.ranges.proofs.First.{first_fails, first_at, first_le, first_below, first_holds, any_first, any_above}
 use Rattle.dates.specs.Dates.{most_days}
 use Rattle.readings.specs.declared.Run.{Run}
 use Rattle.readings.specs.declared.Change.{Change}
 use Rattle.readings.specs.Runs.{run_days, change_of, len_by, start_by, day_len, day_start, reading_by, reading}
-use Rattle.readings.specs.Legal.{illegal, highest_of, first_above, day_peak, peak_of, bad_in, bad_at, bad_day, first_illegal}
+use Rattle.readings.specs.Legal.{illegal, highest_of, first_above, place_above, day_peak, peak_of, bad_in, bad_at, bad_day, first_illegal}
 
 -- a reading of the first n days is at most their peak
 pub reading_le : (run : Run) (xs : List ℕ) (n d p : ℕ) → d < n → p < day_len run d → reading run xs d p ≤ peak_of run xs n
@@ -67,6 +70,28 @@ module _ (limit : ℕ) (xs : List ℕ) where
       go : Dec (limit < highest_of xs) → highest_of xs ≤ limit
       go (yes l) = absurd (omega (arith, h, highest_illegal l))
       go (no l) = omega arith
+
+  -- the first place that passes is where the search ends, if it ends before the last reading
+  pub position_above : position (illegal limit) xs ≡ place_above limit xs
+  unfolding first_above
+  position_above =
+      let e : position_or_len (illegal limit) xs ≡ first_above limit xs =
+      position_or_len_is (illegal limit) xs _ 0 (first_le above (length xs)) (first_below above (length xs)) (first_holds above (length xs)) in
+      ap (λ (n : ℕ). cond (ltb n (length xs)) (Some n) None) e
+
+  pub legal_place : highest_of xs ≤ limit → None ≡ place_above limit xs
+  legal_place h = simp (le-ltb (first_above limit xs) (length xs) (highest_legal h))
+
+  -- and so a place that is handed back is the first, and none is handed back only where all readings are legal
+  abbrev pub Placed : Option ℕ → Type 0
+  Placed o = MatchOption o (highest_of xs ≤ limit) (λ i. (i ≡ first_above limit xs) × (i < length xs) × (limit < highest_of xs))
+
+  pub placed : {o : Option ℕ} → o ≡ place_above limit xs → Placed o
+  placed e = rw e (go (dec_lt (first_above limit xs) (length xs)))
+    where
+      go : Dec (first_above limit xs < length xs) → Placed (place_above limit xs)
+      go (yes l) = rw (lt-ltb (first_above limit xs) (length xs) l) (refl, l, found_illegal l)
+      go (no l) = rw (le-ltb (first_above limit xs) (length xs) (omega arith)) (none_illegal (omega arith))
 
 -- a search through days and through the positions of a day, whichever are the two Sundays
 module _ (c : Change) (limit : ℕ) (xs : List ℕ) where

@@ -2,7 +2,7 @@
 -- specs/Ruling). A lost reading is sent as a number above both limits, so it is never legal. Of several illegal
 -- readings the one on the earliest day is named, and on that day the one at the earliest position. Days d and positions
 -- p count from 0, but for the place that is named. Rules 2.1, 2.2 and 8.4.
-use Rattle.std.specs.Prelude.{Bool, cond, List, ℕ, ◌+◌, ltb, length, get_or}
+use Rattle.std.specs.Prelude.{Bool, cond, Option, Some, None, List, ℕ, ◌+◌, ltb, length, get_or}
 use Rattle.ranges.specs.Ranges.{largest_over, any_over, first_over}
 use Rattle.answers.specs.declared.Place.{Place}
 use Rattle.readings.specs.declared.Run.{Run}
@@ -19,6 +19,10 @@ highest_of xs = largest_over (λ i. get_or xs i 0) (length xs)
 
 unfoldable pub first_above : ℕ → List ℕ → ℕ
 first_above limit xs = first_over (λ i. illegal limit (get_or xs i 0)) (length xs)
+
+-- that place, where there is one
+abbrev pub place_above : ℕ → List ℕ → Option ℕ
+place_above limit xs = cond (ltb (first_above limit xs) (length xs)) (Some (first_above limit xs)) None
 
 -- the highest reading of day d, and of the first n days of a run: the peak
 unfoldable pub day_peak : Run → List ℕ → ℕ → ℕ

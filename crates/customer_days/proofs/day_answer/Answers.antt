@@ -14,7 +14,7 @@ use Rattle.readings.specs.declared.Run.TheVariants.{Year}
 use Rattle.readings.specs.Runs.{run_days, day_len}
 use Rattle.readings.specs.Days.{next_answer}
 use Rattle.readings.proofs.Runs.{len_most, year_run}
-use Rattle.readings.proofs.Legal.{found_illegal, none_illegal}
+use Rattle.readings.proofs.Legal.{placed}
 use Rattle.readings.proofs.Days.{next_out, next_length, next_bad, next_taken}
 use Rattle.customer_days.specs.Days.{sum_most}
 use Rattle.customer_days.proofs.day_answer.Goals.{Else-day-day_len, Else-from-sum, Else-year_days-seen}
@@ -60,23 +60,24 @@ returns-then-day-day_len c =
 pub overflow_cast-result : goal.overflow_cast-result
 overflow_cast-result c =
     let a = c.args in
-    omega (arith, long (goal.at.overflow_cast-result c).Else-day-day_len, len_most (Year a.year) a.seen)
+    let first = placed customer_most a.day.now (sym c.in-Some.is ∙ c.first_above.ensures) in
+    omega (arith, first.1, long (goal.at.overflow_cast-result c).Else-day-day_len, len_most (Year a.year) a.seen)
 
-pub returns-then-first-day : goal.returns-then-first-day
-returns-then-first-day c =
-    let w = goal.at.returns-then-first-day c in
+pub returns-in-Some : goal.returns-in-Some
+returns-in-Some c =
+    let w = goal.at.returns-in-Some c in
     let a = c.args in
-    let first = c.first_above-first.ensures in
-    let bad = found_illegal customer_most a.day.now (omega (arith, first)) in
+    let first = placed customer_most a.day.now (sym c.in-Some.is ∙ c.first_above.ensures) in
     fair w.Else-from-sum
-    (next_bad (Year a.year) customer_most a.seen a.day.now (left w.Else-year_days-seen) (long w.Else-day-day_len) bad first)
+    (next_bad (Year a.year) customer_most a.seen a.day.now (left w.Else-year_days-seen) (long w.Else-day-day_len) first.2 first.0)
 
 pub returns : goal.returns
 returns c =
+    let w = goal.at.returns c in
     let a = c.args in
-    let none = none_illegal customer_most a.day.now (omega (arith, c.first_above-first.ensures)) in
-    fair (goal.at.returns c).Else-from-sum
-    (next_taken (Year a.year) customer_most a.seen a.day.now (left (goal.at.returns c).Else-year_days-seen) (long (goal.at.returns c).Else-day-day_len) none)
+    let none = placed customer_most a.day.now (sym c.in_default.is ∙ c.first_above.ensures) in
+    fair w.Else-from-sum
+    (next_taken (Year a.year) customer_most a.seen a.day.now (left w.Else-year_days-seen) (long w.Else-day-day_len) none)
 
 pub overflow_add-result : goal.overflow_add-result
 overflow_add-result c = omega arith

@@ -9,18 +9,18 @@ use Rattle.ranges.proofs.First.{any_above}
 use Rattle.readings.specs.Legal.{highest_of}
 use Rattle.legal_readings.proofs.any_above.Goals as goal
 
-pub loop-i-preserved : goal.loop-i-preserved
-loop-i-preserved c =
-    let at = c.loop-i in
+pub loop-reading-preserved : goal.loop-reading-preserved
+loop-reading-preserved c =
+    let at = c.loop-reading in
     let a = c.args in
-    (omega arith, (λ i. at.invariant.1 i || ltb a.limit (get_or a.readings.now at.i 0)) ∙ sym (any_more _ at.i))
+    (omega arith, (λ i. at.invariant.1 i || ltb a.limit (get_or a.readings.now at.reading-index 0)) ∙ sym (any_more _ at.reading-index))
 
 pub returns : goal.returns
 unfolding highest_of
 returns c =
     let a = c.args in
-    let all : c.loop-i.i ≡ length a.readings.now = omega arith in
-    c.loop-i.invariant.1 ∙ ap (any_over _) all ∙ any_above (λ k. get_or a.readings.now k 0) a.limit (length a.readings.now)
+    let all : c.loop-reading.reading-index ≡ length a.readings.now = omega arith in
+    c.loop-reading.invariant.1 ∙ ap (any_over _) all ∙ any_above (λ k. get_or a.readings.now k 0) a.limit (length a.readings.now)
 
-pub loop-i-init : goal.loop-i-init
-loop-i-init c = (omega arith, sym (any_none _))
+pub loop-reading-init : goal.loop-reading-init
+loop-reading-init c = (omega arith, sym (any_none _))
