@@ -9,7 +9,7 @@ use borrow.Author.Tests.{lt-ltb, le-ltb, eq-eqb, ne_eqb}
 use lib.Dec.{eqb}
 use lib.ListN.{length}
 use Rattle.answers.specs.declared.Edition.{Edition}
-use Rattle.answers.specs.Ruling.{grid_most, lacks_year, level_out}
+use Rattle.answers.specs.Ruling.{grid_most}
 use Rattle.answers.specs.Said.{Said, only, after}
 use Rattle.answers.proofs.Laws.{refusal_keeps, done_hands}
 use Rattle.periods.specs.Period.{period_days}

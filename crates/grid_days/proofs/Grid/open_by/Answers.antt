@@ -1,6 +1,6 @@
 -- `grid_days::Grid::open_by` meets its contract: a refused opening has the fixed state beside it, another a state of no
 -- day. Assumes nothing.
-use mathlib.Core.Path.{◌≡◌, sym, ◌∙◌}
+use mathlib.Core.Path.{◌∙◌}
 use Rattle.grid_days.proofs.Steps.{opened_shut, opened_fresh}
 use Rattle.grid_days.proofs.Grid.open_by.Goals as goal
 
