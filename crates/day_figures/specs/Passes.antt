@@ -8,7 +8,7 @@ use Rattle.readings.specs.Legal.{highest_of}
 use Rattle.readings.specs.Runs.{most_readings, quarter_in}
 use Rattle.tariff.specs.declared.Figures.{Figures}
 use Rattle.day_figures.specs.declared.Tops.{Tops}
-use Rattle.day_figures.specs.Day.{alone, with_day, day_most}
+use Rattle.day_figures.specs.Day.{alone, with_day, day_most, sum_end}
 
 -- four readings below this, 2^30, have a sum that fits 32 bits
 abbrev pub four_end : ℕ
@@ -36,6 +36,17 @@ some_left masks = any_over (λ q. ltb 0 (get_or masks q 0)) day_quarters
 -- the highest of what the masks leave of a day's readings
 unfoldable pub masked_high : List ℕ → List ℕ → ℕ
 masked_high masks day = largest_over (λ p. bit_and (alone day p) (get_or masks (quarter_in (length day) p) 0)) (length day)
+
+-- a day has at most 100 readings
+abbrev pub Short : List ℕ → Type 0
+Short day = length day ≤ most_readings
+
+-- the sum has room for a day more, and a day's number for the next one
+abbrev pub Roomy : Figures → Type 0
+Roomy f = f.sum + day_most < sum_end
+
+abbrev pub Numbered : ℕ → Type 0
+Numbered d = d < 65535
 
 -- a day has no more readings than quarters, unless it is the long Sunday: so each stands for one of 96 quarters
 abbrev pub Sized : List ℕ → Type 0
@@ -73,6 +84,6 @@ pub record HighAt (f : Figures) (row : List Bool) (day : List ℕ) (at : ℕ) : 
 -- a usual day that can be taken in: its number counts on within 16 bits, it has 96 readings, and `next` are the figures
 -- with its highest reading and sum
 pub record Fits (f : Figures) (d : ℕ) (day : List ℕ) (next : Figures) : Type 0 where
-  pub on : d < 65535
+  pub on : Numbered d
   pub usual : length day ≡ day_quarters
   pub next_is : next ≡ plainly f (tops_of day)

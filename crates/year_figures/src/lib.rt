@@ -67,6 +67,7 @@ pub fn year_figures<'a>(
     let mut figures = tariff::NO_FIGURES;
     let days = dates::year_days(year);
     let change = readings::change_of(Run::Year(year));
+    // Kept: the loop goes on by months, and how long a month is its first day tells.
     let mut d = 0;
     while d < days {
         let next = d + 1 + dates::month_left(year, d + 1);

@@ -21,8 +21,11 @@ loop-reading-preserved c =
     let s = c.into_iter-reading-iterator.result in
     let first : iter_rest (zip_first s) ≡ a.day.now = search rules in
     let second : iter_rest (zip_second s) ≡ a.masks.now = search rules in
-    let turn = zip_turn a.day.now a.masks.now c.loop-reading.yielded s c.loop-reading.reading-iterator c.next.new.self _ first second c.loop-reading.yielded_by _ c.in-Some.is c.next.ensures.steps in
-    let at : bit_and c.in-Some.reading.now c.in-Some.mask.now ≡ bit_and (alone a.day.now (length c.loop-reading.yielded)) (get_or a.masks.now (length c.loop-reading.yielded) 0) =
+    let l = c.loop-reading in
+    let n = length l.yielded in
+    let turn =
+    zip_turn a.day.now a.masks.now l.yielded s l.reading-iterator c.next.new.self _ first second l.yielded_by _ c.in-Some.is c.next.ensures.steps in
+    let at : bit_and c.in-Some.reading.now c.in-Some.mask.now ≡ bit_and (alone a.day.now n) (get_or a.masks.now n 0) =
     λ i. bit_and (turn.2 0 i) (turn.3 0 i) in
     let larger : c.max-high.result ≡ max c.loop-reading.high (bit_and c.in-Some.reading.now c.in-Some.mask.now) = search rules in
     simp length-append (omega arith, larger ∙ (λ i. max (c.loop-reading.invariant.1 i) (at i)) ∙ sym (largest_more _ _))
@@ -34,10 +37,12 @@ returns c =
     let s = c.into_iter-reading-iterator.result in
     let first : iter_rest (zip_first s) ≡ a.day.now = search rules in
     let second : iter_rest (zip_second s) ≡ a.masks.now = search rules in
-    let all = zip_end a.day.now a.masks.now c.loop-reading.yielded s c.loop-reading.reading-iterator c.next.new.self _ first second c.loop-reading.yielded_by c.in-None.is c.next.ensures.steps in
+    let l = c.loop-reading in
+    let last =
+    zip_end a.day.now a.masks.now l.yielded s l.reading-iterator c.next.new.self _ first second l.yielded_by c.in-None.is c.next.ensures.steps in
     let n = length a.day.now in
     let v : ℕ → ℕ → ℕ = λ k q. bit_and (alone a.day.now k) (get_or a.masks.now q 0) in
-    let all : length c.loop-reading.yielded ≡ n = omega (arith, c.requires, all) in
+    let all : length c.loop-reading.yielded ≡ n = omega (arith, c.requires, last) in
     let order : (k : ℕ) → k ≡ quarter_in n k =
     λ k. sym (quarter_plain n k (λ e. omega (arith, e, c.requires)) (λ e. omega (arith, e, c.requires))) in
     c.loop-reading.invariant.1 ∙ ap (largest_over (λ k. v k k)) all ∙ largest_cong _ _ n (λ k l. ap (v k) (order k))

@@ -1,7 +1,8 @@
 -- `day_figures::take_day` meets its contract, a law for each return.
 -- Assumes nothing.
 use mathlib.Core.Path.{◌≡◌, refl, sym, ap, ◌∙◌}
-use mathlib.Core.Bool.{false}
+use mathlib.Core.Bool.{Bool, false}
+use mathlib.Core.List.{List}
 use Prim.Native.Nat.{◌+◌, ◌<◌}
 use native.Mathlib.Omega.{arith}
 use lib.ListN.{length}
@@ -49,11 +50,13 @@ returns-then-row-eq0 c =
 
 pub take_fit-requires : goal.take_fit-requires
 take_fit-requires c =
-    (fits (goal.at.take_fit-requires c).After-plain_day-next, c.masks_of-masks.ensures, c.some_left-some.ensures)
+    fits (goal.at.take_fit-requires c).After-plain_day-next
 
 pub returns : goal.returns
 returns c =
-    ap Ok c.take_fit.ensures ∙ usual (goal.at.returns c).Else-day-ne-DAY_QUARTERS
+    let a = c.args in
+    let row = ap (λ (r : List Bool). with_day a.f (length a.day.now) a.d r (alone a.day.now)) c.new.ensures in
+    ap Ok (c.take_fit.ensures ∙ row) ∙ usual (goal.at.returns c).Else-day-ne-DAY_QUARTERS
 
 pub returns-then-days_out : goal.returns-then-days_out
 returns-then-days_out c = day_out_law _ _ _ _ (sym c.days_out.ensures ∙ c.if-days_out.true)

@@ -1,15 +1,16 @@
 use mathlib.Core.Path.{◌≡◌, refl, sym, ap, ◌∙◌}
-use mathlib.Core.Bool.{false}
+use mathlib.Core.Bool.{Bool, false}
+use mathlib.Core.List.{List}
 use Prim.Native.Nat.{◌+◌, ◌-◌, ◌≤◌, ◌<◌}
 use native.Mathlib.Omega.{arith}
-use lib.ListN.{length, take, drop}
+use lib.ListN.{length, get_or, take, drop}
 use Rattle.std.specs.Prelude.{Ok}
 use Rattle.readings.specs.Runs.{len_by, start_by}
 use Rattle.readings.proofs.Spans.{lens_over, starts_more, starts_most, starts_below}
 use Rattle.readings.proofs.Runs.{span_start}
 use Rattle.readings.proofs.Part.{cut_at, cut_long}
 use Rattle.tariff.specs.declared.Figures.{Figures}
-use Rattle.day_figures.specs.Day.{day_most, sum_end, days_out, with_days}
+use Rattle.day_figures.specs.Day.{alone, with_day, row_if, day_most, sum_end, days_out, with_days}
 use Rattle.day_figures.proofs.Fits.{has_room, days_out_law, days_other, days_fit}
 use Rattle.day_figures.proofs.Days.{days_none, days_more, days_sum}
 use Rattle.day_figures.proofs.take_days.Goals.{After-len_by, Else-days_out, Else-series-span_by, In-loop-k}
@@ -73,8 +74,6 @@ take_any-figures-requires c =
       numbered (goal.at.take_any-figures-requires c).In-loop-k,
       lens_over a.change (a.from + c.loop-k.k) (day_long (goal.at.take_any-figures-requires c).After-len_by),
       day_room (goal.at.take_any-figures-requires c).In-loop-k,
-      c.masks_of-masks.ensures,
-      c.some_left-some.ensures,
     )
 
 pub overflow_step-k : goal.overflow_step-k
@@ -87,12 +86,14 @@ loop-k-preserved c =
     let a = c.args in
     let size = at.start + c.len_by.result - at.start in
     let part = cut_at a.series.now {size = size} {len = len_by a.change (a.from + at.k)} at.invariant.1 (omega (arith, c.len_by.ensures)) in
+    let day = take size (drop at.start a.series.now) in
     let on : a.from + at.k + 1 ≡ a.from + (at.k + 1) = omega arith in (
       omega arith,
       omega (arith, at.invariant.1, c.len_by.ensures, starts_more a.change (a.from + at.k), ap (start_by a.change) on),
       c.take_any-figures.ensures
+          ∙ ap (λ (r : List Bool). with_day at.figures (length day) (a.from + at.k) (row_if (get_or a.flags.now at.k false) r) (alone day)) c.new-masked.ensures
           ∙ days_more a.f a.change a.from a.flags.now a.row.now a.series.now at.k
-          (take size (drop at.start a.series.now)) at.invariant.2 (day_long (goal.at.loop-k-preserved c).After-len_by) part,
+          day at.invariant.2 (day_long (goal.at.loop-k-preserved c).After-len_by) part,
     )
 
 pub returns-then-series-span_by : goal.returns-then-series-span_by

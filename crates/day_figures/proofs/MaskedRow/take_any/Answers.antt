@@ -1,4 +1,4 @@
--- `day_figures::take_any` meets its contract, by the day's length.
+-- `day_figures::MaskedRow::take_any` meets its contract, by the day's length.
 -- Assumes nothing.
 use mathlib.Core.Path.{ap, ◌∙◌}
 use native.Mathlib.Omega.{arith}
@@ -7,7 +7,7 @@ use Rattle.std.specs.Prelude.{unwrap_or}
 use Rattle.tariff.specs.declared.Figures.{Figures}
 use Rattle.day_figures.specs.Passes.{high_at}
 use Rattle.day_figures.proofs.OneDay.{sized_most}
-use Rattle.day_figures.proofs.take_any.Goals as goal
+use Rattle.day_figures.proofs.MaskedRow.take_any.Goals as goal
 
 -- where H stands by the readings, the day is taken in
 pub returns-then-day-ne-DAY_QUARTERS : goal.returns-then-day-ne-DAY_QUARTERS
@@ -20,7 +20,7 @@ returns-then-day-ne-DAY_QUARTERS c =
 pub take_fit-requires : goal.take_fit-requires
 take_fit-requires c =
     let h = c.requires in
-    (record { on = h.0; usual = c.if-day-ne-DAY_QUARTERS.false; next_is = c.plain_day-next.ensures }, h.3, h.4)
+    record { on = h.0; usual = c.if-day-ne-DAY_QUARTERS.false; next_is = c.plain_day-next.ensures }
 
 pub plain_day-other-requires : goal.plain_day-other-requires
 plain_day-other-requires c = (sized_most c.args.day.now c.requires.1, c.requires.2)
