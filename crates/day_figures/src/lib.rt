@@ -196,9 +196,9 @@ fn pick<T: Copy>(new: bool, value: T, before: T) -> T
     if new { value } else { before }
 }
 
-// Where in a day H comes to stand, by the row where the flag is set, if it moves. Reading by
-// reading, for the two Sundays of the clock change: so all loops over a usual day have 96 turns. (In numbers alone:
-// figures that go through a loop are copied every day. And so short that both callers have it laid into them.)
+// Where in a day H comes to stand, by the row where the flag is set, if it moves. Reading by reading, for the two
+// Sundays of the clock change: so all loops over a usual day have 96 turns. (In numbers alone: figures that go through
+// a loop are copied every day. And so short that both callers have it laid into them.)
 fn new_high(f: Figures, flag: bool, row: &[bool], day: &[u32]) -> Option<usize>
     ensures { HighAt f (row_if flag row.now) day.now (unwrap_or result (length day.now))
         × IfSome result (λ p. p < length day.now) }

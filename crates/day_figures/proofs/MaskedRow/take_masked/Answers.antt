@@ -1,5 +1,5 @@
--- `day_figures::MaskedRow::take_masked` meets its contract: the day's in-window peak counts where it is the year's first or higher
--- than all before.
+-- `day_figures::MaskedRow::take_masked` meets its contract: the day's in-window peak counts where it is the year's first
+-- or higher than all before.
 -- Assumes nothing.
 use mathlib.Core.Path.{◌≡◌, refl, ◌∙◌}
 use native.Mathlib.Omega.{arith}
@@ -31,7 +31,8 @@ returns-then-f-high c =
     let fits = c.requires in
     let low = both _ _ c.if-f-high.true in
     fits.next_is
-    ∙ taken_old (in_row (length a.day.now) a.self.now.quarters.now) a.d a.day.now a.f refl (high_in (goal.at.returns-then-f-high c).After-masked_usual-high) low.0
+    ∙ taken_old (in_row (length a.day.now) a.self.now.quarters.now) a.d a.day.now a.f refl
+    (high_in (goal.at.returns-then-f-high c).After-masked_usual-high) low.0
     (omega (arith, leb-true, ltb-true))
 
 pub high_at-requires : goal.high_at-requires
