@@ -1,6 +1,6 @@
-// The window sheet (Rules 5.1 to 5.4): the types of its meaning and of what refuses it. What its 56 bytes mean is defined
-// in specs/Windows and specs/Bytes, what reading and writing answer in specs/Answers and specs/Rows; the code that
-// meets them is in crates `sheet_read` and `sheet_write`.
+// The window sheet (Rules 5.1 to 5.4): the types of its meaning and of what refuses it. What its 56 bytes mean is
+// defined in specs/Windows and specs/Bytes, what reading and writing answer in specs/Answers and specs/Rows; the code
+// that meets them is in crates `sheet_read` and `sheet_write`.
 // Main theorem: what is written reads back as the same meaning, and what is read is written back as the same bytes
 // (Rule 12.2; `read_written`, `bytes_back`, proofs/Back).
 #![tactic(auto)]

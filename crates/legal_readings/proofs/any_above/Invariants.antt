@@ -1,5 +1,5 @@
--- `legal_readings::any_above` meets its contract. The loop's invariant: `any` tells whether one of the readings before its place
--- is above the limit.
+-- `legal_readings::any_above` meets its contract. The loop's invariant: `any` tells whether one of the readings before
+-- its place is above the limit.
 -- Assumes nothing.
 use mathlib.Core.Path.{◌≡◌}
 use Prim.Native.Nat.{ℕ, ◌≤◌}
