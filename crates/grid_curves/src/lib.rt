@@ -21,6 +21,14 @@ const FOUR_DAYS: usize = 4 * answers::DAY_QUARTERS;
 // The number of winter; seasons count from 1.
 const WINTER: u8 = 1;
 
+// A reference period, and its two Sundays of the clock change: worked out once, and handed on.
+#[derive(Clone, Copy)]
+struct Sundays {
+    year: u16,
+    change: Change,
+    ghost own: { change ≡ change_of (Period year) },
+}
+
 // The season, from 1, of day d, from 0, of a period. Days behind every period lie in winter.
 fn season_of(year: u16, d: u16) -> u8
     ensures { result ≡ period_season year (d + 1) }
@@ -94,20 +102,19 @@ fn stop_at(sunday: u16, from: u16, end: u16) -> u16
 // Kept: a `while`, since the month or the series ends it, and the day that it came to is handed back.
 fn lay_fours(
     curves: &mut [u32; sheet::WINDOW_PLACES],
-    year: u16,
+    sundays: Sundays,
     season: u8,
-    change: Change,
     end: u16,
     from: u16,
     series: &[u32],
 ) -> u16
-    requires { (from ≤ end) × (end ≤ period_days year) × (change ≡ change_of (Period year))
+    requires { let year = sundays.year in (from ≤ end) × (end ≤ period_days year)
         × ((k : ℕ) → from ≤ k → k < end → (period_season year (k + 1) ≡ season) × (day_len (Period year) k ≡ day_quarters))
         × (curves.old ≡ flat_curves year series.now from) }
-    ensures { LaidTo year series.now from end result curves.new }
+    ensures { LaidTo sundays.year series.now from end result curves.new }
 {
     let mut d = from;
-    let mut at = readings::span_by(change, from).start;
+    let mut at = readings::span_by(sundays.change, from).start;
     while (d + 4 <= end) & (at + FOUR_DAYS <= series.len()) {
         lay_four(&mut *curves, season, &series[at..at + FOUR_DAYS]);
         d += 4;
@@ -119,20 +126,26 @@ fn lay_fours(
 // Lays day d, from 0, over the curve of its season, from 1, as far as a series holds the day.
 fn lay_held(
     curves: &mut [u32; sheet::WINDOW_PLACES],
-    year: u16,
+    sundays: Sundays,
     season: u8,
-    change: Change,
     d: u16,
     series: &[u32],
 )
-    requires { (d < period_days year) × (season ≡ period_season year (d + 1)) × (change ≡ change_of (Period year))
-        × (curves.old ≡ flat_curves year series.now d) }
-    ensures { curves.new ≡ flat_curves year series.now (d + 1) }
+    requires { (d < period_days sundays.year) × (season ≡ period_season sundays.year (d + 1))
+        × (curves.old ≡ flat_curves sundays.year series.now d) }
+    ensures { curves.new ≡ flat_curves sundays.year series.now (d + 1) }
 {
-    let span = readings::span_by(change, d);
+    let span = readings::span_by(sundays.change, d);
     let from = span.start.min(series.len());
     let to = (span.start + span.len).min(series.len());
-    lay(&mut *curves, year, d, season, span.len, &series[from..to]);
+    lay(
+        &mut *curves,
+        sundays.year,
+        d,
+        season,
+        span.len,
+        &series[from..to],
+    );
 }
 
 // Lays the days from day `from`, from 0, to the end of their month over the curves: they lie in one season. Those up to
@@ -140,20 +153,20 @@ fn lay_held(
 // behind it. Hands back how many days of the period are laid then.
 fn lay_month(
     curves: &mut [u32; sheet::WINDOW_PLACES],
-    year: u16,
-    change: Change,
+    sundays: Sundays,
     from: u16,
     series: &[u32],
 ) -> u16
-    requires { (from < period_days year) × (change ≡ change_of (Period year)) × (curves.old ≡ flat_curves year series.now from) }
-    ensures { LaidTo year series.now (from + 1) (period_days year) result curves.new }
+    requires { (from < period_days sundays.year) × (curves.old ≡ flat_curves sundays.year series.now from) }
+    ensures { LaidTo sundays.year series.now (from + 1) (period_days sundays.year) result curves.new }
 {
+    let Sundays { year, change } = sundays;
     let season = periods::period_season(year, from + 1);
     let end = from + 1 + periods::period_left(year, from + 1);
     let usual = stop_at(change.long, from, stop_at(change.short, from, end));
-    let laid = lay_fours(&mut *curves, year, season, change, usual, from, series);
+    let laid = lay_fours(&mut *curves, sundays, season, usual, from, series);
     for d in laid..end {
-        lay_held(&mut *curves, year, season, change, d, series);
+        lay_held(&mut *curves, sundays, season, d, series);
     }
     end
 }
@@ -165,11 +178,14 @@ pub fn collect(year: u16, series: &[u32]) -> [u32; sheet::WINDOW_PLACES]
     ensures { result ≡ flat_curves year series.now (period_days year) }
 {
     let days = periods::period_days(year);
-    let change = readings::change_of(Run::Period(year));
+    let sundays = Sundays {
+        year,
+        change: readings::change_of(Run::Period(year)),
+    };
     let mut curves = [0; sheet::WINDOW_PLACES];
     let mut d = 0;
     while d < days {
-        d = lay_month(&mut curves, year, change, d, series);
+        d = lay_month(&mut curves, sundays, d, series);
     }
     curves
 }

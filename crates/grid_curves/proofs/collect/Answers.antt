@@ -15,7 +15,7 @@ pub loop-d-init : goal.loop-d-init
 loop-d-init c = (c.period_days-days.ensures, omega arith, curves_none _ _)
 
 pub lay_month-d-requires : goal.lay_month-d-requires
-lay_month-d-requires c = (omega arith, c.change_of-change.ensures, c.loop-d.invariant.2)
+lay_month-d-requires c = (omega arith, c.loop-d.invariant.2)
 
 pub loop-d-smaller : goal.loop-d-smaller
 loop-d-smaller c = let h = c.lay_month-d.ensures in omega arith

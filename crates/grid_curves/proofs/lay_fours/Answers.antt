@@ -17,7 +17,7 @@ use Rattle.grid_curves.proofs.lay_fours.Goals as goal
 -- day d is one of the period's, and so stands far below 64 bits
 near : (e : At-loop-d) → (e.loop-d.d ≤ 366) × (e.loop-d.at ≤ 36600)
 near e =
-    let y = e.args.year in
+    let y = e.args.sundays.year in
     let few = period_most y in
     let low = start_most (Period y) e.loop-d.d in
     (omega arith, omega arith)
@@ -33,15 +33,15 @@ four e =
 
 pub loop-d-init : goal.loop-d-init
 loop-d-init c =
-    let is = c.span_by-at.ensures ∙ own_span (Period c.args.year) c.args.from c.requires.2 in
-    (omega arith, omega arith, span_start _ _ is, c.requires.4)
+    let is = c.span_by-at.ensures ∙ own_span (Period c.args.sundays.year) c.args.from c.args.sundays.own in
+    (omega arith, omega arith, span_start _ _ is, c.requires.3)
 
 pub lay_four-requires : goal.lay_four-requires
 lay_four-requires c =
     let a = c.args in
-    let r = period_season_range a.year (a.from + 1) in
+    let r = period_season_range a.sundays.year (a.from + 1) in
     let h = four (goal.at.lay_four-requires c).In-loop-d in
-    let is : period_season a.year (a.from + 1) ≡ a.season = (c.requires.3 a.from (omega arith) (omega arith)).0 in
+    let is : period_season a.sundays.year (a.from + 1) ≡ a.season = (c.requires.2 a.from (omega arith) (omega arith)).0 in
     (simp (length-take, length-drop) (omega arith), omega (arith, is), omega (arith, is))
 
 pub loop-d-preserved : goal.loop-d-preserved
@@ -49,9 +49,9 @@ loop-d-preserved c =
     let at = c.loop-d in
     let a = c.args in
     let h = four (goal.at.loop-d-preserved c).In-loop-d in
-    let on = usual_on (Period a.year) at.d 4 (λ k l. (c.requires.3 (at.d + k) (omega arith) (omega arith)).1) in
-    let laid = four_more a.year a.series.now at.d a.season {size = at.at + four_days - at.at} at.invariant.2
-    (omega arith) (λ k l. c.requires.3 (at.d + k) (omega arith) (omega arith)) at.invariant.3 in
+    let on = usual_on (Period a.sundays.year) at.d 4 (λ k l. (c.requires.2 (at.d + k) (omega arith) (omega arith)).1) in
+    let laid = four_more a.sundays.year a.series.now at.d a.season {size = at.at + four_days - at.at} at.invariant.2
+    (omega arith) (λ k l. c.requires.2 (at.d + k) (omega arith) (omega arith)) at.invariant.3 in
     (omega arith, h.0, omega (arith, on), c.lay_four.ensures ∙ laid)
 
 pub overflow_add-d : goal.overflow_add-d

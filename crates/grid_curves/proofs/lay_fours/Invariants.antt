@@ -10,7 +10,7 @@ use Rattle.grid_curves.proofs.lay_fours.Given as goal
 
 abbrev pub invariant-loop-d : goal.invariant-loop-d
 invariant-loop-d l =
-    (l.from ≤ l.d) × (l.d ≤ l.end) × (l.at ≡ day_start (Period l.year) l.d) × (l.curves ≡ flat_curves l.year l.series l.d)
+    (l.from ≤ l.d) × (l.d ≤ l.end) × (l.at ≡ day_start (Period l.fn.sundays.year) l.d) × (l.curves ≡ flat_curves l.fn.sundays.year l.series l.d)
 
 abbrev pub decreases-loop-d : goal.decreases-loop-d
 decreases-loop-d l = l.end - l.d

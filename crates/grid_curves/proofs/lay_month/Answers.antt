@@ -15,21 +15,21 @@ stays y from k a b =
 
 -- the days up to the month's end lie in the period, and in this season
 record Month (e : After-period_left) : Type 0 where
-  inside : e.args.from + 1 + e.period_left.result ≤ period_days e.args.year
+  inside : e.args.from + 1 + e.period_left.result ≤ period_days e.args.sundays.year
   alike :
       (k : ℕ)
       → e.args.from ≤ k
       → k < e.args.from + 1 + e.period_left.result
-      → period_season e.args.year (k + 1) ≡ e.period_season-season.result
+      → period_season e.args.sundays.year (k + 1) ≡ e.period_season-season.result
 
 month : (e : After-period_left) → Month e
 month e =
     let left = e.period_left.ensures in
     record {
-      inside = omega (arith, left, period_room e.args.year (e.args.from + 1) (omega (arith, e.requires.0)));
+      inside = omega (arith, left, period_room e.args.sundays.year (e.args.from + 1) (omega (arith, e.requires.0)));
       alike =
           λ k a b.
-          stays e.args.year e.args.from k a (omega (arith, left)) ∙ sym e.period_season-season.ensures;
+          stays e.args.sundays.year e.args.from k a (omega (arith, left)) ∙ sym e.period_season-season.ensures;
     }
 
 pub lay_fours-laid-requires : goal.lay_fours-laid-requires
@@ -40,12 +40,11 @@ lay_fours-laid-requires c =
     let usual = c.stop_at-usual.ensures in (
       usual.at_least,
       omega (arith, m.inside, none.at_most, usual.at_most),
-      c.requires.1,
       λ k l h. (
         m.alike k l (omega (arith, none.at_most, usual.at_most)),
-        rw c.requires.1 at (len_usual a.change k (none.none k l (omega (arith, usual.at_most))) (usual.none k l h)),
+        rw a.sundays.own at (len_usual a.sundays.change k (none.none k l (omega (arith, usual.at_most))) (usual.none k l h)),
       ),
-      c.requires.2,
+      c.requires.1,
     )
 
 pub loop-d-init : goal.loop-d-init
@@ -57,7 +56,7 @@ pub lay_held-requires : goal.lay_held-requires
 lay_held-requires c =
     let m = month (goal.at.lay_held-requires c).After-period_left in
     let inv = c.loop-d.invariant in
-    (omega (arith, m.inside), sym (m.alike c.loop-d.d inv.0 (omega arith)), c.requires.1, inv.2)
+    (omega (arith, m.inside), sym (m.alike c.loop-d.d inv.0 (omega arith)), inv.2)
 
 pub returns : goal.returns
 returns c =
@@ -66,16 +65,16 @@ returns c =
     record { from = omega arith; upto = omega (arith, m.inside); are = rw all at c.loop-d.invariant.2 }
 
 pub overflow_add-from : goal.overflow_add-from
-overflow_add-from c = let m = period_most c.args.year in omega arith
+overflow_add-from c = let m = period_most c.args.sundays.year in omega arith
 
 pub overflow_add-end : goal.overflow_add-end
-overflow_add-end c = let m = period_most c.args.year in omega arith
+overflow_add-end c = let m = period_most c.args.sundays.year in omega arith
 
 pub overflow_add-from-2 : goal.overflow_add-from-2
-overflow_add-from-2 c = let m = period_most c.args.year in omega arith
+overflow_add-from-2 c = let m = period_most c.args.sundays.year in omega arith
 
 pub overflow_add-end-2 : goal.overflow_add-end-2
-overflow_add-end-2 c = let m = period_most c.args.year in let r = (month c).inside in omega arith
+overflow_add-end-2 c = let m = period_most c.args.sundays.year in let r = (month c).inside in omega arith
 
 pub stop_at-requires : goal.stop_at-requires
 stop_at-requires c = omega arith

@@ -6,4 +6,4 @@ use Rattle.grid_curves.specs.Curves.{flat_curves}
 use Rattle.grid_curves.proofs.lay_month.Given as goal
 
 abbrev pub invariant-loop-d : goal.invariant-loop-d
-invariant-loop-d l = (l.from ≤ l.d) × (l.d ≤ l.end) × (l.curves ≡ flat_curves l.year l.series l.d)
+invariant-loop-d l = (l.from ≤ l.d) × (l.d ≤ l.end) × (l.curves ≡ flat_curves l.sundays.year l.series l.d)
