@@ -33,6 +33,7 @@ fn prices_of(lowcapacity: u32, lowenergy: u32, highcapacity: u32, highenergy: u3
 }
 
 // The decision over a customer's whole series.
+// Kept: eight parameters, here and in the call by days. A caller in C hands them over one by one.
 #[unsafe(no_mangle)]
 pub extern "C" fn bench_decide(
     sheet: &[u8],
@@ -54,6 +55,7 @@ pub extern "C" fn bench_decide(
 }
 
 // A customer's year after every day of a series, given one by one. The loop counts days from 0, `run_part` from 1.
+// Kept: a range of days. A day's part of the series is asked for by its number, and days differ in length.
 fn all_customer_days(
     sheet: &[u8],
     holidays: &[u16],
@@ -67,7 +69,7 @@ fn all_customer_days(
     let mut state = Customer::open(editions::todays(), sheet, holidays, prices, option).customer;
     let year = state.terms.rates.year;
     for d in 0..dates::year_days(year) {
-        let day = readings::run_part(Run::Year(year), series, d as usize + 1);
+        let day = readings::run_part(Run::Year(year), series, usize::from(d) + 1);
         state = state.day(day).customer;
     }
     state

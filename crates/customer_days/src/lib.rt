@@ -37,6 +37,7 @@ pub struct Stepped {
 
 // What a day is answered where so many days are taken, with this sum: 13, also for a sum that no legal days have, then
 // 4, then 5.
+// Kept: a decision that may be `Taken`, no Result: it stands in `Stepped` as it is, beside the next state.
 fn day_answer(year: u16, seen: u16, sum: u64, day: &[u32]) -> Decision
     ensures { said_of result ≡ day_under year seen sum day.now }
 {

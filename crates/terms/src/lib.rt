@@ -89,6 +89,8 @@ pub fn no_terms() -> Terms
 
 // Opens a customer's year; the terms keep the edition of that year. Refuses 12, 1, 2, 12, 3, 6 in this order (Rule
 // 8.2).
+// Kept: five parameters, here and in the two calls that begin with this one. A struct of them would hold two lent
+// slices, be made anew by each caller and be taken apart here, the only place that looks inside.
 pub fn open(
     editions: Editions,
     sheet: &[u8],

@@ -1,5 +1,5 @@
 use mathlib.Core.Path.{◌≡◌, sym, ap, ◌∙◌}
-use Prim.Native.Nat.{◌+◌}
+use Prim.Native.Nat.{ℕ, ◌+◌}
 use native.Mathlib.Omega.{arith}
 use Rattle.dates.specs.Dates.{year_days}
 use Rattle.editions.specs.Editions.{todays}
@@ -24,7 +24,7 @@ loop-d-preserved c =
       at.invariant.0,
       omega arith,
       c.day.ensures.state
-          ∙ ap (day_customer at.state) c.run_part-day.ensures
+          ∙ ap (day_customer at.state) (c.run_part-day.ensures ∙ ap (λ (n : ℕ). run_part run series (n + 1)) c.from.ensures)
           ∙ ap (λ (s : Customer). day_customer s (run_part run series (at.d + 1))) at.invariant.2
           ∙ sym (days_more day_customer run _ series at.d),
     )
