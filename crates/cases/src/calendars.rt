@@ -6,10 +6,9 @@
 //   D  one day: its answer
 // An answer as a character: a kind is its code, and y, h, d are the refusals 1, 3, 13.
 // tests/calendar_cases.py makes them, and what must come of them by Python's datetime.
-use super::{input, output};
+use super::session::Session;
 use calendar::DayRefusal;
 use day_kinds::DayKind;
-use editions::Editions;
 use std::io;
 use std::io::Read;
 
@@ -21,116 +20,78 @@ fn sign(yes: bool) -> u8 {
     if yes { b'+' } else { b'-' }
 }
 
-fn code(kind: DayKind) -> u8 {
-    match kind {
-        DayKind::Windows => b'1',
-        DayKind::Weekend => b'2',
-        DayKind::Listed => b'3',
-        DayKind::Christmas => b'4',
-        DayKind::Bridge => b'5',
-    }
-}
-
 fn mark(answer: Result<DayKind, DayRefusal>) -> u8 {
     match answer {
-        Ok(kind) => code(kind),
+        Ok(DayKind::Windows) => b'1',
+        Ok(DayKind::Weekend) => b'2',
+        Ok(DayKind::Listed) => b'3',
+        Ok(DayKind::Christmas) => b'4',
+        Ok(DayKind::Bridge) => b'5',
         Err(DayRefusal::YearOut) => b'y',
         Err(DayRefusal::BadList) => b'h',
         Err(DayRefusal::DayOut) => b'd',
     }
 }
 
-// What a line has for a day: its weekday (W), its season (S), the season of that day of the period (P), or its answer
-// (A).
-fn letter_of(editions: Editions, line: u8, year: u16, list: &[u16], day: u16) -> u8 {
-    match line {
-        b'W' => digit(dates::weekday(year, day)),
-        b'S' => digit(dates::season(year, day)),
-        b'P' => digit(periods::period_season(year, day)),
-        _ => mark(calendar::day_kind(editions, year, list, day)),
+impl<P: Print, R: Read> Session<'_, P, R> {
+    // A character each for day 0, the days of a year and those behind its end.
+    fn write_days<F: Fn(u16) -> u8>(&self, letter: F) -> io::Result<()>
+        requires { F.IsAlwaysCallable letter }
+    {
+        for day in 0..368 {
+            self.letter(letter(day))?;
+        }
+        self.end_line()
     }
-}
 
-// Day 0 and the days behind the year's end, too.
-fn write_days(
-    rt: &impl Print,
-    editions: Editions,
-    line: u8,
-    year: u16,
-    list: &[u16],
-) -> io::Result<()> {
-    for day in 0..368 {
-        output::letter(rt, letter_of(editions, line, year, list, day))?;
+    // The answers for a year's days under a list.
+    fn write_kinds(&self, year: u16, list: &[u16]) -> io::Result<()> {
+        let editions = self.editions;
+        self.write_days(|day| mark(calendar::day_kind(editions, year, list, day)))
     }
-    output::letter(rt, b'\n')
-}
 
-// Y: a whole year.
-fn whole_year(rt: &impl Print, editions: Editions, year: u16, list: &[u16]) -> io::Result<()> {
-    output::letter(rt, b'Y')?;
-    output::next(rt, year as u64)?;
-    output::next(rt, dates::year_days(year) as u64)?;
-    output::next(rt, periods::period_days(year) as u64)?;
-    output::letter(rt, b'\n')?;
-    write_days(rt, editions, b'W', year, list)?;
-    write_days(rt, editions, b'S', year, list)?;
-    write_days(rt, editions, b'P', year, list)?;
-    write_days(rt, editions, b'A', year, list)
-}
-
-fn write_signs(rt: &impl Print, days: [bool; 366]) -> io::Result<()> {
-    for k in 0..366 {
-        output::letter(rt, sign(days[k]))?;
+    // Y: a whole year.
+    fn whole_year(&self, year: u16, list: &[u16]) -> io::Result<()> {
+        self.letter(b'Y')?;
+        self.next(year)?;
+        self.next(dates::year_days(year))?;
+        self.next(periods::period_days(year))?;
+        self.end_line()?;
+        self.write_days(|day| digit(dates::weekday(year, day)))?;
+        self.write_days(|day| digit(dates::season(year, day)))?;
+        self.write_days(|day| digit(periods::period_season(year, day)))?;
+        self.write_kinds(year, list)
     }
-    output::letter(rt, b'\n')
-}
 
-// L: a holiday list.
-fn whole_list(rt: &impl Print, editions: Editions, year: u16, list: &[u16]) -> io::Result<()> {
-    output::letter(rt, b'L')?;
-    output::next(rt, year as u64)?;
-    output::letter(rt, sign(!holidays::bad_holidays(year, list)))?;
-    output::letter(rt, b'\n')?;
-    write_days(rt, editions, b'A', year, list)?;
-    write_signs(rt, calendar::window_days(year, list))
-}
-
-// D: one day.
-fn one_day(
-    rt: &impl Print,
-    editions: Editions,
-    year: u16,
-    list: &[u16],
-    day: u16,
-) -> io::Result<()> {
-    output::letter(rt, letter_of(editions, b'A', year, list, day))?;
-    output::letter(rt, b'\n')
-}
-
-fn one_kind(
-    rt: &impl Print,
-    editions: Editions,
-    kind: u8,
-    year: u16,
-    list: &[u16],
-    day: u16,
-) -> io::Result<()> {
-    match kind {
-        b'Y' => whole_year(rt, editions, year, list),
-        b'L' => whole_list(rt, editions, year, list),
-        _ => one_day(rt, editions, year, list, day),
+    // L: a holiday list.
+    fn whole_list(&self, year: u16, list: &[u16]) -> io::Result<()> {
+        self.letter(b'L')?;
+        self.next(year)?;
+        self.letter(sign(!holidays::bad_holidays(year, list)))?;
+        self.end_line()?;
+        self.write_kinds(year, list)?;
+        for day in calendar::window_days(year, list) {
+            self.letter(sign(day))?;
+        }
+        self.end_line()
     }
-}
 
-pub(crate) fn one_list<R: Read>(
-    rt: &impl Print,
-    input: &mut R,
-    editions: Editions,
-    kind: u8,
-) -> io::Result<()> {
-    let year = input::two(input)?;
-    let day = input::two(input)?;
-    let count = input::count(input)?;
-    let list = input::list(input, count)?;
-    one_kind(rt, editions, kind, year, &list[0..count], day)
+    // D: one day.
+    fn one_day(&self, year: u16, list: &[u16], day: u16) -> io::Result<()> {
+        self.letter(mark(calendar::day_kind(self.editions, year, list, day)))?;
+        self.end_line()
+    }
+
+    pub(crate) fn one_calendar(&mut self, kind: u8) -> io::Result<()> {
+        let year = self.two()?;
+        let day = self.two()?;
+        let count = usize::from(self.byte()?);
+        let list = self.list(count)?;
+        let list = &list[..count];
+        match kind {
+            b'Y' => self.whole_year(year, list),
+            b'L' => self.whole_list(year, list),
+            _ => self.one_day(year, list, day),
+        }
+    }
 }

@@ -12,157 +12,82 @@
 //   E  an operation on the list of editions (lists.rt): the calls after it go by that list, up to the record's end.
 // tests/customer_records.py makes them, and what must come of them, for customer_cases.py, customer_refusals.py,
 // sunday_cases.py, edition_cases.py and edition_series.py beside it.
-use super::tariffs::{next_prices, write_answer};
-use super::{input, lists, output, series};
+use super::series::Taker;
+use super::session::Session;
+use answer_numbers::Numbers;
 use customer_days::Customer;
-use editions::Editions;
 use readings::Run;
 use std::io;
 use std::io::Read;
-use tariff::{Decision, Prices};
+use tariff::Decision;
 
-// A: the whole series, and an opening under the same terms.
-fn asked(
-    rt: &impl Print,
-    editions: Editions,
-    series: &[u32],
-    sheet: &[u8],
-    holidays: &[u16],
-    prices: Prices,
-    option: bool,
-) -> io::Result<Customer> {
-    write_answer(
-        rt,
-        b'W',
-        customer::decide(editions, sheet, holidays, prices, option, series),
-    )?;
-    let opened = Customer::open(editions, sheet, holidays, prices, option);
-    let answer = opened.answer;
-    write_answer(rt, b'O', answer)?;
-    Ok(opened.customer)
-}
+impl Taker for Customer {
+    type Answer = Decision;
 
-fn ask<R: Read>(
-    rt: &impl Print,
-    input: &mut R,
-    editions: Editions,
-    series: &[u32],
-) -> io::Result<Customer> {
-    let len = input::room(input)?;
-    let sheet = input::bytes(input, len)?;
-    let count = input::room(input)?;
-    let holidays = input::list(input, count)?;
-    let prices = next_prices(input)?;
-    let option = input::byte(input)? != 0;
-    asked(
-        rt,
-        editions,
-        series,
-        &sheet[0..len],
-        &holidays[0..count],
-        prices,
-        option,
-    )
-}
-
-fn write_days(rt: &impl Print, taken: u16, answer: Decision) -> io::Result<()> {
-    output::letter(rt, b'D')?;
-    output::next(rt, taken as u64)?;
-    output::answer(rt, decision_numbers::of_decision(answer))?;
-    output::letter(rt, b'\n')
-}
-
-// D: days of the series one after the other, until one is refused.
-fn days<R: Read>(
-    rt: &impl Print,
-    input: &mut R,
-    editions: Editions,
-    series: &[u32],
-    customer: Customer,
-) -> io::Result<Customer> {
-    let first = input::size(input)?;
-    let count = input::two(input)?;
-    let run = Run::Year(customer.terms.rates.year);
-    let mut state = customer;
-    for k in 0..count {
-        let stepped = state.day(readings::day_part(editions, run, series, first + k as usize));
-        let answer = stepped.answer;
-        state = stepped.customer;
-        let Decision::Taken = answer else {
-            write_days(rt, k, answer)?;
-            return Ok(state);
-        };
+    fn numbers(answer: Decision) -> Numbers {
+        decision_numbers::of_decision(answer)
     }
-    write_days(rt, count, Decision::Taken)?;
-    Ok(state)
-}
 
-// P: a part of the series as a day, whatever its length.
-fn part<R: Read>(
-    rt: &impl Print,
-    input: &mut R,
-    series: &[u32],
-    customer: Customer,
-) -> io::Result<Customer> {
-    let stepped = customer.day(series::part(input, series)?);
-    let answer = stepped.answer;
-    write_answer(rt, b'P', answer)?;
-    Ok(stepped.customer)
-}
-
-// L: a day's part of the series. The state of the days is handed on.
-fn lent<R: Read>(
-    rt: &impl Print,
-    input: &mut R,
-    editions: Editions,
-    series: &[u32],
-    customer: Customer,
-) -> io::Result<Customer> {
-    let run = Run::Year(input::two(input)?);
-    series::write_day(rt, input, editions, run, series)?;
-    Ok(customer)
-}
-
-// C: a closing.
-fn closing(rt: &impl Print, customer: Customer) -> io::Result<Customer> {
-    write_answer(rt, b'C', customer.close())?;
-    Ok(customer)
-}
-
-fn one_call<R: Read>(
-    rt: &impl Print,
-    input: &mut R,
-    editions: Editions,
-    kind: u8,
-    series: &[u32],
-    customer: Customer,
-) -> io::Result<Customer> {
-    match kind {
-        b'A' => ask(rt, input, editions, series),
-        b'D' => days(rt, input, editions, series, customer),
-        b'P' => part(rt, input, series, customer),
-        b'L' => lent(rt, input, editions, series, customer),
-        _ => closing(rt, customer),
+    fn is_taken(answer: Decision) -> bool {
+        matches!(answer, Decision::Taken)
     }
-}
 
-// The calls of a record: terms first, so that there is a state.
-pub(crate) fn all_calls<R: Read>(
-    rt: &impl Print,
-    input: &mut R,
-    editions: Editions,
-    series: &[u32],
-    count: u8,
-) -> io::Result<()> {
-    let mut customer = ask(rt, input, editions, series)?;
-    let mut list = editions;
-    for _ in 0..count {
-        let kind = input::byte(input)?;
-        if kind == b'E' {
-            list = lists::one_step(rt, input, list)?;
-        } else {
-            customer = one_call(rt, input, list, kind, series, customer)?;
+    fn run(year: u16) -> Run {
+        Run::Year(year)
+    }
+
+    fn year(self) -> u16 {
+        self.terms.rates.year
+    }
+
+    fn take(self, day: &[u32]) -> (Customer, Decision) {
+        let stepped = self.day(day);
+        (stepped.customer, stepped.answer)
+    }
+
+    // The calls begin with terms, so that there is a state.
+    fn first<P: Print, R: Read>(
+        session: &mut Session<'_, P, R>,
+        series: &[u32],
+    ) -> io::Result<Customer> {
+        session.open_customer(series)
+    }
+
+    fn own_call<P: Print, R: Read>(
+        self,
+        session: &mut Session<'_, P, R>,
+        series: &[u32],
+        kind: u8,
+    ) -> io::Result<Customer> {
+        match kind {
+            b'A' => session.open_customer(series),
+            _ => session.close_customer(self),
         }
     }
-    Ok(())
+}
+
+impl<P: Print, R: Read> Session<'_, P, R> {
+    // A: the whole series, and an opening under the same terms.
+    fn open_customer(&mut self, series: &[u32]) -> io::Result<Customer> {
+        let len = self.room()?;
+        let sheet = self.bytes(len)?;
+        let sheet = &sheet[..len];
+        let count = self.room()?;
+        let holidays = self.list(count)?;
+        let holidays = &holidays[..count];
+        let prices = self.next_prices()?;
+        let option = self.yes()?;
+        let editions = self.editions;
+        let whole = customer::decide(editions, sheet, holidays, prices, option, series);
+        self.answered(b'W', decision_numbers::of_decision(whole))?;
+        let opened = Customer::open(editions, sheet, holidays, prices, option);
+        self.answered(b'O', decision_numbers::of_decision(opened.answer))?;
+        Ok(opened.customer)
+    }
+
+    // C: a closing, which leaves the state.
+    fn close_customer(&mut self, customer: Customer) -> io::Result<Customer> {
+        self.answered(b'C', decision_numbers::of_decision(customer.close()))?;
+        Ok(customer)
+    }
 }

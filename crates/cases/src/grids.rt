@@ -12,157 +12,101 @@
 // tests/grid_records.py makes them, and what must come of them, for grid_cases.py, sunday_cases.py, edition_cases.py
 // and edition_series.py beside it.
 use super::input::ROOM;
-use super::{input, lists, output, series};
-use editions::Editions;
+use super::series::Taker;
+use super::session::Session;
+use answer_numbers::Numbers;
 use grid::GridRefusal;
 use grid_days::Grid;
 use readings::Run;
 use std::io;
 use std::io::Read;
 
-fn write_answer(rt: &impl Print, call: u8, answer: Result<(), GridRefusal>) -> io::Result<()> {
-    output::letter(rt, call)?;
-    output::answer(rt, grid_numbers::of_answer(answer))?;
-    output::letter(rt, b'\n')
-}
+impl Taker for Grid {
+    type Answer = Result<(), GridRefusal>;
 
-// What a call that was lent a buffer did.
-fn write_sheet(
-    rt: &impl Print,
-    call: u8,
-    answer: Result<(), GridRefusal>,
-    buffer: [u8; ROOM],
-) -> io::Result<()> {
-    output::letter(rt, call)?;
-    output::answer(rt, grid_numbers::of_answer(answer))?;
-    output::bytes(rt, buffer)?;
-    output::letter(rt, b'\n')
-}
+    fn numbers(answer: Result<(), GridRefusal>) -> Numbers {
+        grid_numbers::of_answer(answer)
+    }
 
-// W: the whole series. The state of the days is handed on.
-fn whole<R: Read>(
-    rt: &impl Print,
-    input: &mut R,
-    editions: Editions,
-    series: &[u32],
-    grid: Grid,
-) -> io::Result<Grid> {
-    let year = input::two(input)?;
-    let level = input::byte(input)?;
-    let room = input::room(input)?;
-    let mut buffer = [170u8; ROOM];
-    let answer = grid::windows(editions, year, level, series, &mut buffer[0..room]);
-    write_sheet(rt, b'W', answer, buffer)?;
-    Ok(grid)
-}
+    fn is_taken(answer: Result<(), GridRefusal>) -> bool {
+        answer.is_ok()
+    }
 
-// O: an opening.
-fn opening<R: Read>(rt: &impl Print, input: &mut R, editions: Editions) -> io::Result<Grid> {
-    let year = input::two(input)?;
-    let opened = Grid::open(editions, year, input::byte(input)?);
-    let answer = opened.answer;
-    write_answer(rt, b'O', answer)?;
-    Ok(opened.grid)
-}
+    fn run(year: u16) -> Run {
+        Run::Period(year)
+    }
 
-fn write_days(rt: &impl Print, taken: u16, answer: Result<(), GridRefusal>) -> io::Result<()> {
-    output::letter(rt, b'D')?;
-    output::next(rt, taken as u64)?;
-    output::answer(rt, grid_numbers::of_answer(answer))?;
-    output::letter(rt, b'\n')
-}
+    fn year(self) -> u16 {
+        self.year
+    }
 
-// D: days of the series one after the other, until one is refused.
-fn days<R: Read>(
-    rt: &impl Print,
-    input: &mut R,
-    editions: Editions,
-    series: &[u32],
-    grid: Grid,
-) -> io::Result<Grid> {
-    let first = input::size(input)?;
-    let count = input::two(input)?;
-    let run = Run::Period(grid.year);
-    let mut state = grid;
-    for k in 0..count {
-        let stepped = state.day(readings::day_part(editions, run, series, first + k as usize));
-        let answer = stepped.answer;
-        state = stepped.grid;
-        if answer.is_err() {
-            write_days(rt, k, answer)?;
-            return Ok(state);
+    fn take(self, day: &[u32]) -> (Grid, Result<(), GridRefusal>) {
+        let stepped = self.day(day);
+        (stepped.grid, stepped.answer)
+    }
+
+    // The first calls, up to an opening, are made on the state of a refused opening.
+    fn first<P: Print, R: Read>(
+        session: &mut Session<'_, P, R>,
+        _series: &[u32],
+    ) -> io::Result<Grid> {
+        Ok(Grid::open(session.editions, 0, 0).grid)
+    }
+
+    fn own_call<P: Print, R: Read>(
+        self,
+        session: &mut Session<'_, P, R>,
+        series: &[u32],
+        kind: u8,
+    ) -> io::Result<Grid> {
+        match kind {
+            b'W' => session.whole_grid(series, self),
+            b'O' => session.open_grid(),
+            _ => session.close_grid(self),
         }
     }
-    write_days(rt, count, Ok(()))?;
-    Ok(state)
 }
 
-// P: a part of the series as a day, whatever its length.
-fn part<R: Read>(rt: &impl Print, input: &mut R, series: &[u32], grid: Grid) -> io::Result<Grid> {
-    let stepped = grid.day(series::part(input, series)?);
-    let answer = stepped.answer;
-    write_answer(rt, b'P', answer)?;
-    Ok(stepped.grid)
-}
-
-// L: a day's part of the series. The state of the days is handed on.
-fn lent<R: Read>(
-    rt: &impl Print,
-    input: &mut R,
-    editions: Editions,
-    series: &[u32],
-    grid: Grid,
-) -> io::Result<Grid> {
-    let run = Run::Period(input::two(input)?);
-    series::write_day(rt, input, editions, run, series)?;
-    Ok(grid)
-}
-
-// C: a closing.
-fn closing<R: Read>(rt: &impl Print, input: &mut R, grid: Grid) -> io::Result<Grid> {
-    let room = input::room(input)?;
-    let mut buffer = [170u8; ROOM];
-    let answer = grid.close(&mut buffer[0..room]);
-    write_sheet(rt, b'C', answer, buffer)?;
-    Ok(grid)
-}
-
-fn one_call<R: Read>(
-    rt: &impl Print,
-    input: &mut R,
-    editions: Editions,
-    kind: u8,
-    series: &[u32],
-    grid: Grid,
-) -> io::Result<Grid> {
-    match kind {
-        b'W' => whole(rt, input, editions, series, grid),
-        b'O' => opening(rt, input, editions),
-        b'D' => days(rt, input, editions, series, grid),
-        b'P' => part(rt, input, series, grid),
-        b'L' => lent(rt, input, editions, series, grid),
-        _ => closing(rt, input, grid),
+impl<P: Print, R: Read> Session<'_, P, R> {
+    // What a call that was lent a buffer did.
+    fn write_sheet(
+        &self,
+        call: u8,
+        answer: Result<(), GridRefusal>,
+        buffer: &[u8; ROOM],
+    ) -> io::Result<()> {
+        self.letter(call)?;
+        self.numbers(grid_numbers::of_answer(answer))?;
+        self.hexadecimal(buffer)?;
+        self.end_line()
     }
-}
 
-// The calls of a record: the first ones, up to an opening, are made on the state of a refused opening.
-pub(crate) fn all_calls<R: Read>(
-    rt: &impl Print,
-    input: &mut R,
-    editions: Editions,
-    series: &[u32],
-    count: u8,
-) -> io::Result<()> {
-    let refused = Grid::open(editions, 0, 0);
-    let mut grid = refused.grid;
-    let mut list = editions;
-    for _ in 0..count {
-        let kind = input::byte(input)?;
-        if kind == b'E' {
-            list = lists::one_step(rt, input, list)?;
-        } else {
-            grid = one_call(rt, input, list, kind, series, grid)?;
-        }
+    // W: the whole series. The state of the days is handed on.
+    fn whole_grid(&mut self, series: &[u32], grid: Grid) -> io::Result<Grid> {
+        let year = self.two()?;
+        let level = self.byte()?;
+        let room = self.room()?;
+        let mut buffer = [170; ROOM];
+        let answer = grid::windows(self.editions, year, level, series, &mut buffer[..room]);
+        self.write_sheet(b'W', answer, &buffer)?;
+        Ok(grid)
     }
-    Ok(())
+
+    // O: an opening.
+    fn open_grid(&mut self) -> io::Result<Grid> {
+        let year = self.two()?;
+        let level = self.byte()?;
+        let opened = Grid::open(self.editions, year, level);
+        self.answered(b'O', grid_numbers::of_answer(opened.answer))?;
+        Ok(opened.grid)
+    }
+
+    // C: a closing.
+    fn close_grid(&mut self, grid: Grid) -> io::Result<Grid> {
+        let room = self.room()?;
+        let mut buffer = [170; ROOM];
+        let answer = grid.close(&mut buffer[..room]);
+        self.write_sheet(b'C', answer, &buffer)?;
+        Ok(grid)
+    }
 }

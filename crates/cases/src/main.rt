@@ -16,43 +16,42 @@ mod input;
 mod lists;
 mod output;
 mod series;
+mod session;
 mod sheets;
 mod tariffs;
 
-use editions::Editions;
+use session::Session;
 use std::io;
 use std::io::Read;
 
-// One record of calls: false where the input is at its end.
-fn one_record<R: Read>(
-    rt: &impl Print,
-    input: &mut R,
-    editions: Editions,
-    kind: u8,
-) -> io::Result<bool> {
+// No more records than this are taken.
+const RECORDS_MOST: u32 = 100_000;
+
+// One record: false where the input is at its end.
+fn one_record<P: Print, R: Read>(session: &mut Session<'_, P, R>) -> io::Result<bool> {
+    let kind = session.byte()?;
     match kind {
-        b'Y' | b'L' | b'D' => calendars::one_list(rt, input, editions, kind)?,
-        b'W' => sheets::one_writing(rt, input, editions)?,
-        b'R' => sheets::one_reading(rt, input, editions)?,
-        b'T' => tariffs::one_set(rt, input, editions)?,
-        b'G' | b'C' => series::one_series(rt, input, editions, kind)?,
+        b'E' => session.one_operation()?,
+        b'Y' | b'L' | b'D' => session.one_calendar(kind)?,
+        b'W' => session.one_writing()?,
+        b'R' => session.one_reading()?,
+        b'T' => session.one_set()?,
+        b'G' | b'C' => session.one_series(kind)?,
         _ => return Ok(false),
     }
     Ok(true)
 }
 
 fn main(rt: HostRuntime) -> io::Result<()> {
-    let input = &mut rt.stdin();
-    let mut list = editions::todays();
-    let mut turns: u32 = 100000;
-    while turns > 0 {
-        let kind = input::byte(input)?;
-        if kind == b'E' {
-            list = lists::one_step(&rt, input, list)?;
-        } else if !one_record(&rt, input, list, kind)? {
+    let mut session = Session {
+        rt: &rt,
+        input: rt.stdin(),
+        editions: editions::todays(),
+    };
+    for _ in 0..RECORDS_MOST {
+        if !one_record(&mut session)? {
             return Ok(());
         }
-        turns -= 1;
     }
     Ok(())
 }

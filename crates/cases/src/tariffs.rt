@@ -9,74 +9,68 @@
 //   C  charge
 //   J  judge
 // tests/tariff_cases.py makes them, and what must come of them, and edition_figures.py beside it by other editions.
-use super::{input, output};
-use editions::Editions;
+use super::session::Session;
 use std::io;
 use std::io::Read;
-use tariff::{Decision, Figures, Prices, Rates, Row};
+use tariff::{Figures, Prices, Rates, Row};
 
-fn next_figures<R: Read>(input: &mut R) -> io::Result<Figures> {
-    let peak = input::four(input)?;
-    let sum = input::eight(input)?;
-    let any = input::byte(input)? != 0;
-    let high = input::four(input)?;
-    let day = input::two(input)?;
-    let quarter = input::byte(input)?;
-    Ok(Figures {
-        peak,
-        sum,
-        any,
-        high,
-        day,
-        quarter,
-    })
-}
+impl<P: Print, R: Read> Session<'_, P, R> {
+    fn next_figures(&mut self) -> io::Result<Figures> {
+        Ok(Figures {
+            peak: self.four()?,
+            sum: self.eight()?,
+            any: self.yes()?,
+            high: self.four()?,
+            day: self.two()?,
+            quarter: self.byte()?,
+        })
+    }
 
-pub(crate) fn next_prices<R: Read>(input: &mut R) -> io::Result<Prices> {
-    let few = Row {
-        capacity: input::four(input)?,
-        energy: input::four(input)?,
-    };
-    let many = Row {
-        capacity: input::four(input)?,
-        energy: input::four(input)?,
-    };
-    Ok(Prices { few, many })
-}
+    fn next_row(&mut self) -> io::Result<Row> {
+        Ok(Row {
+            capacity: self.four()?,
+            energy: self.four()?,
+        })
+    }
 
-fn next_rates<R: Read>(input: &mut R, year: u16) -> io::Result<Rates> {
-    let level = input::byte(input)?;
-    let prices = next_prices(input)?;
-    let option = input::byte(input)? != 0;
-    Ok(Rates {
-        year,
-        level,
-        option,
-        prices,
-    })
-}
+    pub(crate) fn next_prices(&mut self) -> io::Result<Prices> {
+        Ok(Prices {
+            few: self.next_row()?,
+            many: self.next_row()?,
+        })
+    }
 
-// A call's letter, then its answer.
-pub(crate) fn write_answer(rt: &impl Print, call: u8, answer: Decision) -> io::Result<()> {
-    output::letter(rt, call)?;
-    output::answer(rt, decision_numbers::of_decision(answer))?;
-    output::letter(rt, b'\n')
-}
+    fn next_rates(&mut self, year: u16) -> io::Result<Rates> {
+        let level = self.byte()?;
+        let prices = self.next_prices()?;
+        Ok(Rates {
+            year,
+            level,
+            option: self.yes()?,
+            prices,
+        })
+    }
 
-// T: one set of figures.
-pub(crate) fn one_set<R: Read>(
-    rt: &impl Print,
-    input: &mut R,
-    editions: Editions,
-) -> io::Result<()> {
-    let year = input::two(input)?;
-    let edition = editions::pick(editions, year);
-    let figures = next_figures(input)?;
-    let rates = next_rates(input, year)?;
-    output::letter(rt, b'P')?;
-    output::next(rt, price_limits::prices_out(rates.prices) as u64)?;
-    output::letter(rt, b'\n')?;
-    write_answer(rt, b'E', decision::eligible(edition, figures, rates))?;
-    write_answer(rt, b'C', decision::charge(edition, figures, rates))?;
-    write_answer(rt, b'J', decision::judge(edition, figures, rates))
+    // T: one set of figures.
+    pub(crate) fn one_set(&mut self) -> io::Result<()> {
+        let year = self.two()?;
+        let edition = editions::pick(self.editions, year);
+        let figures = self.next_figures()?;
+        let rates = self.next_rates(year)?;
+        self.letter(b'P')?;
+        self.next(u8::from(price_limits::prices_out(rates.prices)))?;
+        self.end_line()?;
+        self.answered(
+            b'E',
+            decision_numbers::of_decision(decision::eligible(edition, figures, rates)),
+        )?;
+        self.answered(
+            b'C',
+            decision_numbers::of_decision(decision::charge(edition, figures, rates)),
+        )?;
+        self.answered(
+            b'J',
+            decision_numbers::of_decision(decision::judge(edition, figures, rates)),
+        )
+    }
 }

@@ -16,10 +16,9 @@ use fields::Stage;
 fn answer(file: CustomerFile) -> Numbers
     ensures { (result ≡ numbers_of (answer_of file)) × (result.count ≤ 7) }
 {
-    let stage = file.stage;
-    match stage {
+    match file.stage {
         Stage::Going => answer_numbers::only(13),
-        Stage::Refused(number) => answer_numbers::only(number as u64),
+        Stage::Refused(number) => answer_numbers::only(u64::from(number)),
         Stage::BadReading(place) => answer_numbers::with_place(place),
         Stage::Complete => decision_numbers::of_decision(file.series.customer.close()),
     }

@@ -24,13 +24,6 @@ use Rattle.calendar.specs.Answer.{of_kind, calendar_answer}
 use Rattle.day_text.specs.Asked.{line_size, misfits, misfits_at, no_dates, year_at, day_at, line_count, missing_on, no_such_date, listed_at, listed_days, why_answer}
 use Rattle.day_text.specs.Text.{weekday_name, kind_word, day_line, wrong_line, usage_line, why_text}
 
--- a digit's place in the form, and any other
-pub digit_tested : (f byte : ℕ) → f ≡ 48 → outside 48 57 byte ≡ misfits f byte
-digit_tested f byte e = simp (eq-eqb _ _ e)
-
-pub byte_tested : (f byte : ℕ) → (f ≡ 48 → ⊥) → not (eqb byte f) ≡ misfits f byte
-byte_tested f byte n = simp (ne_eqb _ _ n)
-
 -- a test whose contrary fails
 held : (x : Bool) → not x ≡ false → x ≡ true
 held true e = refl
@@ -89,13 +82,6 @@ module _ (b : List ℕ) where
       (record { fails = λ k l. ne_eqb _ _ (subst P (line_at k 0 l) (h k 0 (omega arith) (omega (arith, length-range_with_len 0 (line_count b))))) })
       (omega arith)
 
-  -- a listed day of the year asked for, and one of another year
-  pub same_year : (i : ℕ) → year_at b i ≡ year_at b 0 → day_at b i ≡ listed_at b i
-  same_year i e = simp (eq-eqb _ _ e)
-
-  pub other_year : (i : ℕ) → (year_at b i ≡ year_at b 0 → ⊥) → 0 ≡ listed_at b i
-  other_year i n = simp (ne_eqb _ _ n)
-
   -- where the dates are dates, the first line is whole
   pub line_long : no_dates b ≡ false → 10 ≤ length b
   unfolding no_dates
@@ -133,13 +119,6 @@ module _ (b : List ℕ) where
     pub wrong_printed : (number : ℕ) → (number ≡ 0 → ⊥) → only number ≡ why_answer b → wrong_line number ≡ why_text b
     unfolding why_text
     wrong_printed number some e = rw (f, ← e, ne_eqb number 0 some)
-
--- a weekday's name, and a kind's word, by an equal number or kind
-pub named : (v w : ℕ) → v ≡ w → weekday_name v ≡ weekday_name w
-named v w e = ap weekday_name e
-
-pub called : (k l : DayKind) → k ≡ l → kind_word (kind_code k) ≡ kind_word (kind_code l)
-called k l e = ap (λ (x : DayKind). kind_word (kind_code x)) e
 
 -- Sunday is the last weekday
 pub sunday : (w : ℕ) → 5 < w → weekday_name 6 ≡ weekday_name w

@@ -5,7 +5,7 @@ use mathlib.Core.Bool.{Bool, true, false, cond, not}
 use mathlib.Core.List.{List, [], ◌∷◌}
 use Prim.Native.Nat.{ℕ, ◌≤◌, ◌<◌}
 use native.Mathlib.Omega.{arith}
-use borrow.Author.Tests.{eq-eqb, ne_eqb}
+use borrow.Author.Tests.{eq-eqb, ne_eqb, ltb-true, ltb-false}
 use lib.Dec.{ltb, eqb}
 use Rattle.answers.specs.Ruling.{lacks_year, level_out}
 use Rattle.answers.specs.Said.{Said, only}
@@ -21,7 +21,10 @@ use Rattle.sheet.proofs.Back.{read_written}
 use Rattle.windows.proofs.Kept.{chosen_roomy}
 use Rattle.std.proofs.lemmas.List.{append-nil}
 use Rattle.grid_days.specs.declared.Grid.{Grid}
-use Rattle.grid.specs.Answers.{sheet_of, curves_of, finish_answer}
+use Rattle.std.specs.Prelude.{Result, Ok, Err, ⊤, is_err}
+use Rattle.grid.specs.declared.GridRefusal.{GridRefusal}
+use Rattle.grid.specs.declared.GridRefusal.TheVariants.{Short, YearOut, LevelOut, WrongLength, BadReading, NoPeak, Malformed, DayOut}
+use Rattle.grid.specs.Answers.{said_of_grid, sheet_of, curves_of, finish_answer}
 use Rattle.grid.proofs.Answered.{finish_sheet}
 use Rattle.grid_days.specs.Rows.{CloseRow}
 use Rattle.grid_days.specs.Rows.CloseRow.{zero}
@@ -32,6 +35,24 @@ use Rattle.lines.specs.Figures.{refused_line}
 use Rattle.grid_file.specs.Grid.{blank_sheet}
 use Rattle.grid_file.specs.GridMachine.{closed_grid}
 use Rattle.grid_text.specs.Text.{sheet_text, window_lines}
+
+-- a refusal has a number of its own, and what is done has 0
+numbered : (r : Result ⊤ GridRefusal) → ltb 0 (said_of_grid r).number ≡ is_err r
+numbered (Ok done) = refl
+numbered (Err Short) = refl
+numbered (Err YearOut) = refl
+numbered (Err LevelOut) = refl
+numbered (Err WrongLength) = refl
+numbered (Err (BadReading place)) = refl
+numbered (Err NoPeak) = refl
+numbered (Err Malformed) = refl
+numbered (Err DayOut) = refl
+
+pub refused_some : (r : Result ⊤ GridRefusal) → is_err r ≡ true → (said_of_grid r).number ≡ 0 → ⊥
+refused_some r e z = omega (arith, ltb-true 0 (said_of_grid r).number (numbered r ∙ e), z)
+
+pub taken_none : (r : Result ⊤ GridRefusal) → is_err r ≡ false → (said_of_grid r).number ≡ 0
+taken_none r e = omega (arith, ltb-false 0 (said_of_grid r).number (numbered r ∙ e))
 
 -- an answer without figures
 abbrev Only : Said → Type 0

@@ -26,7 +26,7 @@ fn refused(number: u64, out: &mut [u8]) -> usize
 fn refused_at(place: Place, out: &mut [u8]) -> usize
     ensures { Put 0 (refused_line (line_figures (bad_place place))) out.old out.new result }
 {
-    let figures = [5, place.day as u64, place.position as u64];
+    let figures = [5, u64::from(place.day), u64::from(place.position)];
     lines::refused_text(&figures, out)
 }
 
@@ -36,23 +36,21 @@ fn closed(grid: Grid, out: &mut [u8]) -> usize
 {
     let edition = grid.edition;
     let mut bytes = [0u8; sheet::SHEET_SIZE];
-    let number = grid_numbers::of_answer(grid.close(&mut bytes)).number;
-    if number != 0 {
-        return refused(number, out);
+    let done = grid.close(&mut bytes);
+    if done.is_err() {
+        return refused(grid_numbers::of_answer(done).number, out);
     }
     let meaning = sheet_read::read_by(edition, &bytes).unwrap();
-    let windows = meaning.windows;
-    window_lines::windows_text(meaning.year, meaning.level, &windows, out)
+    window_lines::windows_text(meaning.year, meaning.level, &meaning.windows, out)
 }
 
 // What the window program prints, at the start of a lent buffer, all or nothing; 13 while the machine goes on.
 pub fn text(file: GridFile, out: &mut [u8]) -> usize
     ensures { Put 0 (grid_text file) out.old out.new result }
 {
-    let stage = file.stage;
-    match stage {
+    match file.stage {
         Stage::Going => refused(13, out),
-        Stage::Refused(number) => refused(number as u64, out),
+        Stage::Refused(number) => refused(u64::from(number), out),
         Stage::BadReading(place) => refused_at(place, out),
         Stage::Complete => closed(file.series.grid, out),
     }

@@ -1,5 +1,4 @@
--- Laws of text in a lent buffer: two writes, one after the other, are one; what a loop
--- that writes keeps; all or nothing.
+-- Laws of text in a lent buffer: two writes, one after the other, are one; texts one after the other; all or nothing.
 -- Assumes nothing.
 use mathlib.Core.Path.{◌≡◌, refl, sym, ap, ◌∙◌}
 use mathlib.Core.Bool.{true, false}
@@ -105,28 +104,6 @@ module _ (f : ℕ → List ℕ) where
       go (no m) ih =
           let e : k ≡ n = omega arith in
           rw e (omega (arith, ap length (text_suc n), length-append (text_over f n) (f n)))
-
--- what a loop that writes f 0, .. , f (m - 1) keeps: the first k are written
-pub record Laid (f : ℕ → List ℕ) (m : ℕ) (d : List ℕ) (at k : ℕ) (e : List ℕ) (n : ℕ) : Type 0 where
-  pub some : k ≤ m
-  pub room : at + length (text_over f m) ≤ length d
-  pub wrote : Wrote d at (text_over f k) e n
-
-module _ {f : ℕ → List ℕ} {m : ℕ} {d : List ℕ} {at : ℕ} where
-  pub laid_none : at + length (text_over f m) ≤ length d → Laid f m d at 0 d at
-  laid_none h = record { some = omega arith; room = h; wrote = wrote_as (sym (text_none f)) (wrote_none d at (omega arith)) }
-
-  module _ {k n : ℕ} {e : List ℕ} (h : Laid f m d at k e n) where
-    pub laid_room : k < m → n + length (f k) ≤ length e
-    laid_room l = omega (arith, h.room, h.wrote.end, h.wrote.same, text_room f m k l)
-
-    pub laid_more : {r : ℕ} {g : List ℕ} → k < m → Wrote e n (f k) g r → Laid f m d at (k + 1) g r
-    laid_more l w = record { some = omega arith; room = h.room; wrote = wrote_as (sym (text_more f k)) (then h.wrote w) }
-
-    pub laid_all : m ≤ k → Wrote d at (text_over f m) e n
-    laid_all l =
-        let x : k ≡ m = omega (arith, h.some) in
-        wrote_as (ap (text_over f) x) h.wrote
 
 -- all or nothing
 pub fits : {t d e : List ℕ} {at r : ℕ} → Wrote d at t e r → Put at t d e r

@@ -8,7 +8,7 @@ pub returns-in-Going : goal.returns-in-Going
 returns-in-Going c = rw c.in-Going.is (c.only.ensures, rw c.only.ensures (omega arith))
 
 pub returns-in-Refused : goal.returns-in-Refused
-returns-in-Refused c = rw c.in-Refused.is (c.only-in-Refused.ensures, rw c.only-in-Refused.ensures (omega arith))
+returns-in-Refused c = rw (c.in-Refused.is, ← c.from.ensures) (c.only-in-Refused.ensures, rw c.only-in-Refused.ensures (omega arith))
 
 pub returns-in-BadReading : goal.returns-in-BadReading
 returns-in-BadReading c = rw c.in-BadReading.is (c.with_place.ensures, rw c.with_place.ensures (omega arith))

@@ -27,7 +27,9 @@ loop-i-init c = passed_none
 
 pub returns-then-misfit : goal.returns-then-misfit
 returns-then-misfit c =
-    misfit_found _ (some _ c.is_empty.ensures c.if-is_empty.false) (omega (arith, c.if-b-ne0.false)) c.loop-i.i (omega (arith, c.loop-i-test.true)) (sym c.misfit.ensures ∙ c.if-misfit.true)
+    let not_empty = some _ c.is_empty.ensures c.if-is_empty.false in
+    misfit_found _ not_empty (omega (arith, c.if-b-ne0.false)) c.loop-i.i (omega (arith, c.loop-i-test.true))
+    (sym c.misfit.ensures ∙ c.if-misfit.true)
 
 pub loop-i-preserved : goal.loop-i-preserved
 loop-i-preserved c = passed_more c.loop-i.invariant (sym c.misfit.ensures ∙ c.if-misfit.false)
