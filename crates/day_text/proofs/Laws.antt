@@ -1,6 +1,6 @@
 -- Laws of what the day program is asked and prints: one for each case of the tests, with the code's answer on the left.
 -- Assumes nothing.
-use mathlib.Core.Path.{◌≡◌, refl, sym, ap, ◌∙◌}
+use mathlib.Core.Path.{◌≡◌, refl, sym, ◌∙◌}
 use mathlib.Core.Bool.{Bool, true, false, not, ◌||◌}
 use mathlib.Core.List.{List}
 use Prim.Native.Nat.{ℕ, ◌*◌, ◌≤◌, ◌<◌, ◌%◌}
@@ -12,7 +12,6 @@ use Rattle.std.specs.Bool.{MatchBool}
 use Rattle.std.specs.List.{range_with_len, HoldsAt, AllWithin}
 use Rattle.std.proofs.Common.{subst}
 use Rattle.std.proofs.lemmas.List.FromFn.{length-range_with_len, get_or-range_with_len}
-use Rattle.ranges.specs.Limits.{outside}
 use Rattle.ranges.specs.Ranges.{any_over}
 use Rattle.ranges.proofs.Bools.{neither}
 use Rattle.ranges.proofs.Tests.{any_at, any_fails, Passed}
@@ -21,8 +20,8 @@ use Rattle.answers.specs.Said.{only}
 use Rattle.day_kinds.specs.declared.DayKind.{DayKind}
 use Rattle.day_kinds.specs.Kinds.{kind_code}
 use Rattle.calendar.specs.Answer.{of_kind, calendar_answer}
-use Rattle.day_text.specs.Asked.{line_size, misfits, misfits_at, no_dates, year_at, day_at, line_count, missing_on, no_such_date, listed_at, listed_days, why_answer}
-use Rattle.day_text.specs.Text.{weekday_name, kind_word, day_line, wrong_line, usage_line, why_text}
+use Rattle.day_text.specs.Asked.{line_size, misfits_at, no_dates, year_at, day_at, line_count, missing_on, no_such_date, listed_days, why_answer}
+use Rattle.day_text.specs.Text.{weekday_name, day_line, wrong_line, usage_line, why_text}
 
 -- a test whose contrary fails
 held : (x : Bool) → not x ≡ false → x ≡ true
