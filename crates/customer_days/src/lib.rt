@@ -11,8 +11,8 @@ ghost use Rattle.terms.specs.Opening.{customer_open_answer};
 ghost use Rattle.customer_days.specs.Days.{open_customer, day_under, customer_day_answer, customer_taken, day_customer, customer_close_answer, Steps};
 ghost use Rattle.customer_days.specs.Rows.{DayFits};
 
-use answers::Place;
 use editions::Editions;
+use legal_readings::Unfit;
 use readings::Run;
 use tariff::{Decision, Figures, Prices};
 use terms::Terms;
@@ -44,20 +44,12 @@ fn day_answer(year: u16, seen: u16, sum: u64, day: &[u32]) -> Decision
     if DAY_SUM_MOST * u64::from(seen) < sum {
         return Decision::DayOut;
     }
-    if dates::year_days(year) <= seen {
-        return Decision::DayOut;
+    match legal_readings::check_next(Run::Year(year), answers::CUSTOMER_MOST, seen, day) {
+        Ok(()) => Decision::Taken,
+        Err(Unfit::DayOut) => Decision::DayOut,
+        Err(Unfit::WrongLength) => Decision::WrongLength,
+        Err(Unfit::BadReading(place)) => Decision::BadReading(place),
     }
-    let run = Run::Year(year);
-    if day.len() != readings::day_len(run, seen) {
-        return Decision::WrongLength;
-    }
-    if let Some(first) = legal_readings::first_above(day, answers::CUSTOMER_MOST) {
-        return Decision::BadReading(Place {
-            day: seen + 1,
-            position: first as u16,
-        });
-    }
-    Decision::Taken
 }
 
 impl Customer {

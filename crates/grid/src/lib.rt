@@ -7,12 +7,14 @@ ghost use Rattle.std.specs.Prelude.{◌≡◌, List, ℕ, ◌<◌, length};
 ghost use Rattle.answers.specs.Ruling.{day_quarters};
 ghost use Rattle.editions.specs.Editions.{edition_of};
 ghost use Rattle.readings.specs.Legal.{highest_of};
+ghost use Rattle.legal_readings.specs.Answers.{said_of_unfit};
 ghost use Rattle.sheet.specs.Answers.{said_of_write};
 ghost use Rattle.sheet.specs.Windows.{seasons, flat_windows};
 ghost use Rattle.grid.specs.Answers.{said_of_refusal, said_of_grid, Gives, curve_of, curves_of, grid_open_answer, finish_answer, finished, windows_answer, windows_buffer};
 
 use answers::{Edition, Place};
 use editions::Editions;
+use legal_readings::Unfit;
 use readings::Run;
 use sheet::{Sheet, WriteRefusal};
 
@@ -39,6 +41,19 @@ impl From<WriteRefusal> for GridRefusal {
             WriteRefusal::YearOut => GridRefusal::YearOut,
             WriteRefusal::LevelOut => GridRefusal::LevelOut,
             WriteRefusal::Malformed => GridRefusal::Malformed,
+        }
+    }
+}
+
+// A day that is not the next of the period is refused by the same number.
+impl From<Unfit> for GridRefusal {
+    ghost from_gives = { λ unfit refusal. said_of_refusal refusal ≡ said_of_unfit unfit };
+
+    fn from(unfit: Unfit) -> GridRefusal {
+        match unfit {
+            Unfit::DayOut => GridRefusal::DayOut,
+            Unfit::WrongLength => GridRefusal::WrongLength,
+            Unfit::BadReading(place) => GridRefusal::BadReading(place),
         }
     }
 }

@@ -9,10 +9,10 @@ ghost use Rattle.answers.specs.Ruling.{grid_most};
 ghost use Rattle.editions.specs.Editions.{edition_of};
 ghost use Rattle.readings.specs.declared.Run.TheVariants.{Period};
 ghost use Rattle.readings.specs.Days.{next_answer};
-ghost use Rattle.grid.specs.Answers.{said_of_grid, Gives, grid_open_answer};
+ghost use Rattle.grid.specs.Answers.{Gives, grid_open_answer};
 ghost use Rattle.grid_days.specs.Days.{open_grid, shut_grid, grid_day_answer, day_grid, day_curves, grid_close_answer, grid_close_buffer};
 
-use answers::{Edition, Place};
+use answers::Edition;
 use editions::Editions;
 use grid::GridRefusal;
 use readings::Run;
@@ -35,25 +35,6 @@ pub struct Stepped {
     pub grid: Grid,
 }
 
-// What a day is answered where so many days are taken: 13, then 4, then 5.
-fn day_answer(year: u16, seen: u16, day: &[u32]) -> Result<(), GridRefusal>
-    ensures { said_of_grid result ≡ next_answer (Period year) grid_most seen day.now }
-{
-    if periods::period_days(year) <= seen {
-        return Err(GridRefusal::DayOut);
-    }
-    if day.len() != readings::day_len(Run::Period(year), seen) {
-        return Err(GridRefusal::WrongLength);
-    }
-    if let Some(first) = legal_readings::first_above(day, answers::GRID_MOST) {
-        return Err(GridRefusal::BadReading(Place {
-            day: seen + 1,
-            position: first as u16,
-        }));
-    }
-    Ok(())
-}
-
 // One day more, laid over lent curves where so many days are taken: for a host that keeps the curves itself. Refuses
 // 13, 4, 5 in this order, and then changes no value.
 pub fn take_day(
@@ -65,7 +46,7 @@ pub fn take_day(
     ensures { Gives result (next_answer (Period year) grid_most seen day.now)
         curves.new (day_curves year curves.old seen day.now) }
 {
-    day_answer(year, seen, day)?;
+    legal_readings::check_next(Run::Period(year), answers::GRID_MOST, seen, day)?;
     grid_curves::lay_day(&mut *curves, year, seen, day);
     Ok(())
 }

@@ -1,14 +1,24 @@
-// Legal readings: the first of some readings above a limit, and the first illegal reading of a run (Rules 2.1, 2.2 and
-// 8.4). It meets `readings`, specs/Legal.
+// Legal readings: the first of some readings above a limit, the first illegal reading of a run, and whether a day is
+// one that a run takes next (Rules 2.1, 2.2, 8.4 and 9.3). It meets specs/Legal and specs/Days of `readings`.
 // Main theorem: the first illegal reading is found by its day and then by its position, in any series, and nothing is
 // read past the series' end.
 #![tactic(auto)]
 
 ghost use Rattle.std.specs.Prelude.{◌≡◌, get_or, position};
 ghost use Rattle.readings.specs.Legal.{illegal, highest_of, place_above, first_illegal};
+ghost use Rattle.readings.specs.Days.{next_answer};
+ghost use Rattle.legal_readings.specs.Answers.{said_of_next};
 
 use answers::Place;
 use readings::Run;
+
+// Why a day is not the next that a run takes: 13, 4, 5 with its place.
+#[derive(Clone, Copy, PartialEq, Eq)]
+pub enum Unfit {
+    DayOut,
+    WrongLength,
+    BadReading(Place),
+}
 
 // Is any reading above a limit? One comparison for each and no way out of the loop: less work than to find the highest.
 fn any_above(readings: &[u32], limit: u32) -> bool
@@ -65,4 +75,23 @@ pub fn first_illegal(run: Run, series: &[u32], limit: u32) -> Place
         }
     }
     Place { day, position }
+}
+
+// What a day is answered where so many days of a run are taken: 13, then 4, then 5.
+pub fn check_next(run: Run, limit: u32, seen: u16, day: &[u32]) -> Result<(), Unfit>
+    ensures { said_of_next result ≡ next_answer run limit seen day.now }
+{
+    if readings::run_days(run) <= seen {
+        return Err(Unfit::DayOut);
+    }
+    if day.len() != readings::day_len(run, seen) {
+        return Err(Unfit::WrongLength);
+    }
+    if let Some(first) = first_above(day, limit) {
+        return Err(Unfit::BadReading(Place {
+            day: seen + 1,
+            position: first as u16,
+        }));
+    }
+    Ok(())
 }
