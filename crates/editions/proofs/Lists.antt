@@ -4,7 +4,7 @@
 use mathlib.Core.Path.{◌≡◌, refl, sym, ◌∙◌, ap}
 use mathlib.Core.Bool.{true, false, ◌||◌, or-true, and-false, cond}
 use mathlib.Core.Logic.{◌↔◌, ⊎_elim}
-use Rattle.std.specs.Prelude.{Result, Ok, Err}
+use Rattle.std.specs.Prelude.{Result, Ok, Err, ⊤}
 use Prim.Native.Nat.{ℕ, ◌+◌, ◌-◌, ◌≤◌, ◌<◌}
 use native.Mathlib.Decide.{dec_lt}
 use native.Mathlib.Omega.{arith}
@@ -228,15 +228,15 @@ module _ {es : Editions} (loads : Loads es) where
       absurd (omega (arith, same)))
 
 -- an answer, back from what it says: so nothing else meets the promise of `load`
-abbrev load_back : Said → Result (Unit {0}) NotLoaded
+abbrev load_back : Said → Result ⊤ NotLoaded
 load_back a = cond (eqb a.number 0) (Ok tt) (Err (record {}))
 
-back : (a : Result (Unit {0}) NotLoaded) → load_back (said_of_loading a) ≡ a
+back : (a : Result ⊤ NotLoaded) → load_back (said_of_loading a) ≡ a
 back (Ok _) = refl
 back (Err _) = refl
 
 pub load_only :
-    {x : Said} {es : Editions} {r s : Result (Unit {0}) NotLoaded} {a b : Editions}
+    {x : Said} {es : Editions} {r s : Result ⊤ NotLoaded} {a b : Editions}
     → (said_of_loading r ≡ x) × (a ≡ es)
     → (said_of_loading s ≡ x) × (b ≡ es)
     → (r ≡ s) × (a ≡ b)

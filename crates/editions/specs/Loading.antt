@@ -1,7 +1,7 @@
 -- Loading the record ed into the list es: 22 for a ninth record, for one out of its ranges, for one that ends before it
 -- begins, and for one that overlaps a loaded one; else 0, and the record stands behind the others. A refused loading
 -- leaves the list as it was. Rules 2.7, 8.1 and 8.3.
-use Rattle.std.specs.Prelude.{Bool, cond, ◌&&◌, ◌||◌, List, ℕ, ◌+◌, ◌≤◌, ◌<◌, leb, ltb, get_or, set, Result, Ok, Err}
+use Rattle.std.specs.Prelude.{Bool, cond, ◌&&◌, ◌||◌, List, ℕ, ◌+◌, ◌≤◌, ◌<◌, leb, ltb, get_or, set, Result, Ok, Err, ⊤}
 use Rattle.ranges.specs.Limits.{outside}
 use Rattle.ranges.specs.Ranges.{any_over}
 use Rattle.answers.specs.declared.Edition.{Edition}
@@ -13,7 +13,7 @@ use Rattle.editions.specs.declared.NotLoaded.{NotLoaded}
 use Rattle.editions.specs.Editions.{editions_most, no_editions, loaded_in, record_at}
 
 -- the number of each case of the code's answer
-abbrev pub said_of_loading : Result (Unit {0}) NotLoaded → Said
+abbrev pub said_of_loading : Result ⊤ NotLoaded → Said
 said_of_loading (Ok _) = only 0
 said_of_loading (Err _) = only 22
 

@@ -10,7 +10,7 @@ ghost use Rattle.readings.specs.Legal.{highest_of};
 ghost use Rattle.legal_readings.specs.Answers.{said_of_unfit};
 ghost use Rattle.sheet.specs.Answers.{said_of_write};
 ghost use Rattle.sheet.specs.Windows.{seasons, flat_windows};
-ghost use Rattle.grid.specs.Answers.{said_of_refusal, said_of_grid, Gives, curve_of, curves_of, grid_open_answer, finish_answer, finished, windows_answer, windows_buffer};
+ghost use Rattle.grid.specs.Answers.{said_of_grid_refusal, said_of_grid, Gives, curve_of, curves_of, grid_open_answer, finish_answer, finished, windows_answer, windows_buffer};
 
 use answers::{Edition, Place};
 use editions::Editions;
@@ -33,7 +33,7 @@ pub enum GridRefusal {
 
 // What refuses the sheet of the windows refuses the series.
 impl From<WriteRefusal> for GridRefusal {
-    ghost from_gives = { λ written refusal. said_of_refusal refusal ≡ said_of_write written };
+    ghost from_gives = { λ written refusal. said_of_grid_refusal refusal ≡ said_of_write written };
 
     fn from(refusal: WriteRefusal) -> GridRefusal {
         match refusal {
@@ -47,7 +47,7 @@ impl From<WriteRefusal> for GridRefusal {
 
 // A day that is not the next of the period is refused by the same number.
 impl From<Unfit> for GridRefusal {
-    ghost from_gives = { λ unfit refusal. said_of_refusal refusal ≡ said_of_unfit unfit };
+    ghost from_gives = { λ unfit refusal. said_of_grid_refusal refusal ≡ said_of_unfit unfit };
 
     fn from(unfit: Unfit) -> GridRefusal {
         match unfit {

@@ -4,7 +4,7 @@ use mathlib.Core.Path.{◌≡◌, refl}
 use Rattle.answers.specs.declared.Place.{Place}
 use Rattle.grid.specs.declared.GridRefusal.{GridRefusal}
 use Rattle.grid.specs.declared.GridRefusal.TheVariants.{Short, YearOut, LevelOut, WrongLength, BadReading, NoPeak, Malformed, DayOut}
-use Rattle.grid.specs.Answers.{said_of_refusal}
+use Rattle.grid.specs.Answers.{said_of_grid_refusal}
 use Rattle.fields.specs.declared.Stage.TheVariants.{Refused}
 use Rattle.fields.specs.Stages.{stage_of, day_stage}
 
@@ -12,7 +12,7 @@ use Rattle.fields.specs.Stages.{stage_of, day_stage}
 pub not_five :
     (e : GridRefusal)
     → ((place : Place) → e ≡ BadReading place → ⊥)
-    → Refused (said_of_refusal e).number ≡ day_stage (said_of_refusal e)
+    → Refused (said_of_grid_refusal e).number ≡ day_stage (said_of_grid_refusal e)
 unfolding stage_of
 not_five Short h = refl
 not_five YearOut h = refl

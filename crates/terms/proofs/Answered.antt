@@ -16,10 +16,10 @@ use Rattle.tariff.specs.Prices.{prices_out}
 use Rattle.terms.specs.Basis.{Basis, basis_year, basis_edition}
 use Rattle.terms.specs.declared.OpenRefusal.{OpenRefusal}
 use Rattle.terms.specs.declared.OpenRefusal.TheVariants.{YearOut, LevelOut, BadHolidays, PriceOut, Malformed}
-use Rattle.terms.specs.Opening.{lists_answer, customer_open_answer, terms_of, no_terms, open_terms, said_of_refusal, Opens}
+use Rattle.terms.specs.Opening.{lists_answer, customer_open_answer, terms_of, no_terms, open_terms, said_of_open_refusal, Opens}
 
 -- what refuses an opening has a number
-pub refuses : (e : OpenRefusal) → eqb (said_of_refusal e).number 0 ≡ false
+pub refuses : (e : OpenRefusal) → eqb (said_of_open_refusal e).number 0 ≡ false
 refuses YearOut = refl
 refuses LevelOut = refl
 refuses BadHolidays = refl
@@ -70,5 +70,5 @@ module _ (k : Basis) where
   unfolding open_terms
   open_taken e = (done_hands (only 0) (terms_of k) no_terms e refl).1
 
-  pub refused : (e : OpenRefusal) → said_of_refusal e ≡ customer_open_answer k → Opens k (Err e)
-  refused e said = record { said = said; terms = open_refused (said_of_refusal e) (refuses e) said }
+  pub refused : (e : OpenRefusal) → said_of_open_refusal e ≡ customer_open_answer k → Opens k (Err e)
+  refused e said = record { said = said; terms = open_refused (said_of_open_refusal e) (refuses e) said }

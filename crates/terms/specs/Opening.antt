@@ -61,16 +61,16 @@ unfoldable pub open_terms : Basis → Terms
 open_terms k = after (customer_open_answer k) (terms_of k) no_terms
 
 -- the number of each refusal of the code, and what opening hands back says, and the terms beside it
-abbrev pub said_of_refusal : OpenRefusal → Said
-said_of_refusal YearOut = only 1
-said_of_refusal LevelOut = only 2
-said_of_refusal BadHolidays = only 3
-said_of_refusal PriceOut = only 6
-said_of_refusal Malformed = only 12
+abbrev pub said_of_open_refusal : OpenRefusal → Said
+said_of_open_refusal YearOut = only 1
+said_of_open_refusal LevelOut = only 2
+said_of_open_refusal BadHolidays = only 3
+said_of_open_refusal PriceOut = only 6
+said_of_open_refusal Malformed = only 12
 
 abbrev pub said_of_opening : Result Terms OpenRefusal → Said
 said_of_opening (Ok terms) = only 0
-said_of_opening (Err refusal) = said_of_refusal refusal
+said_of_opening (Err refusal) = said_of_open_refusal refusal
 
 abbrev pub terms_beside : Result Terms OpenRefusal → Terms
 terms_beside (Ok terms) = terms

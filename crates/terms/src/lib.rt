@@ -8,7 +8,7 @@ ghost use Rattle.std.specs.Prelude.{◌≡◌};
 ghost use Rattle.sheet.specs.Answers.{said_of_read};
 ghost use Rattle.tariff.specs.Answers.{said_of};
 ghost use Rattle.terms.specs.Basis.{basis};
-ghost use Rattle.terms.specs.Opening.{said_of_refusal, no_terms, Opens};
+ghost use Rattle.terms.specs.Opening.{said_of_open_refusal, no_terms, Opens};
 
 use answers::Edition;
 use editions::Editions;
@@ -36,7 +36,7 @@ pub enum OpenRefusal {
 }
 
 impl From<ReadRefusal> for OpenRefusal {
-    ghost from_gives = { λ a r. said_of_refusal r ≡ said_of_read a };
+    ghost from_gives = { λ a r. said_of_open_refusal r ≡ said_of_read a };
 
     fn from(refusal: ReadRefusal) -> OpenRefusal {
         match refusal {
@@ -48,7 +48,7 @@ impl From<ReadRefusal> for OpenRefusal {
 }
 
 impl From<OpenRefusal> for Decision {
-    ghost from_gives = { λ a r. said_of r ≡ said_of_refusal a };
+    ghost from_gives = { λ a r. said_of r ≡ said_of_open_refusal a };
 
     fn from(refusal: OpenRefusal) -> Decision {
         match refusal {
