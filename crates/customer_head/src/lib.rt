@@ -58,11 +58,7 @@ pub fn holiday_count(head: &[u8]) -> usize
     ensures { (result ≡ holiday_count head.now) × (result ≤ 40) }
 {
     let n = encoding::byte_at(head, COUNT_AT, 0) as usize;
-    if n < answers::HOLIDAYS_MOST {
-        n
-    } else {
-        answers::HOLIDAYS_MOST
-    }
+    n.min(answers::HOLIDAYS_MOST)
 }
 
 // Where field k, from 0, stands, whatever the list of editions; behind the last field this is no byte, at the header's
@@ -102,32 +98,20 @@ fn first_fails(editions: Editions, head: &[u8], k: usize) -> bool
     requires { k < 12 }
     ensures { result ≡ not (eqb ((customer_layout editions head.now).refusal k) 0) }
 {
-    if k < 1 {
-        return encoding::other_mark(head, 0, b"CUS");
+    match k {
+        0 => encoding::other_mark(head, 0, b"CUS"),
+        1 => encoding::two_at(head, VERSION_AT) != encoding::FORMAT_VERSION,
+        2 => encoding::other_mark(head, SHEET_AT, b"HLZ"),
+        3 => encoding::two_at(head, SHEET_VERSION_AT) != encoding::FORMAT_VERSION,
+        4 => editions::year_out(editions, encoding::two_at(head, YEAR_AT)),
+        5 => answers::level_out(encoding::byte_at(head, LEVEL_AT, 0)),
+        10 => 1 < encoding::byte_at(head, OPTION_AT, 0),
+        11 => answers::HOLIDAYS_MOST < encoding::byte_at(head, COUNT_AT, 0) as usize,
+        season => {
+            let edition = editions::pick(editions, encoding::two_at(head, YEAR_AT));
+            sheet_read::season_full(edition, head, SEASONS_AT + 12 * (season - 6))
+        }
     }
-    if k < 2 {
-        return encoding::two_at(head, VERSION_AT) != encoding::FORMAT_VERSION;
-    }
-    if k < 3 {
-        return encoding::other_mark(head, SHEET_AT, b"HLZ");
-    }
-    if k < 4 {
-        return encoding::two_at(head, SHEET_VERSION_AT) != encoding::FORMAT_VERSION;
-    }
-    if k < 5 {
-        return editions::year_out(editions, encoding::two_at(head, YEAR_AT));
-    }
-    if k < 6 {
-        return answers::level_out(encoding::byte_at(head, LEVEL_AT, 0));
-    }
-    if k < 10 {
-        let edition = editions::pick(editions, encoding::two_at(head, YEAR_AT));
-        return sheet_read::season_full(edition, head, SEASONS_AT + 12 * (k - 6));
-    }
-    if k < 11 {
-        return 1 < encoding::byte_at(head, OPTION_AT, 0);
-    }
-    answers::HOLIDAYS_MOST < encoding::byte_at(head, COUNT_AT, 0) as usize
 }
 
 // The holiday before holiday j, from 0; 0 before the first, so that the first may be any day from 1 on.

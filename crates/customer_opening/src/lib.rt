@@ -2,7 +2,7 @@
 // the last byte there is 0, so that the call answers for any bytes. Rules 9.5 and 10.3.
 #![tactic(auto)]
 
-ghost use Rattle.std.specs.Prelude.{◌≡◌, min, take};
+ghost use Rattle.std.specs.Prelude.{◌≡◌, take};
 ghost use Rattle.customer_head.specs.Header.{holiday_count, holidays_of, prices_in};
 ghost use Rattle.customer_opening.specs.Opening.{opened_in};
 
@@ -10,20 +10,14 @@ use customer_days::Customer;
 use editions::Editions;
 use tariff::{Prices, Row};
 
-// The smaller of two places.
-fn earlier(a: usize, b: usize) -> usize
-    ensures { result ≡ min a b }
-{
-    if a < b { a } else { b }
-}
-
 // The holidays, with 0 behind the last.
 fn holidays_of(head: &[u8]) -> [u16; answers::HOLIDAYS_MOST]
     ensures { take (holiday_count head.now) result ≡ holidays_of head.now }
 {
     let mut out = [0; answers::HOLIDAYS_MOST];
-    for j in 0..customer_head::holiday_count(head) {
-        out[j] = encoding::two_at(
+    let n = customer_head::holiday_count(head);
+    for (j, day) in out[..n].iter_mut().enumerate() {
+        *day = encoding::two_at(
             head,
             customer_head::HOLIDAYS_AT + customer_head::HOLIDAY_BYTES * j,
         );
@@ -57,8 +51,8 @@ pub fn opened(editions: Editions, head: &[u8]) -> Customer
     let list = holidays_of(head);
     let prices = prices_of(head);
     let option = encoding::byte_at(head, customer_head::OPTION_AT, 0) == 1;
-    let from = earlier(customer_head::SHEET_AT, head.len());
-    let to = earlier(customer_head::OPTION_AT, head.len());
+    let from = customer_head::SHEET_AT.min(head.len());
+    let to = customer_head::OPTION_AT.min(head.len());
     let step = Customer::open(editions, &head[from..to], &list[..n], prices, option);
     step.customer
 }

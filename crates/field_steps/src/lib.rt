@@ -15,15 +15,11 @@ use fields::Stage;
 pub fn is_going(stage: Stage) -> bool
     ensures { result ≡ going stage }
 {
-    match stage {
-        Stage::Going => true,
-        Stage::Refused(number) => false,
-        Stage::BadReading(place) => false,
-        Stage::Complete => false,
-    }
+    stage == Stage::Going
 }
 
 // The number that refuses a field which fails its test, and 0 for one that passes.
+// Kept: the layouts, the stages and what is printed speak of this number; an enum would be turned into it at once.
 pub fn number_if(fails: bool, number: u8) -> u8
     ensures { result ≡ number_if fails number }
 {
@@ -35,8 +31,8 @@ pub fn readings_in(b: &[u8]) -> [u32; readings::MOST_READINGS]
     ensures { result ≡ table (λ (i : ℕ). four_at b.now (reading_bytes * i)) most_readings }
 {
     let mut out = [0; readings::MOST_READINGS];
-    for i in 0..readings::MOST_READINGS {
-        out[i] = encoding::four_at(b, fields::READING_BYTES * i);
+    for (i, reading) in out.iter_mut().enumerate() {
+        *reading = encoding::four_at(b, fields::READING_BYTES * i);
     }
     out
 }

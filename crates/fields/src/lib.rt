@@ -18,7 +18,7 @@ pub struct Span {
 
 // Where a machine stands: it goes on; it has ended with a number that has no figures, or with 5 and its place; it has
 // all days and no byte is left.
-#[derive(Clone, Copy)]
+#[derive(Clone, Copy, PartialEq, Eq)]
 pub enum Stage {
     Going,
     Refused(u8),

@@ -20,6 +20,7 @@ use std::{fs, io};
 // No path has more bytes.
 const NAME_MOST: usize = 4096;
 
+// Kept: one function for both would take the text's call as a closure with clauses of its own, longer than the two.
 fn print_windows<R: Read>(rt: &impl Print, input: &mut R, editions: Editions) -> io::Result<()> {
     let mut text = [0u8; texts::TEXT_MOST];
     let n = grid_text::text(drive::drive(input, editions)?, &mut text);

@@ -1,5 +1,5 @@
--- The machine that reads a file with a series of its own, as a reader (room `fields`, specs/Machine): what it holds, and
--- its steps. Rules 10.4 and 10.5.
+-- The machine that reads a file with a series of its own, as a reader (room `fields`, specs/Machine): what it holds,
+-- and its steps. Rules 10.4 and 10.5.
 use Rattle.std.specs.Prelude.{◌≡◌, false, List, ℕ, ◌+◌, ◌≤◌, eqb, replicate}
 use Rattle.answers.specs.Said.{Said}
 use Rattle.editions.specs.declared.Editions.{Editions}

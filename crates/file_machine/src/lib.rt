@@ -1,6 +1,6 @@
 // The machine that reads a file, whatever its series: a program asks it how many bytes come next (`want`) and hands
-// them on (`feed`), fewer where the file has ended. Each field and each day is tested once all its bytes are there. What
-// is a file's own (its header's fields, and the series that they open and that takes the days) it has by the trait
+// them on (`feed`), fewer where the file has ended. Each field and each day is tested once all its bytes are there.
+// What is a file's own (its header's fields, and the series that they open and that takes the days) it has by the trait
 // `Series`. It meets specs/FileMachine, and `fields`, specs/Machine. Rules 10.4 and 10.5.
 #![tactic(auto)]
 
@@ -52,8 +52,8 @@ pub trait Series<const N: usize>: Copy {
         ensures { result ≡ (day_stage (kind.said self day.now), kind.added self day.now) };
 }
 
-// A file that is being read: the list of editions that it is read by, how many fields are taken, the header's bytes, the
-// series with the days taken, and where the machine stands.
+// A file that is being read: the list of editions that it is read by, how many fields are taken, the header's bytes,
+// the series with the days taken, and where the machine stands.
 #[derive(Clone, Copy)]
 pub struct File<S, const N: usize> {
     pub editions: Editions,
@@ -140,7 +140,11 @@ impl<S: Series<N>, const N: usize> File<S, N> {
         }
         let readings = field_steps::readings_in(b);
         let (stage, series) = self.series.day(&readings[..n]);
-        File { series, stage, ..self }
+        File {
+            series,
+            stage,
+            ..self
+        }
     }
 
     // Behind the last day: a byte that is there is 4.

@@ -12,13 +12,13 @@ use editions::Editions;
 use fields::Span;
 use grid_days::Grid;
 
-// How many fields the header has; where each starts, and how many bytes it takes, field 0 (the mark) first; how many
-// bytes the header has.
-const FIELDS: usize = 4;
-
-const STARTS: [usize; FIELDS] = [0, 3, 5, 7];
-
-const WIDTHS: [usize; FIELDS] = [3, 2, 2, 1];
+// Where the header's fields stand, field 0 (the mark) first; how many bytes the header has.
+const SPANS: [Span; 4] = [
+    Span { start: 0, width: 3 },
+    Span { start: 3, width: 2 },
+    Span { start: 5, width: 2 },
+    Span { start: 7, width: 1 },
+];
 
 pub const GRID_HEAD_MOST: usize = 8;
 
@@ -34,11 +34,8 @@ const LEVEL_AT: usize = 7;
 pub fn span_of(head: &[u8], k: usize) -> Span
     ensures { (es : Editions) → result ≡ field_span (grid_layout es head.now) k }
 {
-    if k < FIELDS {
-        return Span {
-            start: STARTS[k],
-            width: WIDTHS[k],
-        };
+    if k < SPANS.len() {
+        return SPANS[k];
     }
     Span {
         start: GRID_HEAD_MOST,
@@ -50,25 +47,19 @@ pub fn span_of(head: &[u8], k: usize) -> Span
 pub fn refusal(editions: Editions, head: &[u8], k: usize) -> u8
     ensures { result ≡ (grid_layout editions head.now).refusal k }
 {
-    if k < 1 {
-        return field_steps::number_if(encoding::other_mark(head, 0, b"GRD"), 12);
-    }
-    if k < 2 {
-        return field_steps::number_if(
+    match k {
+        0 => field_steps::number_if(encoding::other_mark(head, 0, b"GRD"), 12),
+        1 => field_steps::number_if(
             encoding::two_at(head, VERSION_AT) != encoding::FORMAT_VERSION,
             12,
-        );
-    }
-    if k < 3 {
-        return field_steps::number_if(
+        ),
+        2 => field_steps::number_if(
             editions::year_out(editions, encoding::two_at(head, YEAR_AT)),
             1,
-        );
+        ),
+        3 => field_steps::number_if(answers::level_out(encoding::byte_at(head, LEVEL_AT, 0)), 2),
+        _ => 0,
     }
-    if k < 4 {
-        return field_steps::number_if(answers::level_out(encoding::byte_at(head, LEVEL_AT, 0)), 2);
-    }
-    0
 }
 
 // The series that the header opens; where year or level is refused, the fixed state of a refused opening (Rule 9.5).
