@@ -1,6 +1,6 @@
 // A file's machine, driven over what a program reads: each turn hands it as many bytes as it wants, fewer where the
-// input ends. Nothing is decided here: `want` of room `file_machine` says how many bytes are read next, and `feed` tests
-// them. It meets `driven` of `fields`, specs/File. Rules 10.4 and 10.5.
+// input ends. Nothing is decided here: `want` of room `file_machine` says how many bytes are read next, and `feed`
+// tests them. It meets `driven` of `fields`, specs/File. Rules 10.4 and 10.5.
 #![tactic(auto)]
 
 ghost use Rattle.std.specs.Prelude.{◌≡◌, ◌≤◌, Some, IfOk, IfSome, take, drop};

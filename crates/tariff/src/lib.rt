@@ -97,7 +97,7 @@ pub struct PricesOut;
 // What the decision answers, and the calls around it in the rooms above: 0 with the charge, 0 with yes, 0 of an opening
 // or a day that is taken, 1, 2, 3, 4, 5 with its place, 6, 8, 9, 10, 11, 12, 13. Proofs name a case by its place in
 // this list, from 0: so a new case stands last, and no other moves.
-// Kept: one enum and no Result. Most of what is no 0 has figures to pay by, and an answer's cases hold its figures.
+// Kept: one enum and no Result: document 01 gives what a decision answers this form (docs/DECISIONS.md).
 #[derive(Clone, Copy)]
 pub enum Decision {
     Accepted(Charged),

@@ -21,7 +21,8 @@ these e = counted _ _ e.well_formed.0.1.1.1.0.1.0.1 e.loaded_in.ensures.0
 pub returns : goal.returns
 unfolding overlaps
 returns c =
-    any_from_yields_List (λ ed. meets ed c.args.edition) _ _ _ c.any.ensures.ran (YieldsList-from_slice (take c.loaded_in.result c.args.editions.records) cc) (λ x b q k. search rules)
+    let counting = take c.loaded_in.result c.args.editions.records in
+    any_from_yields_List (λ ed. meets ed c.args.edition) _ _ _ c.any.ensures.ran (YieldsList-from_slice counting cc) (λ x b q k. search rules)
     ∙ any_listed (λ ed. meets ed c.args.edition) no_record _
     ∙ ap (any_over _) (these c).long
     ∙ any_cong _ _ _ (λ k h. ap (λ (ed : Edition). meets ed c.args.edition) ((these c).each k h))

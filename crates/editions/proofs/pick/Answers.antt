@@ -19,15 +19,16 @@ returns-then-not-lacks_year c =
     let same = these (goal.at.returns-then-not-lacks_year c).After-loaded_in in
     let k = c.loop-record.record-index in
     let h : k < loaded_in c.args.editions = omega (arith, same.long) in
+    let its_year = ap (λ (ed : Edition). lacks_year ed c.args.year) (sym (same.each k h)) in
     same.each k h
-    ∙ sym (picked_at _ _ k h (ap not (ap (λ (ed : Edition). lacks_year ed c.args.year) (sym (same.each k h)) ∙ sym c.lacks_year.ensures ∙ c.if-not-lacks_year.true)) c.loop-record.invariant)
+    ∙ sym (picked_at _ _ k h (ap not (its_year ∙ sym c.lacks_year.ensures ∙ c.if-not-lacks_year.true)) c.loop-record.invariant)
 
 pub loop-record-preserved : goal.loop-record-preserved
 loop-record-preserved c =
     let same = these (goal.at.loop-record-preserved c).After-loaded_in in
     let k = c.loop-record.record-index in
-    passed_more c.loop-record.invariant
-    (ap not (ap (λ (ed : Edition). lacks_year ed c.args.year) (sym (same.each k (omega (arith, same.long)))) ∙ sym c.lacks_year.ensures ∙ c.if-not-lacks_year.false))
+    let its_year = ap (λ (ed : Edition). lacks_year ed c.args.year) (sym (same.each k (omega (arith, same.long)))) in
+    passed_more c.loop-record.invariant (ap not (its_year ∙ sym c.lacks_year.ensures ∙ c.if-not-lacks_year.false))
 
 pub returns : goal.returns
 returns c =

@@ -6,7 +6,8 @@ use Rattle.holidays.proofs.bad_holidays.Goals as goal
 
 pub returns-then-bad_holiday : goal.returns-then-bad_holiday
 returns-then-bad_holiday c =
-    bad_at_law _ _ c.loop-day.day-index (entry _ _ c.loop-day.day-index c.loop-day.invariant.0 (sym c.bad_holiday.ensures ∙ c.if-bad_holiday.true)) (omega arith)
+    let bad = sym c.bad_holiday.ensures ∙ c.if-bad_holiday.true in
+    bad_at_law _ _ c.loop-day.day-index (entry _ _ c.loop-day.day-index c.loop-day.invariant.0 bad) (omega arith)
 
 pub loop-day-preserved : goal.loop-day-preserved
 loop-day-preserved c =

@@ -1,5 +1,5 @@
--- `day_figures::MaskedRow::take_masked` meets its contract: the day's in-window peak counts where it is the year's first
--- or higher than all before.
+-- `day_figures::MaskedRow::take_masked` meets its contract: the day's in-window peak counts where it is the year's
+-- first or higher than all before.
 -- Assumes nothing.
 use mathlib.Core.Path.{◌≡◌, refl, ◌∙◌}
 use native.Mathlib.Omega.{arith}
