@@ -42,6 +42,7 @@ pub const MOST_READINGS: usize = 100;
 
 // The number of taken days in the state of a refused opening: more than any run has, so that it takes no day and never
 // closes (Rule 9.5).
+// Kept: a number, since a refused opening hands back a fixed state whose figures the contracts name (Rule 9.5).
 pub const SHUT_DAYS: u16 = 65535;
 
 // How many days a run has.
@@ -71,6 +72,8 @@ pub fn change_of(run: Run) -> Change
 }
 
 // How many readings a day, from 0, has where these are the two Sundays.
+// Kept: `len_by` and `span_by` are functions and no methods: docs and callers in five crates name them, and no invariant
+// stands behind them, as any two Sundays have an answer.
 pub fn len_by(change: Change, d: u16) -> usize
     ensures { result ≡ len_by change d }
 {
@@ -96,7 +99,7 @@ pub fn span_by(change: Change, d: u16) -> DaySpan
     ensures { result ≡ span_by change d }
 {
     let len = len_by(change, d);
-    let usual = answers::DAY_QUARTERS * d as usize;
+    let usual = answers::DAY_QUARTERS * usize::from(d);
     let lost = four_before(change.short, d);
     if change.long == change.short {
         return DaySpan {
@@ -130,7 +133,7 @@ fn latest(run: Run) -> Change
 fn is_outside(first: u16, last: u16, d: u16) -> bool
     ensures { result ≡ outside first last d }
 {
-    (d < first) | (last < d)
+    !(first..=last).contains(&d)
 }
 
 // How many readings a day of a run, from 0, has: for days that come singly. The run's own Sundays are asked for only
@@ -170,7 +173,7 @@ pub fn quarter_in(n: usize, position: usize) -> usize
 pub fn run_readings(run: Run) -> usize
     ensures { result ≡ run_readings run }
 {
-    answers::DAY_QUARTERS * run_days(run) as usize
+    answers::DAY_QUARTERS * usize::from(run_days(run))
 }
 
 // The charge year that a run belongs to.
@@ -178,8 +181,7 @@ fn run_year(run: Run) -> u16
     ensures { result ≡ run_year run }
 {
     match run {
-        Run::Year(year) => year,
-        Run::Period(year) => year,
+        Run::Year(year) | Run::Period(year) => year,
     }
 }
 
@@ -187,11 +189,12 @@ fn run_year(run: Run) -> u16
 fn no_day(run: Run, day: usize) -> bool
     ensures { result ≡ no_day run day }
 {
-    (day == 0) | ((run_days(run) as usize) < day)
+    (day == 0) | (usize::from(run_days(run)) < day)
 }
 
 // The part of a series that is a day, from 1, of a run of any charge year: empty where the run has no such day, and for
 // a day of which the series does not have all readings.
+// Kept: `as u16`, since a day of a run always fits, and `try_from` would ask for an answer to a refusal that cannot be.
 pub fn run_part(run: Run, series: &[u32], day: usize) -> &[u32]
     ensures { result.now ≡ run_part run series.now day }
 {

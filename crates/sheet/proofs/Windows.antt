@@ -1,17 +1,24 @@
 -- Laws of a sheet's windows: which quarter is set, how many are set in a season, and the chosen quarters laid flat.
 -- Assumes nothing.
-use mathlib.Core.Path.{◌≡◌, ◌∙◌}
+use mathlib.Core.Path.{◌≡◌, ap, ◌∙◌}
 use mathlib.Core.Bool.{Bool, true, false, ◌||◌}
 use mathlib.Core.Logic.{◌↔◌}
 use mathlib.Core.List.{List, []}
-use Prim.Native.Nat.{ℕ, ◌+◌, ◌-◌, ◌/◌, ◌%◌, ◌≤◌, ◌<◌}
+use Prim.Native.Nat.{ℕ, zero, suc, ◌+◌, ◌-◌, ◌*◌, ◌/◌, ◌%◌, ◌≤◌, ◌<◌}
+use native.Mathlib.Nat.{not-suc-le-zero}
+use native.Mathlib.Numerals.{unary_clauses}
 use native.Mathlib.Omega.{arith}
 use borrow.Author.Tests.{lt-ltb, le-ltb, le-leb, ltb-false}
 use lib.Dec.{ltb}
-use lib.ListN.{length, get_or}
+use lib.ListN.{length, get_or, take, drop, length-drop}
+use lib.Seq.{drop-drop}
+use Rattle.std.specs.List.{count_by}
+use Rattle.std.specs.Simd.{first_chunks}
+use Rattle.std.proofs.lemmas.List.{get_or-drop}
 use Rattle.ranges.specs.Limits.{Within}
 use Rattle.ranges.specs.Ranges.{joined, any_over}
-use Rattle.ranges.proofs.Tests.{any_at, any_fails, all_passed}
+use Rattle.ranges.proofs.Tests.{any_at, any_fails, all_passed, count_cong}
+use Rattle.ranges.proofs.Counts.{count_first}
 use Rattle.ranges.proofs.Tables.{length_table, get_d_table}
 use Rattle.answers.specs.declared.Edition.{Edition}
 use Rattle.answers.specs.Ruling.{day_quarters}
@@ -49,6 +56,30 @@ too_full_law ed w a b c d p q r s = rw (p, q, r, s)
 pub full_season : (ed : Edition) (w : List Bool) (k : ℕ) → k < seasons → too_many ed (set_in w (k + 1)) ≡ true → too_full ed w ≡ true
 unfolding too_full
 full_season ed w k l t = any_at (λ j. too_many ed (set_in w (j + 1))) seasons k l t
+
+-- the seasons' lists, cut out of all windows one after the other
+pub chunk_at : {A : Type 0} (n m : ℕ) (xs : List A) (k : ℕ) (d : List A) → k < m → get_or (first_chunks n m xs) k d ≡ take n (drop (n * k) xs)
+chunk_at n zero xs k d l = absurd (not-suc-le-zero l)
+chunk_at n (suc m) xs zero d l =
+    let e : 0 ≡ n * 0 = omega arith in
+    ap (λ (i : ℕ). take n (drop i xs)) e
+chunk_at n (suc m) xs (suc k) d l =
+    let e : n + n * k ≡ n * suc k = simp unary_clauses (omega arith) in
+    chunk_at n m (drop n xs) k d (omega (arith, l)) ∙ ap (take n) (drop-drop (n * k) n xs) ∙ ap (λ (i : ℕ). take n (drop i xs)) e
+
+-- how many quarters are set in such a list
+pub season_cut :
+    (w : List Bool) (k : ℕ)
+    → length w ≡ window_places
+    → k < seasons
+    → count_by (λ b. b) (take day_quarters (drop (day_quarters * k) w)) ≡ set_in w (k + 1)
+unfolding set_in
+season_cut w k h l =
+    count_first (λ b. b) false (drop (day_quarters * k) w) day_quarters (omega (arith, length-drop (day_quarters * k) w, h))
+    ∙ count_cong _ _ day_quarters
+    (λ q m.
+        let e : day_quarters * k + q ≡ quarter_place (k + 1) q = omega arith in
+        get_or-drop (day_quarters * k) w q false ∙ ap (λ (i : ℕ). get_or w i false) e)
 
 -- the chosen quarters, laid flat
 pub length_flat : (chosen : List (List Bool)) → length (flat_windows chosen) ≡ window_places

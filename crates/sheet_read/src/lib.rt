@@ -4,7 +4,7 @@
 
 ghost use Rattle.std.specs.Prelude.{◌≡◌, ◌<◌, length};
 ghost use Rattle.std.specs.List.{list_any};
-ghost use Rattle.sheet.specs.Bytes.{sheet_size, bit_of, windows_in, season_full};
+ghost use Rattle.sheet.specs.Bytes.{sheet_size, bit_of, windows_in, set_from, season_full};
 ghost use Rattle.sheet.specs.Answers.{shown_of, read_of};
 ghost use Rattle.sheet_read.specs.Editions.{sheet_edition};
 
@@ -39,16 +39,21 @@ fn unpack(b: &[u8]) -> [bool; sheet::WINDOW_PLACES]
     windows
 }
 
+// How many quarters are set in the twelve bytes of a season, which begin at place i, from 0.
+fn set_from(b: &[u8], i: usize) -> usize
+    ensures { result ≡ set_from b.now i }
+{
+    (0..answers::DAY_QUARTERS)
+        .filter(|q| bit_at(encoding::byte_at(b, i, *q / 8), *q % 8))
+        .count()
+}
+
 // Are more quarters set in the twelve bytes of a season, which begin at place i, from 0, than an edition's limit? Any
 // edition, any bytes and any place have an answer.
 pub fn season_full(edition: Edition, b: &[u8], i: usize) -> bool
     ensures { result ≡ season_full edition b.now i }
 {
-    let mut n: usize = 0;
-    for q in 0..answers::DAY_QUARTERS {
-        n += answers::one_if(bit_at(encoding::byte_at(b, i, q / 8), q % 8));
-    }
-    usize::from(edition.limit) < n
+    usize::from(edition.limit) < set_from(b, i)
 }
 
 // Does some season in a sheet's bytes have more set quarters than an edition's limit?

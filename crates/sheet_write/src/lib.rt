@@ -3,10 +3,9 @@
 // `sheet`.
 #![tactic(auto)]
 
-ghost use Rattle.std.specs.Prelude.{◌≡◌, ◌≤◌, ◌<◌, ◌++◌, length, drop};
-ghost use Rattle.ranges.specs.Limits.{Within};
+ghost use Rattle.std.specs.Prelude.{◌≡◌, ◌≤◌, ◌<◌, ◌++◌, length, drop, count_by};
 ghost use Rattle.editions.specs.Editions.{edition_of};
-ghost use Rattle.sheet.specs.Windows.{seasons, set_in, too_full};
+ghost use Rattle.sheet.specs.Windows.{too_full};
 ghost use Rattle.sheet.specs.Bytes.{window_bytes, sheet_size, window_byte, byte_at, bytes_of};
 ghost use Rattle.sheet.specs.Answers.{said_of_written, write_answer, written};
 
@@ -14,27 +13,21 @@ use answers::Edition;
 use editions::Editions;
 use sheet::{Sheet, WriteRefusal};
 
-// How many quarters of a season, from 1, are set.
-fn set_in(windows: &[bool; sheet::WINDOW_PLACES], season: usize) -> usize
-    requires { Within 1 seasons season }
-    ensures { result ≡ set_in windows.now season }
+// How many of a season's quarters are set.
+fn set_in(season: &[bool; answers::DAY_QUARTERS]) -> usize
+    ensures { result ≡ count_by (λ set. set) season.now }
 {
-    let mut n: usize = 0;
-    for q in 0..answers::DAY_QUARTERS {
-        n += answers::one_if(windows[answers::DAY_QUARTERS * (season - 1) + q]);
-    }
-    n
+    season.iter().filter(|set| **set).count()
 }
 
 // Does some season have more set quarters than an edition's limit?
 fn too_full(edition: Edition, windows: &[bool; sheet::WINDOW_PLACES]) -> bool
     ensures { result ≡ too_full edition windows.now }
 {
-    let most = usize::from(edition.limit);
-    (most < set_in(windows, 1))
-        | (most < set_in(windows, 2))
-        | (most < set_in(windows, 3))
-        | (most < set_in(windows, 4))
+    let (seasons, _) = windows.as_chunks::<{ answers::DAY_QUARTERS }>();
+    seasons
+        .iter()
+        .any(|season| usize::from(edition.limit) < set_in(season))
 }
 
 // Byte k, from 0, of the windows: eight quarters, the earliest is the highest bit.
@@ -43,8 +36,8 @@ fn pack(windows: &[bool; sheet::WINDOW_PLACES], k: usize) -> u8
     ensures { result ≡ window_byte windows.now k }
 {
     let mut byte: usize = 0;
-    for j in 0..8 {
-        byte = 2 * byte + answers::one_if(windows[8 * k + j]);
+    for set in &windows[8 * k..8 * k + 8] {
+        byte = 2 * byte + usize::from(*set);
     }
     byte as u8
 }
@@ -77,8 +70,8 @@ fn fill(year: u16, level: u8, windows: &[bool; sheet::WINDOW_PLACES], out: &mut 
         year_low,
         level,
     ];
-    for i in 0..sheet::SHEET_SIZE {
-        out[i] = byte_at(&head, windows, i);
+    for (i, byte) in out[..sheet::SHEET_SIZE].iter_mut().enumerate() {
+        *byte = byte_at(&head, windows, i);
     }
 }
 

@@ -14,7 +14,7 @@ use Rattle.ranges.specs.Ranges.{any_over}
 use Rattle.ranges.proofs.Tests.{Passed, any_at, any_fails}
 use Rattle.std.specs.List.{AllWithin, HoldsAt}
 use Rattle.std.specs.Simd.{first_chunks}
-use Rattle.sheet.proofs.Windows.{set_at}
+use Rattle.sheet.proofs.Windows.{set_at, chunk_at}
 use lib.Seq.{drop-drop}
 use native.Mathlib.Nat.{not-suc-le-zero}
 use native.Mathlib.Numerals.{unary_clauses}
@@ -141,16 +141,6 @@ pub none_set :
     → AllWithin (λ x. beq x true ≡ false) set 0 (length set)
     → any_over (quarters set) day_quarters ≡ false
 none_set set long h = any_fails (quarters set) day_quarters (λ k l. is_false _ (h k false (omega arith) (omega (arith, long))))
-
--- the seasons' lists, cut out of all windows one after the other
-chunk_at : {A : Type 0} (n m : ℕ) (xs : List A) (k : ℕ) (d : List A) → k < m → get_or (first_chunks n m xs) k d ≡ take n (drop (n * k) xs)
-chunk_at n zero xs k d l = absurd (not-suc-le-zero l)
-chunk_at n (suc m) xs zero d l =
-    let e : 0 ≡ n * 0 = omega arith in
-    ap (λ (i : ℕ). take n (drop i xs)) e
-chunk_at n (suc m) xs (suc k) d l =
-    let e : n + n * k ≡ n * suc k = simp unary_clauses (omega arith) in
-    chunk_at n m (drop n xs) k d (omega (arith, l)) ∙ ap (take n) (drop-drop (n * k) n xs) ∙ ap (λ (i : ℕ). take n (drop i xs)) e
 
 -- behind the day no quarter is set
 set_past : (w : List Bool) (s q : ℕ) → Within 1 seasons s → day_quarters ≤ q → false ≡ is_set w s q

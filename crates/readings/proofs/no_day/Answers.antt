@@ -1,6 +1,8 @@
 -- `readings::no_day` meets its contract, test by test.
 -- Assumes nothing.
+use mathlib.Core.Path.{ap, ◌∙◌}
 use mathlib.Core.Bool.{◌||◌}
+use Prim.Native.Nat.{ℕ}
 use lib.Dec.{ltb, eqb}
 use Rattle.readings.specs.Part.{no_day}
 use Rattle.readings.proofs.no_day.Goals as goal
@@ -9,4 +11,4 @@ pub returns : goal.returns
 unfolding no_day
 returns c =
     let day = c.args.day in
-    λ i. eqb day 0 || ltb (c.run_days.ensures i) day
+    ap (λ (days : ℕ). eqb day 0 || ltb days day) (c.from.ensures ∙ c.run_days.ensures)

@@ -7,4 +7,4 @@ use Rattle.readings.proofs.Runs.{keeps_length}
 use Rattle.readings.proofs.run_readings.Goals as goal
 
 pub returns : goal.returns
-returns c = ap (λ (n : ℕ). day_quarters * n) c.run_days.ensures ∙ sym (keeps_length _)
+returns c = ap (λ (n : ℕ). day_quarters * n) (c.from.ensures ∙ c.run_days.ensures) ∙ sym (keeps_length _)

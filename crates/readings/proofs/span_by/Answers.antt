@@ -9,14 +9,16 @@ overflow_add-result c = omega (arith, c.four_before.ensures.1)
 
 pub overflow_sub-result-2 : goal.overflow_sub-result-2
 overflow_sub-result-2 c =
-    (span_apart _ _ c.four_before-lost.ensures.0 c.len_by-len.ensures c.if-change.false c.four_before.ensures.0).0
+    rw c.from-usual.ensures ((span_apart _ _ c.four_before-lost.ensures.0 c.len_by-len.ensures c.if-change.false c.four_before.ensures.0).0)
 
 pub returns : goal.returns
 returns c =
-    (span_apart _ _ c.four_before-lost.ensures.0 c.len_by-len.ensures c.if-change.false c.four_before.ensures.0).1
+    rw c.from-usual.ensures ((span_apart _ _ c.four_before-lost.ensures.0 c.len_by-len.ensures c.if-change.false c.four_before.ensures.0).1)
 
 pub overflow_sub-result : goal.overflow_sub-result
-overflow_sub-result c = (span_one _ _ c.four_before-lost.ensures.0 c.len_by-len.ensures c.if-change.true).0
+overflow_sub-result c =
+    rw c.from-usual.ensures ((span_one _ _ c.four_before-lost.ensures.0 c.len_by-len.ensures c.if-change.true).0)
 
 pub returns-then-change : goal.returns-then-change
-returns-then-change c = (span_one _ _ c.four_before-lost.ensures.0 c.len_by-len.ensures c.if-change.true).1
+returns-then-change c =
+    rw c.from-usual.ensures ((span_one _ _ c.four_before-lost.ensures.0 c.len_by-len.ensures c.if-change.true).1)

@@ -1,7 +1,6 @@
 -- `sheet_read::unpack` meets its contract. The loop's invariant: the first p quarters are filled in.
 -- Assumes nothing.
 use mathlib.Core.Bool.{false}
-use Prim.Native.Nat.{◌-◌}
 use Rattle.sheet.specs.Windows.{window_places}
 use Rattle.sheet.specs.Bytes.{window_at}
 use Rattle.ranges.proofs.Tables.{Filled}

@@ -1,17 +1,16 @@
-use mathlib.Core.Path.{◌≡◌, ap, ◌∙◌}
-use mathlib.Core.List.{List, [], ◌∷◌}
+use mathlib.Core.Path.{◌≡◌, refl, sym, ap, ◌∙◌}
+use mathlib.Core.List.{List, [], ◌∷◌, ◌++◌}
 use Prim.Native.Nat.{ℕ, ◌/◌, ◌%◌}
-use lib.ListN.{get_or}
+use lib.ListN.{get_or, drop}
+use lib.Seq.{length-take-le}
 use native.Mathlib.Omega.{arith}
-use Rattle.sheet.specs.Bytes.{bytes_of, byte_at}
-use Rattle.ranges.proofs.Buffers.{copied_none, copied_more, copied_all}
+use Rattle.sheet.specs.Bytes.{sheet_size, bytes_of, byte_at}
+use Rattle.ranges.proofs.Tables.{is_table, filled_none, filled_more, filled_all}
 use Rattle.sheet.proofs.Bytes.{length_bytes, head_of, byte_at_law}
 use Rattle.sheet_write.proofs.fill.Goals as goal
 
 pub loop-i-init : goal.loop-i-init
-loop-i-init c =
-    let a = c.args in
-    copied_none (bytes_of a.year a.level a.windows.now) _ (omega (arith, length_bytes a.year a.level a.windows.now))
+loop-i-init c = filled_none (length-take-le _ _ c.requires)
 
 pub loop-i-preserved : goal.loop-i-preserved
 loop-i-preserved c =
@@ -24,14 +23,13 @@ loop-i-preserved c =
     ap (λ (v : List ℕ). head v years) c.to_be_bytes.ensures
     ∙ ap (λ (y : List ℕ). 72 ∷ 76 ∷ 90 ∷ 0 ∷ 1 ∷ get_or y 0 0 ∷ get_or y 1 0 ∷ a.level ∷ []) c.to_be_bytes-2.ensures
     ∙ ap (λ (h : ℕ). 72 ∷ 76 ∷ 90 ∷ 0 ∷ 1 ∷ h ∷ a.year % 256 ∷ a.level ∷ []) high in
-    copied_more _ _ 0 c.loop-i.invariant (omega arith)
-    (c.byte_at.ensures ∙ ap (λ (h : List ℕ). byte_at h a.windows.now c.loop-i.i) is ∙ byte_at_law a.year a.level a.windows.now c.loop-i.i (omega arith))
+    filled_more c.loop-i.invariant (omega (arith, c.loop-i.invariant.long))
+    (c.byte_at.ensures ∙ ap (λ (h : List ℕ). byte_at h a.windows.now c.loop-i.i) is ∙ byte_at_law a.year a.level a.windows.now c.loop-i.i (omega (arith, c.loop-i.invariant.long)))
 
 pub returns : goal.returns
 returns c =
     let a = c.args in
-    let size = length_bytes a.year a.level a.windows.now in
-    copied_all _ _ c.loop-i.invariant (omega arith) ∙ rw size
-
-pub shape_of-out : goal.shape_of-out
-shape_of-out c = c.loop-i.invariant.same
+    let bytes = bytes_of a.year a.level a.windows.now in
+    let h = c.loop-i.invariant in
+    let written = filled_all h (omega (arith, h.long)) ∙ sym (is_table _ sheet_size 0 bytes (length_bytes a.year a.level a.windows.now) (λ k l. refl)) in
+    ap (λ (front : List ℕ). front ++ drop sheet_size a.out.now) written
