@@ -57,6 +57,7 @@ fn reading_at(series: &[u32], i: usize) -> u32
 
 // The place of the first reading of a run above a limit: the earliest day, from 1, and on it the earliest position,
 // from 0; day 0 where there is none.
+// Kept: nested loops left by a label, as document 01 shapes them: a day's span is worked out once for its readings.
 pub fn first_illegal(run: Run, series: &[u32], limit: u32) -> Place
     ensures { result ≡ first_illegal run limit series.now }
 {

@@ -1,4 +1,5 @@
--- How many values of a list pass a test, as the library counts them: `count_by` over a list is `count_over` of its places.
+-- How many values of a list pass a test, as the library counts them: `count_by` over a list is `count_over` of its
+-- places.
 -- Assumes nothing.
 use mathlib.Core.Path.{◌≡◌, sym, ap, ◌∙◌}
 use mathlib.Core.Bool.{Bool}

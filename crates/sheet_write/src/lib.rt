@@ -31,6 +31,7 @@ fn too_full(edition: Edition, windows: &[bool; sheet::WINDOW_PLACES]) -> bool
 }
 
 // Byte k, from 0, of the windows: eight quarters, the earliest is the highest bit.
+// Kept: `as u8`, since eight bits always fit, and `try_from` would ask for an answer to a refusal that cannot be.
 fn pack(windows: &[bool; sheet::WINDOW_PLACES], k: usize) -> u8
     requires { k < window_bytes }
     ensures { result ≡ window_byte windows.now k }

@@ -15,7 +15,7 @@ pub returns : goal.returns
 unfolding set_from
 returns c =
     let set = bit_at c.args.b.now c.args.i in
-    count_from_yields_List _ _ c.count.ensures.ran
-    (YieldsList-from_filter _ set (YieldsList-from_range 0 day_quarters day_quarters c.filter.ensures.source refl) c.filter.ensures.closure (λ x b q k. search rules))
+    let places = YieldsList-from_range 0 day_quarters day_quarters c.filter.ensures.source refl in
+    count_from_yields_List _ _ c.count.ensures.ran (YieldsList-from_filter _ set places c.filter.ensures.closure (λ x b q k. search rules))
     ∙ length-filter set (range_with_len 0 day_quarters)
     ∙ count_listed set day_quarters

@@ -23,8 +23,9 @@ loop-i-preserved c =
     ap (λ (v : List ℕ). head v years) c.to_be_bytes.ensures
     ∙ ap (λ (y : List ℕ). 72 ∷ 76 ∷ 90 ∷ 0 ∷ 1 ∷ get_or y 0 0 ∷ get_or y 1 0 ∷ a.level ∷ []) c.to_be_bytes-2.ensures
     ∙ ap (λ (h : ℕ). 72 ∷ 76 ∷ 90 ∷ 0 ∷ 1 ∷ h ∷ a.year % 256 ∷ a.level ∷ []) high in
+    let its_byte = byte_at_law a.year a.level a.windows.now c.loop-i.i (omega (arith, c.loop-i.invariant.long)) in
     filled_more c.loop-i.invariant (omega (arith, c.loop-i.invariant.long))
-    (c.byte_at.ensures ∙ ap (λ (h : List ℕ). byte_at h a.windows.now c.loop-i.i) is ∙ byte_at_law a.year a.level a.windows.now c.loop-i.i (omega (arith, c.loop-i.invariant.long)))
+    (c.byte_at.ensures ∙ ap (λ (h : List ℕ). byte_at h a.windows.now c.loop-i.i) is ∙ its_byte)
 
 pub returns : goal.returns
 returns c =

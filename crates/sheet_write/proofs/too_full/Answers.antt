@@ -31,6 +31,6 @@ returns c =
     ∙ ap (any_over _) (c.as_chunks.ensures.front_len ∙ four)
     ∙ any_cong _ _ seasons
     (λ k l.
-        ap (λ (s : List (List Bool)). full (get_or s k [])) cut
-        ∙ ap full (chunk_at day_quarters seasons w k [] l)
-        ∙ ap (too_many c.args.edition) (season_cut w k c.told-windows l))
+    ap (λ (s : List (List Bool)). full (get_or s k [])) cut
+    ∙ ap full (chunk_at day_quarters seasons w k [] l)
+    ∙ ap (too_many c.args.edition) (season_cut w k c.told-windows l))
