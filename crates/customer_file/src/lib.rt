@@ -30,6 +30,7 @@ pub struct CustomerSeries {
 pub type CustomerFile = File<CustomerSeries, { customer_head::CUSTOMER_HEAD_MOST }>;
 
 // Where the machine stands after a day: it goes on where the day is taken.
+// Kept: grid_file has another for a grid's refusal: each takes its own room's answer apart, by its own cases.
 fn stage_of(decision: Decision) -> Stage
     ensures { result ≡ day_stage (said_of decision) }
 {

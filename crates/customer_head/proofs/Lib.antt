@@ -1,2 +1,3 @@
 pub mod CustomerLayout
 pub mod Refusals
+pub mod Firsts

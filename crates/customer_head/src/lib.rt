@@ -13,17 +13,81 @@ ghost use Rattle.customer_head.specs.Header.{holiday_count, holidays_of, holiday
 use editions::Editions;
 use fields::Span;
 
-// How many fields stand before the holidays, and how many prices behind them. Of the former, field 0 (the mark) first:
-// how many bytes each takes, where it starts, and the number that refuses it.
+// A field before the holidays: where it starts, how many bytes it takes, and the number that refuses it.
+#[derive(Clone, Copy)]
+struct First {
+    start: usize,
+    width: usize,
+    number: u8,
+}
+
+// How many fields stand before the holidays, and how many prices behind them; and the former, field 0 (the mark) first.
 const FIRST_FIELDS: usize = 12;
 
 const PRICE_FIELDS: usize = 4;
 
-const WIDTHS: [usize; FIRST_FIELDS] = [3, 2, 3, 2, 2, 1, 12, 12, 12, 12, 1, 1];
-
-const STARTS: [usize; FIRST_FIELDS] = [0, 3, 5, 8, 10, 12, 13, 25, 37, 49, 61, 62];
-
-const NUMBERS: [u8; FIRST_FIELDS] = [12, 12, 12, 12, 1, 2, 12, 12, 12, 12, 12, 3];
+const FIRST: [First; FIRST_FIELDS] = [
+    First {
+        start: 0,
+        width: 3,
+        number: 12,
+    },
+    First {
+        start: 3,
+        width: 2,
+        number: 12,
+    },
+    First {
+        start: 5,
+        width: 3,
+        number: 12,
+    },
+    First {
+        start: 8,
+        width: 2,
+        number: 12,
+    },
+    First {
+        start: 10,
+        width: 2,
+        number: 1,
+    },
+    First {
+        start: 12,
+        width: 1,
+        number: 2,
+    },
+    First {
+        start: 13,
+        width: 12,
+        number: 12,
+    },
+    First {
+        start: 25,
+        width: 12,
+        number: 12,
+    },
+    First {
+        start: 37,
+        width: 12,
+        number: 12,
+    },
+    First {
+        start: 49,
+        width: 12,
+        number: 12,
+    },
+    First {
+        start: 61,
+        width: 1,
+        number: 12,
+    },
+    First {
+        start: 62,
+        width: 1,
+        number: 3,
+    },
+];
 
 // The places, from 0, of the version, the sheet with its fields, the option, the number of holidays, and the holidays.
 const VERSION_AT: usize = 3;
@@ -68,8 +132,8 @@ pub fn span_of(head: &[u8], k: usize) -> Span
 {
     if k < FIRST_FIELDS {
         return Span {
-            start: STARTS[k],
-            width: WIDTHS[k],
+            start: FIRST[k].start,
+            width: FIRST[k].width,
         };
     }
     let n = holiday_count(head);
@@ -159,7 +223,7 @@ pub fn refusal(editions: Editions, head: &[u8], k: usize) -> u8
     ensures { result ≡ (customer_layout editions head.now).refusal k }
 {
     if k < FIRST_FIELDS {
-        return field_steps::number_if(first_fails(editions, head, k), NUMBERS[k]);
+        return field_steps::number_if(first_fails(editions, head, k), FIRST[k].number);
     }
     let n = holiday_count(head);
     if k < FIRST_FIELDS + n {

@@ -91,6 +91,7 @@ fn main(rt: HostRuntime) -> io::Result<()> {
     if !one(&rt, 1)? {
         return print_listed(&rt, &mut rt.stdin());
     }
+    // Kept: the arguments are asked for by number, up to the first that is not there.
     for i in 2..usize::MAX {
         if !one(&rt, i)? {
             break;

@@ -29,6 +29,7 @@ pub struct GridSeries {
 pub type GridFile = File<GridSeries, { grid_head::GRID_HEAD_MOST }>;
 
 // Where the machine stands after a day: it goes on where the day is taken.
+// Kept: customer_file has another for a decision: each takes its own room's answer apart, by its own cases.
 fn stage_of(answer: Result<(), GridRefusal>) -> Stage
     ensures { result ≡ day_stage (said_of_grid answer) }
 {

@@ -16,6 +16,7 @@ pub fn read_full<R: Read>(input: &mut R, part: &mut [u8]) -> io::Result<usize>
     ensures end { IfOk result (λ n. n < length part.new → IsAtEnd (R.remaining input.new)) }
 {
     let mut done = 0;
+    // Kept: the step is as many bytes as a read gave, which no range and no iterator counts.
     while done < part.len() {
         let n = input.read(&mut part[done..])?;
         if n == 0 {

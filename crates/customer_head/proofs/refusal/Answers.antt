@@ -10,12 +10,14 @@ use Rattle.fields.specs.Layout.{field_at}
 use Rattle.customer_head.specs.Header.{price_fields}
 use Rattle.customer_head.proofs.CustomerLayout.{refusal_holiday, refusal_rest}
 use Rattle.customer_head.proofs.Refusals.{first_numbers, first_number}
+use Rattle.customer_head.proofs.Firsts.{numbers}
 use Rattle.customer_head.proofs.refusal.Goals as goal
 
 pub returns-then-k-lt-FIRST_FIELDS : goal.returns-then-k-lt-FIRST_FIELDS
 returns-then-k-lt-FIRST_FIELDS c =
     let a = c.args in
     c.number_if.ensures
+    ∙ ap (number_if c.first_fails.result) (numbers a.k (omega arith))
     ∙ ap (λ (t : Bool). number_if t (get_or first_numbers a.k 0)) c.first_fails.ensures
     ∙ first_number a.editions a.head.now a.k (omega arith)
 

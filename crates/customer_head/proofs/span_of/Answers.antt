@@ -6,12 +6,14 @@ use native.Mathlib.Omega.{arith}
 use Rattle.fields.specs.Layout.{start_of}
 use Rattle.customer_head.specs.Header.{customer_layout}
 use Rattle.customer_head.proofs.CustomerLayout.{width_first, width_holiday, width_price, width_none, start_first, start_holiday, start_price, start_none}
+use Rattle.customer_head.proofs.Firsts.{starts, widths}
 use Rattle.customer_head.proofs.span_of.Goals as goal
 
 pub returns-then-k-lt-FIRST_FIELDS : goal.returns-then-k-lt-FIRST_FIELDS
 returns-then-k-lt-FIRST_FIELDS c es =
     let a = c.args in
-    λ i. record { start = start_first es a.head.now a.k (omega arith) i; width = width_first es a.head.now a.k (omega arith) i }
+    (λ i. record { start = starts a.k (omega arith) i; width = widths a.k (omega arith) i })
+    ∙ (λ i. record { start = start_first es a.head.now a.k (omega arith) i; width = width_first es a.head.now a.k (omega arith) i })
 
 pub returns-then-k-n : goal.returns-then-k-n
 returns-then-k-n c es =
