@@ -78,8 +78,8 @@ season_cut w k h l =
     count_first (λ b. b) false (drop (day_quarters * k) w) day_quarters (omega (arith, length-drop (day_quarters * k) w, h))
     ∙ count_cong _ _ day_quarters
     (λ q m.
-        let e : day_quarters * k + q ≡ quarter_place (k + 1) q = omega arith in
-        get_or-drop (day_quarters * k) w q false ∙ ap (λ (i : ℕ). get_or w i false) e)
+    let e : day_quarters * k + q ≡ quarter_place (k + 1) q = omega arith in
+    get_or-drop (day_quarters * k) w q false ∙ ap (λ (i : ℕ). get_or w i false) e)
 
 -- the chosen quarters, laid flat
 pub length_flat : (chosen : List (List Bool)) → length (flat_windows chosen) ≡ window_places
