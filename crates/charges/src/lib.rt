@@ -115,7 +115,8 @@ impl Priced {
 }
 
 // The general charge by an edition, or 6. Any edition, any figures and any rates have an answer.
-// Kept: three parameters, here and in `both_charges`, as in the decision; inside, `Priced` holds them.
+// Kept: three parameters, here and in `both_charges`: the definitions take the three, and `Priced` holds them inside,
+// where their prices are known to be within the limits.
 pub fn general_charge(edition: Edition, figures: Figures, rates: Rates) -> Result<u64, PricesOut>
     ensures { said_of_general result ≡ general_answer edition figures rates }
 {

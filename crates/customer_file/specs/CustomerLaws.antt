@@ -29,5 +29,5 @@ customer_laws =
       kept = λ s day z i. record { customer = kept s.customer day z i };
     }
 
-pub customer_starts : (es : Editions) → file_start customer_kind es ≡ customer_start es
-customer_starts es = refl
+pub customer_start_is : (es : Editions) → file_start customer_kind es ≡ customer_start es
+customer_start_is es = refl

@@ -38,12 +38,12 @@ unfoldable pub masked_high : List ℕ → List ℕ → ℕ
 masked_high masks day = largest_over (λ p. bit_and (alone day p) (get_or masks (quarter_in (length day) p) 0)) (length day)
 
 -- a day has at most 100 readings
-abbrev pub Short : List ℕ → Type 0
-Short day = length day ≤ most_readings
+abbrev pub FewReadings : List ℕ → Type 0
+FewReadings day = length day ≤ most_readings
 
 -- the sum has room for a day more, and a day's number for the next one
-abbrev pub Roomy : Figures → Type 0
-Roomy f = f.sum + day_most < sum_end
+abbrev pub SumFits : Figures → Type 0
+SumFits f = f.sum + day_most < sum_end
 
 abbrev pub Numbered : ℕ → Type 0
 Numbered d = d < 65535

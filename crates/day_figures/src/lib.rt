@@ -12,7 +12,7 @@ ghost use Rattle.answers.specs.Ruling.{day_quarters};
 ghost use Rattle.readings.specs.Legal.{highest_of};
 ghost use Rattle.day_figures.specs.declared.TakingRefusal.TheVariants.{WrongLength};
 ghost use Rattle.day_figures.specs.Day.{alone, with_day, day_most, sum_end, days_out, no_day, day_taken, row_if, days_taken};
-ghost use Rattle.day_figures.specs.Passes.{four_end, all_ones, masks_of, some_left, masked_high, tops_of, plainly, high_at, HighAt, Short, Roomy, Numbered, Sized, Fits, DaySum};
+ghost use Rattle.day_figures.specs.Passes.{four_end, all_ones, masks_of, some_left, masked_high, tops_of, plainly, high_at, HighAt, FewReadings, SumFits, Numbered, Sized, Fits, DaySum};
 
 use readings::Change;
 use tariff::Figures;
@@ -49,7 +49,7 @@ fn sum_four(a: u32, b: u32, c: u32, e: u32) -> u64
 // Kept: one index goes over the four fourths: zipped slices take 172 instructions a usual day in place of 159, and
 // chunks of four readings 177.
 fn sum_fourths(day: &[u32]) -> u64
-    requires { Short day.now × (length day.now % 4 ≡ 0) × (highest_of day.now < four_end) }
+    requires { FewReadings day.now × (length day.now % 4 ≡ 0) × (highest_of day.now < four_end) }
     ensures { DaySum day.now result }
 {
     let n = day.len() / 4;
@@ -62,7 +62,7 @@ fn sum_fourths(day: &[u32]) -> u64
 
 // The sum of any day, reading by reading.
 fn sum_each(day: &[u32]) -> u64
-    requires { Short day.now }
+    requires { FewReadings day.now }
     ensures { DaySum day.now result }
 {
     let mut sum = 0;
@@ -74,7 +74,7 @@ fn sum_each(day: &[u32]) -> u64
 
 // The sum of a day with this highest reading: by fourths where it has them and is below 2^30, as legal readings are.
 fn sum_of(day: &[u32], peak: u32) -> u64
-    requires { Short day.now × (peak ≡ highest_of day.now) }
+    requires { FewReadings day.now × (peak ≡ highest_of day.now) }
     ensures { DaySum day.now result }
 {
     if peak < FOUR_END {
@@ -87,7 +87,7 @@ fn sum_of(day: &[u32], peak: u32) -> u64
 
 // Highest reading and sum of a day.
 fn tops_of(day: &[u32]) -> Tops
-    requires { Short day.now }
+    requires { FewReadings day.now }
     ensures { (result ≡ tops_of day.now) × (result.sum ≤ day_most) }
 {
     let peak = peaks::highest(day);
@@ -156,7 +156,7 @@ fn first_in(row: &[bool], day: &[u32], high: u32) -> Option<usize>
 
 // The figures with a day's highest reading and sum taken in, H as it was.
 fn plain_day(f: Figures, day: &[u32]) -> Figures
-    requires { Short day.now × Roomy f }
+    requires { FewReadings day.now × SumFits f }
     ensures { result ≡ plainly f (tops_of day.now) }
 {
     let t = tops_of(day);
@@ -266,7 +266,7 @@ impl<'a> MaskedRow<'a> {
 
     // The figures with any day d taken in, a usual one by the masks.
     fn take_any(&self, f: Figures, d: u16, flag: bool, day: &[u32]) -> Figures
-        requires { Numbered d × Sized day.now × Roomy f }
+        requires { Numbered d × Sized day.now × SumFits f }
         ensures { result ≡ with_day f (length day.now) d (row_if flag self.now.quarters.now) (alone day.now) }
     {
         if day.len() != answers::DAY_QUARTERS {
@@ -294,7 +294,7 @@ fn days_out(days: u16, from: u16, n: usize, sum: u64) -> bool
 // The figures with a Sunday of the clock change taken in, or 4 for a day that is not as long as one. By a row without
 // quarters it is done with after the sum, as every Sunday of a year is.
 fn take_other(f: Figures, d: u16, row: &[bool], day: &[u32]) -> Result<Figures, TakingRefusal>
-    requires { Numbered d × Roomy f × (length day.now ≡ day_quarters → ⊥) }
+    requires { Numbered d × SumFits f × (length day.now ≡ day_quarters → ⊥) }
     ensures { result ≡ cond (no_day (length day.now)) (Err WrongLength)
         (Ok (with_day f (length day.now) d row.now (alone day.now))) }
 {

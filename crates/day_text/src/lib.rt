@@ -10,7 +10,7 @@ ghost use Rattle.day_kinds.specs.Kinds.{kind_code};
 ghost use Rattle.texts.specs.Text.{Put};
 ghost use Rattle.day_text.specs.Asked.{misfits, no_dates, two_digits, year_at, day_at, no_such_date, listed_at, list_count, listed_days, why_answer};
 ghost use Rattle.day_text.specs.Text.{day_line, why_text};
-ghost use Rattle.day_text.specs.Text.{weekday_name as nameOf, kind_word as wordOf};
+ghost use Rattle.day_text.specs.Text.{weekday_name as name_of, kind_word as word_of};
 
 use calendar::DayRefusal;
 use day_kinds::DayKind;
@@ -140,7 +140,7 @@ fn answer(b: &[u8]) -> Result<DayKind, DayRefusal>
 // A weekday's name.
 #[tactic(auto, using(crate::proofs::Laws::sunday), unfolding(crate::specs::Text::weekday_name))]
 fn weekday_name(weekday: u8) -> &'static [u8]
-    ensures { result.now ≡ nameOf weekday }
+    ensures { result.now ≡ name_of weekday }
 {
     match weekday {
         0 => b"Monday",
@@ -156,7 +156,7 @@ fn weekday_name(weekday: u8) -> &'static [u8]
 // A kind in words.
 #[tactic(auto, unfolding(crate::specs::Text::kind_word))]
 fn kind_word(kind: DayKind) -> &'static [u8]
-    ensures { result.now ≡ wordOf (kind_code kind) }
+    ensures { result.now ≡ word_of (kind_code kind) }
 {
     match kind {
         DayKind::Windows => b"window",

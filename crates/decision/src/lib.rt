@@ -113,8 +113,8 @@ fn charge_rules(edition: Edition, figures: Figures, charges: TwoCharges) -> Deci
 
 // May the customer pay the reduced charge by an edition? Refuses 2, 6, 8, 9, 10 in this order, else 0 with yes. Any
 // edition and any figures have an answer.
-// Kept: three parameters, here and in the two calls below. They come from three places, and a struct of them would be
-// made by each caller only to be taken apart here.
+// Kept: three parameters, here and in the two calls below: the definitions take the three, and a struct of them would
+// be made by each caller only to be taken apart here.
 pub fn eligible(edition: Edition, figures: Figures, rates: Rates) -> Decision
     ensures { said_of result ≡ eligible_answer edition figures rates }
 {

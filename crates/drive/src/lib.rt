@@ -1,10 +1,10 @@
 // A file's machine, driven over what a program reads: each turn hands it as many bytes as it wants, fewer where the
 // input ends. Nothing is decided here: `want` of room `file_machine` says how many bytes are read next, and `feed`
-// tests them. It meets `driven` of `fields`, specs/File. Rules 10.4 and 10.5.
+// tests them. It meets specs/Unread, by `driven` of `fields`, specs/File. Rules 10.4 and 10.5.
 #![tactic(auto)]
 
 ghost use Rattle.std.specs.Prelude.{◌≡◌, ◌≤◌, Some, IfOk, IfSome, take, drop};
-ghost use Rattle.fields.specs.File.{driven};
+ghost use Rattle.drive.specs.Unread.{Drives};
 ghost use Rattle.fields.specs.Machine.{wants, fed};
 ghost use Rattle.file_machine.specs.FileMachine.{file_start, file_reader};
 
@@ -40,7 +40,7 @@ pub fn drive<R: Read, S: Series<N>, const N: usize>(
     editions: Editions,
 ) -> io::Result<File<S, N>>
     ensures { IfOk result (λ s. IfSome (R.remaining input.old) (λ bytes.
-        s ≡ driven (wants (file_reader S.kind)) (fed (file_reader S.kind)) 423 (file_start S.kind editions) bytes)) }
+        Drives (file_reader S.kind) 423 (file_start S.kind editions) bytes s (R.remaining input.new))) }
 {
     let mut file = File::start(editions);
     for _turn in 0..PARTS {

@@ -25,9 +25,9 @@ const REDUCTION_MOST: u32 = 1_000_000;
 
 const HOURS_MOST: u16 = 8_784;
 
-// Kept: a count beside eight places: a list of any count has an answer (Rule 9.6), and there is no heap for another.
 // A list of editions: how many records are loaded, and the places for them, the first at place 0. A list that no call
 // handed back has an answer, too: its first eight records count at most.
+// Kept: a count beside eight places: a list of any count has an answer (Rule 9.6), and an invariant would shut it out.
 #[derive(Clone, Copy)]
 pub struct Editions {
     pub count: u8,

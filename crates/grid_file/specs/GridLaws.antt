@@ -29,5 +29,5 @@ grid_laws =
       kept = λ s day z i. record { grid = kept s.grid day z i };
     }
 
-pub grid_starts : (es : Editions) → file_start grid_kind es ≡ grid_start es
-grid_starts es = refl
+pub grid_start_is : (es : Editions) → file_start grid_kind es ≡ grid_start es
+grid_start_is es = refl

@@ -5,7 +5,7 @@
 #![tactic(auto)]
 
 ghost use Rattle.std.specs.Prelude.{◌≡◌, ◌≤◌, leb, length};
-ghost use Rattle.texts.specs.Text.{Put, Room, Writes};
+ghost use Rattle.texts.specs.Text.{Put, HasRoom, Writes};
 ghost use Rattle.lines.specs.Figures.{decimal_of, field_of, figures_line, refused_line};
 
 use texts::Writer;
@@ -23,7 +23,7 @@ fn number_len(x: u64) -> usize
 
 // A number in decimal.
 fn add_number(text: &mut Writer, x: u64)
-    requires { Room text.old (decimal_of x) }
+    requires { HasRoom text.old (decimal_of x) }
     ensures { Writes text.old (decimal_of x) text.new }
 {
     let mut digits = [0u8; 20];
@@ -41,7 +41,7 @@ fn field_len(i: usize, x: u64) -> usize
 
 // Field i of a line, from 0.
 fn add_field(text: &mut Writer, i: usize, x: u64)
-    requires { Room text.old (field_of i x) }
+    requires { HasRoom text.old (field_of i x) }
     ensures { Writes text.old (field_of i x) text.new }
 {
     if i != 0 {
@@ -68,7 +68,7 @@ fn figures_fit(figures: &[u64], room: usize) -> bool
 
 // The line of these figures, the line feed with it.
 fn add_figures(text: &mut Writer, figures: &[u64])
-    requires { Room text.old (figures_line figures.now) }
+    requires { HasRoom text.old (figures_line figures.now) }
     ensures { Writes text.old (figures_line figures.now) text.new }
 {
     for (i, &x) in figures.iter().enumerate() {

@@ -72,8 +72,8 @@ pub fn change_of(run: Run) -> Change
 }
 
 // How many readings a day, from 0, has where these are the two Sundays.
-// Kept: `len_by` and `span_by` are functions and no methods: docs and callers in five crates name them, and no
-// invariant stands behind them, as any two Sundays have an answer.
+// Kept: `len_by` and `span_by` are functions: docs name them as calls, and as methods they would say no more, since any
+// two Sundays have an answer.
 pub fn len_by(change: Change, d: u16) -> usize
     ensures { result ≡ len_by change d }
 {

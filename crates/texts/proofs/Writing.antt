@@ -7,7 +7,7 @@ use Prim.Native.Nat.{ℕ, ◌+◌, ◌≤◌, ◌<◌}
 use native.Mathlib.Omega.{arith}
 use lib.ListN.{length, take, length-append}
 use Rattle.texts.specs.declared.Writer.{Writer}
-use Rattle.texts.specs.Text.{text_over, Put, Wrote, Room, Puts, Writes}
+use Rattle.texts.specs.Text.{text_over, Put, Wrote, HasRoom, Puts, Writes}
 use Rattle.texts.proofs.Text as flat
 
 -- the same text by another name
@@ -19,7 +19,7 @@ pub wrote_none : (s : Writer) → s.at ≤ length s.buf.now → Writes s [] s
 wrote_none s h = record { lent = refl; wrote = flat.wrote_none _ _ h }
 
 -- where the buffer holds the text, it is written
-pub fitted : {s e : Writer} {t : List ℕ} → Puts s t e → Room s t → Writes s t e
+pub fitted : {s e : Writer} {t : List ℕ} → Puts s t e → HasRoom s t → Writes s t e
 fitted h l = record { lent = h.lent; wrote = flat.fitted h.put l }
 
 -- two writes, one after the other
@@ -27,24 +27,24 @@ pub then : {s e f : Writer} {t u : List ℕ} → Writes s t e → Writes e u f �
 then p q = record { lent = q.lent ∙ p.lent; wrote = flat.then p.wrote q.wrote }
 
 -- the second of them has room where both have
-pub room_after : {s e : Writer} {t : List ℕ} → Writes s t e → (u : List ℕ) → Room s (t ++ u) → Room e u
+pub room_after : {s e : Writer} {t : List ℕ} → Writes s t e → (u : List ℕ) → HasRoom s (t ++ u) → HasRoom e u
 room_after {t = t} w u l = omega (arith, w.wrote.end, w.wrote.same, l, length-append t u)
 
-pub then_put : {s e f : Writer} {t u : List ℕ} → Writes s t e → Puts e u f → Room s (t ++ u) → Writes s (t ++ u) f
+pub then_put : {s e f : Writer} {t u : List ℕ} → Writes s t e → Puts e u f → HasRoom s (t ++ u) → Writes s (t ++ u) f
 then_put {u = u} w p l = then w (fitted p (room_after w u l))
 
 -- what a loop that writes f 0, .. , f (m - 1) keeps: the first k are written
 pub record Laid (f : ℕ → List ℕ) (m : ℕ) (s : Writer) (k : ℕ) (e : Writer) : Type 0 where
   pub some : k ≤ m
-  pub room : Room s (text_over f m)
+  pub room : HasRoom s (text_over f m)
   pub wrote : Writes s (text_over f k) e
 
 module _ {f : ℕ → List ℕ} {m : ℕ} {s : Writer} where
-  pub laid_none : Room s (text_over f m) → Laid f m s 0 s
+  pub laid_none : HasRoom s (text_over f m) → Laid f m s 0 s
   laid_none h = record { some = omega arith; room = h; wrote = wrote_as (sym (flat.text_none f)) (wrote_none s (omega (arith, h))) }
 
   module _ {k : ℕ} {e : Writer} (h : Laid f m s k e) where
-    pub laid_room : k < m → Room e (f k)
+    pub laid_room : k < m → HasRoom e (f k)
     laid_room l = omega (arith, h.room, h.wrote.wrote.end, h.wrote.wrote.same, flat.text_room f m k l)
 
     pub laid_more : {g : Writer} → k < m → Writes e (f k) g → Laid f m s (k + 1) g

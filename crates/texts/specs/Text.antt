@@ -37,8 +37,8 @@ pub record Wrote (d : List ℕ) (at : ℕ) (t : List ℕ) (e : List ℕ) (r : �
   pub is : e ≡ take at d ++ (t ++ drop (at + length t) d)
 
 -- a text that is being written: has its buffer room for the text t behind what is written?
-abbrev pub Room : Writer → List ℕ → Type 0
-Room s t = s.at + length t ≤ length s.buf.now
+abbrev pub HasRoom : Writer → List ℕ → Type 0
+HasRoom s t = s.at + length t ≤ length s.buf.now
 
 -- the text t was put behind what was written, all or nothing, into the buffer that was lent
 pub record Puts (s : Writer) (t : List ℕ) (e : Writer) : Type 0 where

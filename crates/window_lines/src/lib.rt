@@ -7,9 +7,9 @@
 ghost use Rattle.std.specs.Prelude.{◌≡◌, ◌+◌, ◌≤◌, ◌<◌, length};
 ghost use Rattle.answers.specs.Ruling.{day_quarters};
 ghost use Rattle.sheet.specs.Windows.{seasons};
-ghost use Rattle.texts.specs.Text.{text_over, Put, Room, Writes};
+ghost use Rattle.texts.specs.Text.{text_over, Put, HasRoom, Writes};
 ghost use Rattle.window_lines.specs.Runs.{head_line, time_of, run_line, quarters, run_end, run_text, season_text, season_in, windows_text};
-ghost use Rattle.window_lines.specs.Runs.{begins as beginsAt};
+ghost use Rattle.window_lines.specs.Runs.{begins as begins_at};
 
 use texts::Writer;
 
@@ -43,7 +43,7 @@ impl Season<'_> {
     // Does a run begin at quarter q?
     fn begins(&self, q: usize) -> bool
         requires { q < day_quarters }
-        ensures { result ≡ beginsAt (quarters self.now.set.now) q }
+        ensures { result ≡ begins_at (quarters self.now.set.now) q }
     {
         self.set[q] && (q == 0 || !self.set[q - 1])
     }
@@ -74,7 +74,7 @@ impl Season<'_> {
 
     // The line of the run that begins at quarter q, if one does.
     fn add_run(&self, text: &mut Writer, q: usize)
-        requires { (self.now.number ≤ seasons) × (q < day_quarters) × Room text.old (run_text self.now.number (quarters self.now.set.now) q) }
+        requires { (self.now.number ≤ seasons) × (q < day_quarters) × HasRoom text.old (run_text self.now.number (quarters self.now.set.now) q) }
         ensures { Writes text.old (run_text self.now.number (quarters self.now.set.now) q) text.new }
     {
         if self.begins(q) {
@@ -85,7 +85,7 @@ impl Season<'_> {
 
     // The lines of all its runs, in the order of the day.
     fn add_runs(&self, text: &mut Writer)
-        requires { (self.now.number ≤ seasons) × Room text.old (text_over (run_text self.now.number (quarters self.now.set.now)) day_quarters) }
+        requires { (self.now.number ≤ seasons) × HasRoom text.old (text_over (run_text self.now.number (quarters self.now.set.now)) day_quarters) }
         ensures { Writes text.old (text_over (run_text self.now.number (quarters self.now.set.now)) day_quarters) text.new }
     {
         for q in 0..answers::DAY_QUARTERS {
@@ -95,7 +95,7 @@ impl Season<'_> {
 
     // Its lines: its runs, or the one line that says none.
     fn add_to(&self, text: &mut Writer)
-        requires { (self.now.number ≤ seasons) × Room text.old (season_text self.now.number (quarters self.now.set.now)) }
+        requires { (self.now.number ≤ seasons) × HasRoom text.old (season_text self.now.number (quarters self.now.set.now)) }
         ensures { Writes text.old (season_text self.now.number (quarters self.now.set.now)) text.new }
     {
         let set = self.set;
@@ -109,7 +109,7 @@ impl Season<'_> {
 
 // The lines of the seasons 1 to 4.
 fn add_seasons(text: &mut Writer, windows: &[bool; sheet::WINDOW_PLACES])
-    requires { Room text.old (text_over (season_in windows.now) seasons) }
+    requires { HasRoom text.old (text_over (season_in windows.now) seasons) }
     ensures { Writes text.old (text_over (season_in windows.now) seasons) text.new }
 {
     let (days, _) = windows.as_chunks::<{ answers::DAY_QUARTERS }>();
@@ -124,7 +124,7 @@ fn add_seasons(text: &mut Writer, windows: &[bool; sheet::WINDOW_PLACES])
 
 // The first line: `HLZ`, year and level. The two figures are first written into an array that has room for any two.
 fn add_head(text: &mut Writer, year: u16, level: u8)
-    requires { Room text.old (head_line year level) }
+    requires { HasRoom text.old (head_line year level) }
     ensures { Writes text.old (head_line year level) text.new }
 {
     let figures = [u64::from(year), u64::from(level)];

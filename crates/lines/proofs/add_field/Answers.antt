@@ -6,7 +6,7 @@ use Prim.Native.Nat.{ℕ}
 use native.Mathlib.Omega.{arith}
 use lib.ListN.{length}
 use Rattle.texts.specs.declared.Writer.{Writer}
-use Rattle.texts.specs.Text.{Room, Puts, Writes}
+use Rattle.texts.specs.Text.{HasRoom, Puts, Writes}
 use Rattle.texts.proofs.Writing.{wrote_as, fitted, then}
 use Rattle.lines.specs.Figures.{field_of}
 use Rattle.lines.proofs.Figures.{field_first, field_next}
@@ -14,7 +14,7 @@ use Rattle.lines.proofs.add_field.Goals.{then-i-ne0, else-i-ne0}
 use Rattle.lines.proofs.add_field.Goals as goal
 
 -- the space has room
-spaced : {s e : Writer} (i x : ℕ) → (i ≡ 0 → ⊥) → Room s (field_of i x) → Puts s (32 ∷ []) e → Writes s (32 ∷ []) e
+spaced : {s e : Writer} (i x : ℕ) → (i ≡ 0 → ⊥) → HasRoom s (field_of i x) → Puts s (32 ∷ []) e → Writes s (32 ∷ []) e
 spaced i x n room put = fitted put (omega (arith, room, ap length (field_next i x n)))
 
 pub add_number-requires : goal.add_number-requires

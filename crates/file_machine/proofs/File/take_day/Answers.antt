@@ -1,17 +1,15 @@
 -- `file_machine::File::take_day` meets its contract, a case for each return.
 -- Assumes nothing.
-use mathlib.Core.Path.{◌≡◌, refl, sym, ◌∙◌}
+use mathlib.Core.Path.{◌≡◌, sym, ◌∙◌}
 use Prim.Native.Nat.{◌≤◌}
 use native.Mathlib.Omega.{arith}
 use lib.Seq.{length-take-le}
 use lib.ListN.{length, take}
 use Rattle.readings.specs.Runs.{day_len}
 use Rattle.readings.proofs.Runs.{len_most}
-use Rattle.fields.specs.declared.Stage.{Stage}
-use Rattle.fields.proofs.Machine.{day_cut, day_read, given_staged}
-use Rattle.fields.specs.Stages.{stage_of}
-use Rattle.file_machine.specs.declared.File.{File}
+use Rattle.fields.proofs.Machine.{day_cut, day_read}
 use Rattle.file_machine.specs.FileMachine.{file_reader}
+use Rattle.file_machine.proofs.Days.{day_given_law}
 use borrow.Author.Rules.{rules}
 use Rattle.file_machine.proofs.File.take_day.Goals.{After-day_len-n}
 use Rattle.file_machine.proofs.File.take_day.Goals as goal
@@ -41,17 +39,8 @@ returns g c =
     let m = g.S.Series in
     let s = c.args.self in
     let day = take c.day_len-n.result c.readings_in-readings.result in
-    let with : Stage → File g.row.S.Denot g.row.N =
-    λ stage. record { editions = s.editions; field = s.field; head = s.head; series = m.kind.added s.series day; stage = stage } in
     (λ i. record { editions = s.editions; field = s.field; head = s.head; series = (c.day-stage.ensures i).1; stage = (c.day-stage.ensures i).0 })
-    ∙ given_staged (file_reader m.kind) s day with (λ z. refl)
-    (λ z i. record {
-      editions = s.editions;
-      field = s.field;
-      head = s.head;
-      series = m.laws.kept s.series day z i;
-      stage = stage_of (m.kind.said s.series day);
-    })
+    ∙ day_given_law m.kind m.laws s day
     ∙ day_read (file_reader m.kind) s c.args.b.now (len_is g (goal.at.returns g c).After-day_len-n) c.readings_in-readings.ensures (omega arith)
 
 pub overflow_mul-n : goal.overflow_mul-n
