@@ -39,6 +39,7 @@ pub extern "C" fn bench_windows(year: u16, level: u8, series: &[u32], out: &mut 
 }
 
 // The grid after every day of a series, given one by one. The loop counts days from 0, `run_part` from 1.
+// Kept: a range of days, as in bench_customer: a day's part is asked for by its number, and days differ in length.
 fn all_grid_days(year: u16, level: u8, series: &[u32]) -> Grid
     ensures { result ≡ grid_after_days year level series.now (period_days year) }
 {

@@ -29,6 +29,7 @@ pub struct Customer {
 }
 
 // An answer, and the next state beside it.
+// Kept: a struct of its own for each series: document 01 has methods by value hand the state back beside the answer.
 #[derive(Clone, Copy)]
 pub struct Stepped {
     pub answer: Decision,

@@ -114,6 +114,7 @@ pub fn weekday(year: u16, day: u16) -> u8
 }
 
 // The last Sunday of a month, which counts from 1, as a day of the year; 0 for a month that there is not.
+// Kept: 0 and no Option, as `last_sunday` (Dates) defines it: the promise is that equation.
 pub fn last_sunday(year: u16, month: u16) -> u16
     ensures { result ≡ last_sunday year month }
 {

@@ -76,6 +76,7 @@ fn year_at(b: &[u8], at: usize) -> u16
 }
 
 // The number of its day in that year, from 1; 0 where the year does not have the date.
+// Kept: 0 and no Option, as `day_at` (Asked) and `dates::day_number` have it.
 fn day_at(b: &[u8], at: usize) -> u16
     ensures { result ≡ day_at b.now at }
 {

@@ -11,6 +11,7 @@ use answer_numbers::Numbers;
 use tariff::{Charged, Decision, Peaks, Plain};
 
 // 8: g, M, S.
+// Kept: a list for each row of the table of answers, here and below, with its figures in the table's order.
 fn with_plain(a: Plain) -> Numbers
     ensures { result ≡ numbers_of (with_plain a) }
 {

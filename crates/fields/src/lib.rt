@@ -18,6 +18,7 @@ pub struct Span {
 
 // Where a machine stands: it goes on; it has ended with a number that has no figures, or with 5 and its place; it has
 // all days and no byte is left.
+// Kept: a number and no enum of refusals: the layouts and what is printed speak of it (field_steps, `number_if`).
 #[derive(Clone, Copy, PartialEq, Eq)]
 pub enum Stage {
     Going,

@@ -29,6 +29,7 @@ pub struct Grid {
 }
 
 // An answer, and the next state beside it.
+// Kept: a struct of its own for each series: document 01 has methods by value hand the state back beside the answer.
 #[derive(Clone, Copy)]
 pub struct Stepped {
     pub answer: Result<(), GridRefusal>,
@@ -84,6 +85,7 @@ impl Grid {
         Grid::open_by(editions::pick(editions, year), year, level)
     }
 
+    // Kept: zeros and no Option: a refused opening hands back this state (Rule 9.5).
     fn shut() -> Grid
         ensures { result ≡ shut_grid }
     {

@@ -6,6 +6,7 @@
 
 use std::io;
 
+// Kept: `statement` does the same with another text: one function for both would take the call for it, with clauses.
 fn main(rt: HostRuntime) -> io::Result<()> {
     let mut text = [0u8; texts::TEXT_MOST];
     let file = drive::drive(&mut rt.stdin(), editions::todays())?;

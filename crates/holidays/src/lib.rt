@@ -8,6 +8,7 @@ ghost use Rattle.holidays.specs.Holidays.{bad_holiday, bad_holidays};
 
 // Is a day, from 1, no larger than the entry before it in the list (0 before the first), or behind 31 December? Any day
 // has an answer.
+// Kept: 0 and no Option before the first entry, as the definition has it: a listed day is above 0.
 pub fn bad_holiday(year: u16, last: u16, day: u16) -> bool
     ensures { result ≡ bad_holiday year last day }
 {

@@ -78,6 +78,7 @@ fn add_figures(text: &mut Writer, figures: &[u64])
 }
 
 // The statement program's line: an answer's number and its figures, any number of them.
+// Kept: 0 and no Option where the text does not fit, here and in every call for a text: `Put` promises it.
 pub fn figures_text(figures: &[u64], buf: &mut [u8]) -> usize
     ensures { Put 0 (figures_line figures.now) buf.old buf.new result }
 {

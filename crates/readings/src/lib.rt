@@ -195,6 +195,7 @@ fn no_day(run: Run, day: usize) -> bool
 // The part of a series that is a day, from 1, of a run of any charge year: empty where the run has no such day, and for
 // a day of which the series does not have all readings.
 // Kept: `as u16`, since a day of a run always fits, and `try_from` would ask for an answer to a refusal that cannot be.
+// Kept: an empty part and no Option, here and in `day_part`: the call refuses nothing (Rule 9.2).
 pub fn run_part(run: Run, series: &[u32], day: usize) -> &[u32]
     ensures { result.now ≡ run_part run series.now day }
 {

@@ -62,6 +62,7 @@ impl From<OpenRefusal> for Decision {
 }
 
 // The fixed terms beside a refusal: a state that is handed back has them.
+// Kept: zeros and no Option: the state of a refused opening holds them (Rule 9.5).
 pub fn no_terms() -> Terms
     ensures { result ≡ no_terms }
 {

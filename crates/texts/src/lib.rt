@@ -9,6 +9,7 @@ pub const TEXT_MOST: usize = 5425;
 
 // Bytes from place `at` on, counted from 0: all of them, and the place behind them is answered; or, where they do not
 // fit, none, and the place itself is answered.
+// Kept: the place itself and no Option where the bytes do not fit: that is what `Put` promises.
 pub fn add_bytes(buf: &mut [u8], at: usize, bytes: &[u8]) -> usize
     ensures { Put at bytes.now buf.old buf.new result }
 {
