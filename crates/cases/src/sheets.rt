@@ -11,13 +11,6 @@ use sheet::{ReadRefusal, Sheet, WriteRefusal};
 use std::io;
 use std::io::Read;
 
-// What is printed beside a refusal: the sheet that the promise shows there.
-const NO_SHEET: Sheet = Sheet {
-    year: 0,
-    level: 0,
-    windows: [false; sheet::WINDOW_PLACES],
-};
-
 fn write_number(written: Result<(), WriteRefusal>) -> u8 {
     match written {
         Ok(()) => 0,
@@ -28,11 +21,12 @@ fn write_number(written: Result<(), WriteRefusal>) -> u8 {
     }
 }
 
-fn read_number(refusal: ReadRefusal) -> u8 {
-    match refusal {
-        ReadRefusal::YearOut => 1,
-        ReadRefusal::LevelOut => 2,
-        ReadRefusal::Malformed => 12,
+fn read_number(read: Result<Sheet, ReadRefusal>) -> u8 {
+    match read {
+        Ok(_) => 0,
+        Err(ReadRefusal::YearOut) => 1,
+        Err(ReadRefusal::LevelOut) => 2,
+        Err(ReadRefusal::Malformed) => 12,
     }
 }
 
@@ -84,12 +78,10 @@ impl<P: Print, R: Read> Session<'_, P, R> {
     pub(crate) fn one_reading(&mut self) -> io::Result<()> {
         let n = self.room()?;
         let bytes = self.bytes(n)?;
-        let (number, meaning) = match sheet_read::read(self.editions, &bytes[..n]) {
-            Ok(meaning) => (0, meaning),
-            Err(refusal) => (read_number(refusal), NO_SHEET),
-        };
+        let read = sheet_read::read(self.editions, &bytes[..n]);
+        let meaning = sheet_read::sheet_shown(read);
         self.letter(b'R')?;
-        self.next(number)?;
+        self.next(read_number(read))?;
         self.next(meaning.year)?;
         self.next(meaning.level)?;
         self.write_windows(&meaning.windows)?;

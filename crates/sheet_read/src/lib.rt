@@ -106,3 +106,18 @@ pub fn read(editions: Editions, b: &[u8]) -> Result<Sheet, ReadRefusal>
         b,
     )
 }
+
+// The sheet that a reading shows: the one that was read, or beside a refusal one fixed sheet, with year 0, level 0 and
+// no window (Rule 8.5).
+pub fn sheet_shown(read: Result<Sheet, ReadRefusal>) -> Sheet
+    ensures { result ≡ (shown_of read).sheet }
+{
+    match read {
+        Ok(sheet) => sheet,
+        Err(_) => Sheet {
+            year: 0,
+            level: 0,
+            windows: [false; sheet::WINDOW_PLACES],
+        },
+    }
+}
