@@ -1,13 +1,13 @@
 -- Nothing else meets the promises of a decision: what an answer says fixes the answer (Rule 13.1).
 -- Assumes nothing.
-use mathlib.Core.Path.{◌≡◌, refl, sym, ap, ◌∙◌}
+use mathlib.Core.Path.{◌≡◌, refl}
 use mathlib.Core.Bool.{cond}
 use Prim.Native.Nat.{ℕ, ◌+◌}
 use lib.Dec.{eqb}
 use lib.ListN.{length, get_or}
 use Rattle.std.proofs.Common.{Result, Ok, Err}
 use Rattle.answers.specs.Said.{Said}
-use Rattle.answers.proofs.Laws.{one_answer}
+use Rattle.answers.proofs.Laws.{back_again}
 use Rattle.tariff.specs.declared.Plain.{Plain}
 use Rattle.tariff.specs.declared.Peaks.{Peaks}
 use Rattle.tariff.specs.declared.TwoCharges.{TwoCharges}
@@ -15,16 +15,6 @@ use Rattle.tariff.specs.declared.PricesOut.{PricesOut}
 use Rattle.tariff.specs.declared.Decision.{Decision}
 use Rattle.tariff.specs.declared.Decision.TheVariants.{Accepted, Eligible, Taken, YearOut, LevelOut, BadHolidays, WrongLength, BadReading, PriceOut, NoWindow, ShareShort, MoveShort, ReductionShort, Malformed, DayOut}
 use Rattle.tariff.specs.Answers.{said_of, said_of_general, said_of_charges}
-
--- an answer that is told back from what it says is fixed by it
-back_again :
-    {A : Type 0} (said : A → Said) (back : Said → A)
-    → ((d : A) → back (said d) ≡ d)
-    → {x : Said} {r s : A}
-    → said r ≡ x
-    → said s ≡ x
-    → r ≡ s
-back_again said back same {x} {r} {s} p q = sym (same r) ∙ ap back (one_answer p q) ∙ same s
 
 -- figure i of an answer, from 0, and the figures from figure i on
 abbrev figure : Said → ℕ → ℕ
