@@ -15,14 +15,14 @@ use Rattle.holidays.specs.Holidays.{before}
 use Rattle.encoding.specs.Bytes.{two_at}
 use Rattle.sheet.specs.Bytes.{sheet_size}
 use Rattle.editions.specs.declared.Editions.{Editions}
-use Rattle.fields.specs.Layout.{Field, no_field, field_at, width_at, layout_of, start_of, head_size}
+use Rattle.fields.specs.Layout.{Field, no_field, field_at, width_at, layout_of, start_of, Fits, head_size}
 use Rattle.fields.specs.Common.{mark_field, version_field, year_field, level_field}
 use Rattle.customer_head.specs.Header.{customer_edition, customer_head_most, sheet_at, option_at, sheet_part, holidays_at, holiday_count, holidays_of, prices_at, season_field, option_field, count_field, holiday_out, holiday_field, capacity_field, energy_field, first_fields, price_fields, customer_fields, customer_layout}
 use Rattle.ranges.proofs.Sums.{sum_none, sum_suc, sum_add, sum_cong}
 use Rattle.ranges.proofs.Tests.{all_at}
 use Rattle.ranges.proofs.Tables.{length_table, get_d_table}
 use Rattle.fields.proofs.Bytes.{part_at}
-use Rattle.fields.proofs.Header.{Fits, Tabled, tabled, fits_by}
+use Rattle.fields.proofs.Header.{Tabled, tabled, fits_by}
 
 -- values that are all one number add up to a multiple of it
 sum_same : (f : ℕ → ℕ) (c n : ℕ) → ((k : ℕ) → k < n → f k ≡ c) → sum_over f n ≡ n * c

@@ -18,7 +18,7 @@ use Rattle.ranges.proofs.Tests.{all_at, Passed, passed_more}
 use Rattle.ranges.proofs.First.{first_at, first_fails}
 use Rattle.answers.specs.Said.{only}
 use Rattle.fields.specs.declared.Span.{Span}
-use Rattle.fields.specs.Layout.{Layout, start_of, field_span, cut_off, stops, first_stop, head_answer}
+use Rattle.fields.specs.Layout.{Layout, start_of, field_span, Fits, cut_off, stops, first_stop, head_answer}
 
 module _ (l : Layout) where
   pub field_none : start_of l 0 ≡ 0
@@ -59,14 +59,6 @@ module _ (l : Layout) where
           let e : n ≡ suc k = omega arith in
           rw e
       go (no m) ih = omega (arith, ih (omega arith), none k (omega arith), more)
-
--- what a machine has of field k of a header: it takes at most `most` bytes, the header's `size` bytes have room for it,
--- and it is a field exactly where it takes bytes
-pub record Fits (l : Layout) (most size k : ℕ) : Type 0 where
-  pub few : l.width k ≤ most
-  pub room : start_of l k + l.width k ≤ size
-  pub field : 0 < l.width k → k < l.count
-  pub none : l.width k ≡ 0 → l.count ≤ k
 
 -- room for more bytes in a field
 pub fits_wider : {l : Layout} {few most size k : ℕ} → Fits l few size k → few ≤ most → Fits l most size k

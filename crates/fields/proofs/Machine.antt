@@ -17,13 +17,13 @@ use Rattle.readings.proofs.Runs.{len_most}
 use Rattle.fields.specs.declared.Span.{Span}
 use Rattle.fields.specs.declared.Stage.{Stage}
 use Rattle.fields.specs.declared.Stage.TheVariants.{Going, Refused, Complete}
-use Rattle.fields.specs.Layout.{start_of, field_span}
+use Rattle.fields.specs.Layout.{start_of, field_span, Fits}
 use Rattle.readings.specs.Runs.{day_len, most_readings}
 use Rattle.fields.specs.Series.{reading_bytes, readings_of}
 use Rattle.fields.specs.Stages.{going, stage_of, day_stage}
 use Rattle.fields.specs.Machine.{Reader, layout_in, field_size, next_size, wants, head_with, number_with, field_fed, day_in, day_given, day_fed, end_fed, fed}
 use Rattle.fields.proofs.Bytes.{readings_held}
-use Rattle.fields.proofs.Header.{Fits, span_width}
+use Rattle.fields.proofs.Header.{span_width}
 
 module _ {S : Type 0} (r : Reader S) (s : S) where
   -- a machine that has ended wants nothing and stays

@@ -1,6 +1,6 @@
 -- The header of a file: fields one behind the other, each tested once all its bytes are there. A layout lists the
 -- fields of one file, in order; fields k and places in the file count from 0. Rule 10.4.
-use Rattle.std.specs.Prelude.{Bool, cond, not, ◌||◌, List, ℕ, ◌+◌, ltb, eqb, length, get_or}
+use Rattle.std.specs.Prelude.{◌≡◌, Bool, cond, not, ◌||◌, List, ℕ, ◌+◌, ◌≤◌, ◌<◌, ltb, eqb, length, get_or}
 use Rattle.ranges.specs.Ranges.{sum_over, first_over}
 use Rattle.answers.specs.Said.{Said, only}
 use Rattle.fields.specs.declared.Span.{Span}
@@ -45,6 +45,14 @@ field_span l k = record { start = start_of l k; width = l.width k }
 -- the bytes of the whole header
 abbrev pub head_size : Layout → ℕ
 head_size l = start_of l l.count
+
+-- what a machine has of field k of a header: it takes at most `most` bytes, the header's `size` bytes have room for it,
+-- and it is a field exactly where it takes bytes
+pub record Fits (l : Layout) (most size k : ℕ) : Type 0 where
+  pub few : l.width k ≤ most
+  pub room : start_of l k + l.width k ≤ size
+  pub field : 0 < l.width k → k < l.count
+  pub none : l.width k ≡ 0 → l.count ≤ k
 
 -- field k is cut off: the file ends before all its bytes are there
 abbrev pub cut_off : Layout → List ℕ → ℕ → Bool

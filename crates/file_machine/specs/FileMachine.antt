@@ -6,9 +6,8 @@ use Rattle.editions.specs.declared.Editions.{Editions}
 use Rattle.readings.specs.declared.Run.{Run}
 use Rattle.readings.specs.Runs.{run_days}
 use Rattle.fields.specs.declared.Stage.TheVariants.{Going}
-use Rattle.fields.specs.Layout.{Layout}
+use Rattle.fields.specs.Layout.{Layout, Fits}
 use Rattle.fields.specs.Machine.{Reader}
-use Rattle.fields.proofs.Header.{Fits}
 use Rattle.file_machine.specs.declared.File.{File}
 
 -- what is a file's own, where S is its series

@@ -12,9 +12,9 @@ use lib.ListN.{get_or, get_or-eq_default}
 use Rattle.ranges.specs.Ranges.{joined, sum_over, all_over}
 use Rattle.ranges.proofs.Tests.{all_at}
 use Rattle.editions.specs.declared.Editions.{Editions}
-use Rattle.fields.specs.Layout.{Field, no_field, field_at, width_at, layout_of, start_of}
+use Rattle.fields.specs.Layout.{Field, no_field, field_at, width_at, layout_of, start_of, Fits}
 use Rattle.fields.specs.Common.{mark_field, version_field, year_field, level_field}
-use Rattle.fields.proofs.Header.{field_past, Fits, Tabled, tabled, fits_by}
+use Rattle.fields.proofs.Header.{field_past, Tabled, tabled, fits_by}
 use Rattle.grid_head.specs.Header.{grid_fields, grid_layout, grid_head_most}
 
 -- the widths of the fields, and the places where they start
