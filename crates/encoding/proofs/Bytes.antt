@@ -31,6 +31,16 @@ module _ (b : List ℕ) (i : ℕ) where
   unfolding four_at in_base joined
   four_bytes_law = omega arith
 
+  -- a mark by its bytes
+  pub other_mark_bytes :
+      (mark : List ℕ)
+      → (not (eqb (get_or b (i + 0) 0) (get_or mark 0 0))
+      || not (eqb (get_or b (i + 1) 0) (get_or mark 1 0))
+      || not (eqb (get_or b (i + 2) 0) (get_or mark 2 0)))
+      ≡ other_mark mark b i
+  unfolding other_mark any_over joined
+  other_mark_bytes mark = refl
+
 -- three bytes are other than a mark exactly when one of them is
 differ : (p q r : Bool) → not (p && (q && (r && true))) ≡ (not p || not q || not r)
 differ true true true = refl
@@ -38,21 +48,22 @@ differ true true false = refl
 differ true false r = refl
 differ false q r = refl
 
-pub other_mark_bytes :
+-- the same by an array of the three bytes
+pub other_mark_array :
     (b : List ℕ) (i : ℕ) (mark : List ℕ) {x y z : ℕ}
     → length mark ≡ mark_size
     → x ≡ get_or b (i + 0) 0
     → y ≡ get_or b (i + 1) 0
     → z ≡ get_or b (i + 2) 0
     → not (pointwise nat_eq (x ∷ y ∷ z ∷ []) mark) ≡ other_mark mark b i
-unfolding other_mark any_over joined
-other_mark_bytes b i [] l e f g = absurd (omega arith)
-other_mark_bytes b i (u ∷ []) l e f g = absurd (omega arith)
-other_mark_bytes b i (u ∷ v ∷ []) l e f g = absurd (omega arith)
-other_mark_bytes b i (u ∷ v ∷ w ∷ _ ∷ _) l e f g = absurd (omega arith)
-other_mark_bytes b i (u ∷ v ∷ w ∷ []) {x} {y} {z} l e f g =
+other_mark_array b i [] l e f g = absurd (omega arith)
+other_mark_array b i (u ∷ []) l e f g = absurd (omega arith)
+other_mark_array b i (u ∷ v ∷ []) l e f g = absurd (omega arith)
+other_mark_array b i (u ∷ v ∷ w ∷ _ ∷ _) l e f g = absurd (omega arith)
+other_mark_array b i (u ∷ v ∷ w ∷ []) {x} {y} {z} l e f g =
     differ (nat_eq x u) (nat_eq y v) (nat_eq z w)
     ∙ (λ k. not (nat_eq (e k) u) || not (nat_eq (f k) v) || not (nat_eq (g k) w))
+    ∙ other_mark_bytes b i (u ∷ v ∷ w ∷ [])
 
 -- the mark stands there exactly when each of its bytes does
 pub alike : (mark b : List ℕ) (i : ℕ) → (other_mark mark b i ≡ false) ↔ ((k : ℕ) → k < mark_size → get_or b (i + k) 0 ≡ get_or mark k 0)
