@@ -9,14 +9,19 @@ use std::io::Read;
 pub(crate) const ROOM: usize = 64;
 
 impl<P, R: Read> Session<'_, P, R> {
+    // Byte by byte, as a number comes: where the input ends in one, what stands behind is 0.
     fn array<const N: usize>(&mut self) -> io::Result<[u8; N]> {
         let mut bytes = [0; N];
-        inputs::read_full(&mut self.input, &mut bytes)?;
+        for byte in bytes.iter_mut() {
+            *byte = self.byte()?;
+        }
         Ok(bytes)
     }
 
     pub(crate) fn byte(&mut self) -> io::Result<u8> {
-        Ok(u8::from_be_bytes(self.array()?))
+        let mut byte = [0];
+        inputs::read_full(&mut self.input, &mut byte)?;
+        Ok(byte[0])
     }
 
     pub(crate) fn two(&mut self) -> io::Result<u16> {
