@@ -1,6 +1,6 @@
--- Nothing else meets the promise of `open` (Rule 13.1).
+-- Nothing else meets the promise of `open`, nor that of a refusal that is handed on (Rule 13.1).
 -- Assumes nothing.
-use mathlib.Core.Path.{◌≡◌, refl, sym, ◌∙◌}
+use mathlib.Core.Path.{◌≡◌, refl, sym, ap, ◌∙◌}
 use mathlib.Core.Bool.{cond}
 use Rattle.std.proofs.Common.{Result, Ok, Err}
 use lib.Dec.{eqb}
@@ -11,6 +11,7 @@ use Rattle.terms.specs.declared.OpenRefusal.{OpenRefusal}
 use Rattle.terms.specs.declared.OpenRefusal.TheVariants.{YearOut, LevelOut, BadHolidays, PriceOut, Malformed}
 use Rattle.terms.specs.Basis.{Basis}
 use Rattle.terms.specs.Opening.{said_of_open_refusal, said_of_opening, terms_beside, Opens}
+use Rattle.terms.proofs.Answered.{refuses}
 
 -- a refusal, back from what it says
 abbrev refusal_back : Said → OpenRefusal
@@ -27,7 +28,7 @@ refused_back BadHolidays = refl
 refused_back PriceOut = refl
 refused_back Malformed = refl
 
--- nor that of what refuses the sheet, handed on as what refuses the opening
+-- nothing else meets the promise of what refuses the sheet, handed on as what refuses the opening
 pub open_refusal_only : {x : Said} {r s : OpenRefusal} → said_of_open_refusal r ≡ x → said_of_open_refusal s ≡ x → r ≡ s
 open_refusal_only = back_again said_of_open_refusal refusal_back refused_back
 
@@ -37,11 +38,7 @@ opening_back a t = cond (eqb a.number 0) (Ok t) (Err (refusal_back a))
 
 back : (r : Result Terms OpenRefusal) → opening_back (said_of_opening r) (terms_beside r) ≡ r
 back (Ok t) = refl
-back (Err YearOut) = refl
-back (Err LevelOut) = refl
-back (Err BadHolidays) = refl
-back (Err PriceOut) = refl
-back (Err Malformed) = refl
+back (Err r) = rw (refuses r) (ap Err (refused_back r))
 
 pub opening_only : {k : Basis} {r s : Result Terms OpenRefusal} → Opens k r → Opens k s → r ≡ s
 opening_only {k} {r} {s} p q =
